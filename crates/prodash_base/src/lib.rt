@@ -1,0 +1,10 @@
+//! Keys, rows, texts, moments and refusals: what all other crates of prodash speak of.
+#![tactic(auto)]
+
+pub mod progress;
+mod refusal;
+pub mod text;
+pub mod time;
+
+pub use refusal::Refusal;
+pub use text::Text;

@@ -1,0 +1,163 @@
+ghost use Rattle.std.specs.Prelude.{◌≡◌, ℕ, ◌-◌, ◌<◌, ◌≤◌, ◌↔◌, [], length, IsTrue, slice_index, nat_eq};
+ghost use Rattle.std.specs.Ordering.{nat_cmp, as_partial_cmp};
+ghost use Rattle.std.specs.Cmp.Lexicographic.{pointwise, slice_cmp, nat_list_cmp_total, nat_list_eq_equiv, texts_ties, texts_po};
+ghost use Rattle.std.specs.Cmp.{partial_equiv_from_equiv};
+ghost use Rattle.std.specs.Cmp.Rules.{comparing};
+ghost use Rattle.std.proofs.Common.{rules};
+ghost use Rattle.prodash_base.specs.Path.{child, SharesFront};
+ghost use Rattle.prodash_base.specs.KeyHash.{key_alike};
+ghost use Rattle.std.specs.Hash as fed;
+
+use std::cmp::Ordering;
+use std::hash::{Hash, Hasher};
+use std::marker::Model;
+use std::ops::Index;
+
+/// How deep in the hierarchy an item stands, as the count of its key's numbers.
+pub type Level = u8;
+
+/// The place of an item in the tree: at most six numbers, from the root down. Contracts see it as
+/// the list of its numbers, its path.
+#[derive(Clone, Copy, Debug)]
+pub struct Key {
+    numbers: [u16; 6],
+    level: Level,
+}
+
+impl Model for Key {
+    ghost use Rattle.prodash_base.specs.Path.{Path};
+    ghost use Rattle.prodash_base.specs.Key.{path_of_key, IsKey, key_of_path, key_of_path-path_of_key};
+
+    ghost Value = { Path };
+
+    ghost view = { path_of_key };
+
+    ghost invariant = { IsKey };
+
+    ghost inverse = { key_of_path };
+
+    ghost inverse_ok = { key_of_path-path_of_key };
+}
+
+impl Default for Key {
+    ghost is_default = { λ key. key ≡ [] };
+
+    /// The key of the root, which has no number.
+    fn default() -> Key {
+        Key {
+            numbers: [0; 6],
+            level: 0,
+        }
+    }
+}
+
+impl Key {
+    /// The key of a child with this number. Past the sixth level it takes the place of a sibling.
+    pub fn add_child(self, n: u16) -> Key
+        ensures { result ≡ child self n }
+    {
+        let mut numbers = self.numbers;
+        if self.level < Key::max_level() {
+            numbers[usize::from(self.level)] = n;
+            Key {
+                numbers,
+                level: self.level + 1,
+            }
+        } else {
+            numbers[5] = n;
+            Key { numbers, level: 6 }
+        }
+    }
+
+    /// How many numbers the key has.
+    pub fn level(&self) -> Level
+        ensures value { result ≡ length self.now }
+        ensures bound { result ≤ 6 }
+    {
+        self.level
+    }
+
+    /// Whether both keys have at least `parent_level` numbers, and the first that many agree.
+    pub fn shares_parent_with(&self, other: &Key, parent_level: Level) -> bool
+        ensures { IsTrue result ↔ SharesFront parent_level self.now other.now }
+    {
+        let front = usize::from(parent_level);
+        let (own, others) = (self.numbers(), other.numbers());
+        front <= own.len() && front <= others.len() && own[..front] == others[..front]
+    }
+
+    /// How many numbers a key has at most.
+    pub const fn max_level() -> Level
+        ensures { result ≡ 6 }
+    {
+        6
+    }
+
+    /// The numbers, from the root down.
+    pub(crate) fn numbers(&self) -> &[u16]
+        ensures { result.now ≡ self.now }
+    {
+        &self.numbers[..usize::from(self.level)]
+    }
+}
+
+impl Index<Level> for Key {
+    type Output = u16;
+
+    ghost can_index = { λ key level. (0 < level) × (level ≤ length key) };
+
+    ghost index_gives = { λ key level n. n ≡ slice_index key (level - 1) };
+
+    /// The number at a level, from 1 to the key's own.
+    fn index(&self, level: Level) -> &u16 {
+        &self.numbers[usize::from(level) - 1]
+    }
+}
+
+impl Ord for Key {
+    ghost cmp = { slice_cmp nat_cmp };
+
+    ghost total = { nat_list_cmp_total };
+
+    ghost matches_partial_cmp = { Prim.search (comparing, rules) };
+
+    ghost matches_eq = { texts_ties };
+
+    fn cmp(&self, other: &Key) -> Ordering {
+        self.numbers().cmp(&other.numbers())
+    }
+}
+
+impl PartialOrd for Key {
+    ghost partial_cmp = { as_partial_cmp (slice_cmp nat_cmp) };
+
+    ghost laws = { texts_po };
+
+    fn partial_cmp(&self, other: &Key) -> Option<Ordering> {
+        Some(self.cmp(other))
+    }
+}
+
+impl PartialEq for Key {
+    ghost eq = { pointwise nat_eq };
+
+    ghost laws = { partial_equiv_from_equiv nat_list_eq_equiv };
+
+    fn eq(&self, other: &Key) -> bool {
+        self.numbers() == other.numbers()
+    }
+}
+
+impl Eq for Key {
+    ghost laws = { nat_list_eq_equiv };
+}
+
+impl Hash for Key {
+    ghost hash_input = { fed.slice fed.u16 };
+
+    ghost respects_eq = { key_alike };
+
+    fn hash<H: Hasher>(&self, state: &mut H) {
+        self.numbers().hash(state);
+    }
+}

@@ -1,0 +1,124 @@
+-- What a table of tasks shows, after a change at one key.
+use Rattle.std.proofs.Common.{◌≡◌, ℕ, Bool, true, false, cond, List, [], ◌∷◌, map, Option, Some, None, refl, sym, ap, subst, ◌∙◌, is_some, ◌&&◌}
+use Rattle.std.specs.Option.{option_map}
+use Rattle.std.specs.Ordering.{eq_by_cmp, is_eq, is_lt}
+use Rattle.std.specs.Cmp.{eq_by_cmp_equiv}
+use Rattle.std.proofs.lemmas.Cmp.{nat_list_cmp_total}
+use Rattle.std.specs.Prelude.{T}
+use Rattle.std.specs.List.{AllByRecursion}
+use Rattle.std.specs.List.Sorted.{IsStrictlySortedBy}
+use Rattle.std.specs.declared.cmp.Ordering.TheVariants.{Less}
+use Rattle.std.specs.FinMap.Entries.{below_all, is_sorted}
+use Rattle.std.specs.Map.{keys_of}
+use Rattle.std.specs.FinMap.{entries, from_sorted, entries-from_sorted, get-from_sorted, FinMap, find, get, insert, from_entries, get-from_entries, get-insert, same_map, slice_cmp-IsAntisymmetric, nat_cmp-IsAntisymmetric}
+use Rattle.std.specs.BTreeMap.{is_at}
+use Rattle.std.specs.Map.{lookup}
+use Rattle.prodash_base.specs.Path.{Path, path_cmp}
+use Rattle.prodash_base.specs.Rows.{Entry, Progress}
+use Rattle.prodash_core.specs.Tables.{Table, entry_of, pair_of, with_progress, counted_of, frozen}
+use Rattle.prodash_core.specs.declared.tree.table.Counted.{Counted}
+use Rattle.prodash_core.specs.declared.tree.table.Task.{Task}
+
+abbrev pub table_of : {C : Type 0} → List (Path × Task C) → Table C
+table_of es = from_entries (map pair_of es)
+
+-- the task at a path
+abbrev pub task_at : {C : Type 0} → List (Path × Task C) → Path → Option (Task C)
+task_at es q = lookup (is_at (path_cmp q)) es
+
+map_cond : {A B : Type 0} (f : A → B) (b : Bool) (x y : Option A) → option_map f (cond b x y) ≡ cond b (option_map f x) (option_map f y)
+map_cond f true x y = refl
+map_cond f false x y = refl
+
+find_pair : {C : Type 0} (es : List (Path × Task C)) (q : Path) → find path_cmp q (map pair_of es) ≡ option_map entry_of (task_at es q)
+find_pair [] q = refl
+find_pair (e ∷ es) q =
+    ap (cond (is_at (path_cmp q) e.0) (Some (entry_of e.1))) (find_pair es q) ∙ sym (map_cond entry_of (is_at (path_cmp q) e.0) (Some e.1) (task_at es q))
+
+pub get-table_of : {C : Type 0} (es : List (Path × Task C)) (q : Path) → get (table_of es) q ≡ option_map entry_of (task_at es q)
+get-table_of es q = get-from_entries nat_list_cmp_total (map pair_of es) q ∙ find_pair es q
+
+-- another task at one path
+pub table_of-update : {C : Type 0} (es fs : List (Path × Task C)) (k : Path) (w : Task C)
+    → ((q : Path) → task_at fs q ≡ cond (is_at (path_cmp k) q) (Some w) (task_at es q)) → table_of fs ≡ insert (table_of es) k (entry_of w)
+table_of-update es fs k w h = same_map nat_list_cmp_total (slice_cmp-IsAntisymmetric nat_cmp-IsAntisymmetric) _ _ (λ q.
+    get-table_of fs q ∙ ap (option_map entry_of) (h q) ∙ map_cond entry_of (is_at (path_cmp k) q) (Some w) (task_at es q)
+    ∙ ap (λ b. cond b (Some (entry_of w)) (option_map entry_of (task_at es q))) ((eq_by_cmp_equiv nat_list_cmp_total).symm k q)
+    ∙ sym (get-insert nat_list_cmp_total (table_of es) k (entry_of w) q ∙ ap (cond (eq_by_cmp path_cmp q k) (Some (entry_of w))) (get-table_of es q)))
+
+pub is_some-none : {C : Type 0} (es : List (Path × Task C)) (k : Path) → None ≡ task_at es k → is_some (get (table_of es) k) ≡ false
+is_some-none es k h = ap is_some (get-table_of es k ∙ ap (option_map entry_of) (sym h))
+
+pub is_some-some : {C : Type 0} (es : List (Path × Task C)) (k : Path) (t : Task C) → Some t ≡ task_at es k → is_some (get (table_of es) k) ≡ true
+is_some-some es k t h = ap is_some (get-table_of es k ∙ ap (option_map entry_of) (sym h))
+
+pub with_progress-none : {C : Type 0} (es : List (Path × Task C)) (k : Path) (p : Option (Progress C)) → None ≡ task_at es k
+    → table_of es ≡ with_progress (table_of es) k p (get (table_of es) k)
+with_progress-none es k p h = sym (ap (with_progress (table_of es) k p) (get-table_of es k ∙ ap (option_map entry_of) (sym h)))
+
+pub with_progress-some : {C : Type 0} (es fs : List (Path × Task C)) (k : Path) (p : Option (Counted C)) (t : Task C) → Some t ≡ task_at es k
+    → ((q : Path) → task_at fs q ≡ cond (is_at (path_cmp k) q) (Some (record { name = t.name; id = t.id; progress = p })) (task_at es q))
+    → table_of fs ≡ with_progress (table_of es) k (option_map counted_of p) (get (table_of es) k)
+with_progress-some es fs k p t h u =
+    table_of-update es fs k (record { name = t.name; id = t.id; progress = p }) u
+    ∙ sym (ap (with_progress (table_of es) k (option_map counted_of p)) (get-table_of es k ∙ ap (option_map entry_of) (sym h)))
+
+both : (a b : Bool) → T a → T b → T (a && b)
+both true b p q = q
+both false b p q = p
+
+below : {C : Type 0} (k : Path) (es : List (Path × Task C)) → AllByRecursion (λ q. path_cmp k q ≡ Less) (keys_of es) → T (below_all path_cmp k (map pair_of es))
+below k [] h = tt
+below k (e ∷ es) h = both (is_lt (path_cmp k e.0)) (below_all path_cmp k (map pair_of es)) (subst (λ o. T (is_lt o)) (sym h.0) tt) (below k es h.1)
+
+pub sorted_pairs : {C : Type 0} (es : List (Path × Task C)) → IsStrictlySortedBy path_cmp (keys_of es) → T (is_sorted path_cmp (map pair_of es))
+unfolding IsStrictlySortedBy
+sorted_pairs [] h = tt
+sorted_pairs (e ∷ es) h = both (below_all path_cmp e.0 (map pair_of es)) (is_sorted path_cmp (map pair_of es)) (below e.0 es h.0) (sorted_pairs es h.1)
+
+-- the entries of the table are the pairs, where these are sorted
+pub entries-table_of : {C : Type 0} (es : List (Path × Task C)) → IsStrictlySortedBy path_cmp (keys_of es) → entries (table_of es) ≡ map pair_of es
+entries-table_of es h =
+    let s = sorted_pairs es h in
+    let same : table_of es ≡ from_sorted (map pair_of es) = same_map nat_list_cmp_total (slice_cmp-IsAntisymmetric nat_cmp-IsAntisymmetric) _ _ (λ q.
+    get-from_entries nat_list_cmp_total (map pair_of es) q ∙ sym (get-from_sorted path_cmp (map pair_of es) q s)) in
+    ap entries same ∙ entries-from_sorted path_cmp (map pair_of es) s
+
+-- a list of pairs that is sorted and has the table's tasks is the table's rows
+abbrev pub tasks_frozen : {C : Type 0} → (C → ℕ) → List (Path × Task C) → List (Path × Entry ℕ)
+tasks_frozen number es = map (frozen number) (map pair_of es)
+
+abbrev pub frozen_entry : {C : Type 0} → (C → ℕ) → Entry C → Entry ℕ
+frozen_entry number e = (frozen number ([], e)).1
+
+pub find_frozen : {C : Type 0} (number : C → ℕ) (es : List (Path × Entry C)) (q : Path) → find path_cmp q (map (frozen number) es) ≡ option_map (frozen_entry number) (find path_cmp q es)
+find_frozen number [] q = refl
+find_frozen number (e ∷ es) q =
+    ap (cond (is_at (path_cmp q) e.0) (Some (frozen_entry number e.1))) (find_frozen number es q)
+    ∙ sym (map_cond (frozen_entry number) (is_at (path_cmp q) e.0) (Some e.1) (find path_cmp q es))
+
+below_frozen : {C : Type 0} (number : C → ℕ) (k : Path) (es : List (Path × Entry C)) → below_all path_cmp k (map (frozen number) es) ≡ below_all path_cmp k es
+below_frozen number k [] = refl
+below_frozen number k (e ∷ es) = ap (λ b. is_lt (path_cmp k e.0) && b) (below_frozen number k es)
+
+pub sorted_frozen : {C : Type 0} (number : C → ℕ) (es : List (Path × Entry C)) → is_sorted path_cmp (map (frozen number) es) ≡ is_sorted path_cmp es
+sorted_frozen number [] = refl
+sorted_frozen number (e ∷ es) =
+    ap (λ b. b && is_sorted path_cmp (map (frozen number) es)) (below_frozen number e.0 es) ∙ ap (λ b. below_all path_cmp e.0 es && b) (sorted_frozen number es)
+
+keep_below : {X : Type 0} (k : Path) (es : List (Path × X)) → AllByRecursion (λ q. path_cmp k q ≡ Less) (keys_of es) → T (below_all path_cmp k es)
+keep_below k [] h = tt
+keep_below k (e ∷ es) h = both (is_lt (path_cmp k e.0)) (below_all path_cmp k es) (subst (λ o. T (is_lt o)) (sym h.0) tt) (keep_below k es h.1)
+
+pub sorted_list : {X : Type 0} (es : List (Path × X)) → IsStrictlySortedBy path_cmp (keys_of es) → T (is_sorted path_cmp es)
+unfolding IsStrictlySortedBy
+sorted_list [] h = tt
+sorted_list (e ∷ es) h = both (below_all path_cmp e.0 es) (is_sorted path_cmp es) (keep_below e.0 es h.0) (sorted_list es h.1)
+
+-- two sorted lists with the same look-ups are one
+pub same_sorted : {X : Type 0} (es fs : List (Path × X)) → T (is_sorted path_cmp es) → T (is_sorted path_cmp fs)
+    → ((q : Path) → find path_cmp q es ≡ find path_cmp q fs) → es ≡ fs
+same_sorted es fs s t h =
+    let same : from_sorted {R = path_cmp} es ≡ from_sorted fs = same_map nat_list_cmp_total (slice_cmp-IsAntisymmetric nat_cmp-IsAntisymmetric) _ _ (λ q.
+    get-from_sorted path_cmp es q s ∙ h q ∙ sym (get-from_sorted path_cmp fs q t)) in
+    sym (entries-from_sorted path_cmp es s) ∙ ap entries same ∙ entries-from_sorted path_cmp fs t

@@ -1,0 +1,14 @@
+use Rattle.std.proofs.Common.{◌+◌, ◌≤◌, length, vec_len, vec_capacity}
+use Rattle.prodash_core.specs.Sessions.{opening}
+use Rattle.prodash_core.proofs.RunSteps.{Completes}
+use Rattle.prodash_core.proofs.tree.session.run.Given as goal
+
+abbrev pub invariant-loop-event : goal.invariant-loop-event
+invariant-loop-event g l = record {
+  completes : Completes (opening l.options.draw) (record { bytes = g.S.Screen.taken l.fn.screen; broken = g.S.Screen.broken l.fn.screen }) l.fn.events
+      l.replies.items l.session (record { bytes = g.S.Screen.taken l.screen; broken = g.S.Screen.broken l.screen }) l.left;
+  room : vec_len l.replies + length l.left ≤ vec_capacity l.replies;
+}
+
+abbrev pub decreases-loop-event : goal.decreases-loop-event
+decreases-loop-event g l = length l.left

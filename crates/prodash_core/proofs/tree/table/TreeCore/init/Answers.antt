@@ -1,0 +1,27 @@
+use Rattle.std.proofs.Common.{rules, ◌≡◌, ◌∙◌, ap, sym, subst, Some, IsSome}
+use Rattle.std.specs.Option.{option_map}
+use Rattle.prodash_core.specs.Tables.{counted_of}
+use Rattle.prodash_core.proofs.TableChanges.{table_of, is_some-none, is_some-some, with_progress-none, with_progress-some}
+use Rattle.prodash_core.proofs.Sorting.{lookup_by_eq, update_by_eq}
+use Rattle.prodash_core.proofs.tree.table.TreeCore.init.Goals as goal
+use Rattle.prodash_core.proofs.tree.table.TreeCore.init.Goals.{in-None, in-Some}
+
+pub returns-clause-found : goal.returns-clause-found
+returns-clause-found g c =
+    let es = c.self.inside.tasks.entries in
+    rw (← c.self.view_is) (elim c.match-get_mut.branch [
+      | in-None w ↦ w.result-is ∙ sym (is_some-none es c.args.key (w.in-None.ensures.value ∙ lookup_by_eq es c.args.key))
+      | in-Some w ↦ w.result-is ∙ sym (is_some-some es c.args.key w.in-Some.task.now (w.in-Some.ensures.value ∙ lookup_by_eq es c.args.key))
+    ])
+
+pub returns-clause-after : goal.returns-clause-after
+returns-clause-after g c =
+    let es = c.self.inside.tasks.entries in
+    rw (← c.self.view_is) (elim c.match-get_mut.branch [
+      | in-None w ↦ ap (λ t. table_of t.tasks.entries) w.self-inside-is ∙ ap (λ t. table_of t.entries) c.get_mut.follows.holds-at-none
+          ∙ with_progress-none es c.args.key (option_map counted_of c.args.progress) (w.in-None.ensures.value ∙ lookup_by_eq es c.args.key)
+      | in-Some w ↦ ap (λ t. table_of t.tasks.entries) w.self-inside-is
+          ∙ with_progress-some es _ c.args.key c.args.progress w.in-Some.task.now (w.in-Some.ensures.value ∙ lookup_by_eq es c.args.key)
+          (update_by_eq es _ c.args.key (record { name = w.in-Some.task.now.name; id = w.in-Some.task.now.id; progress = c.args.progress })
+          ((c.get_mut.follows.holds (record { name = w.in-Some.task.now.name; id = w.in-Some.task.now.id; progress = c.args.progress })).3 (search (rules, w.in-Some.ensures.value))).0)
+    ])

@@ -1,0 +1,24 @@
+-- Codes, by which values are told apart where they stand in a model.
+use Rattle.std.specs.Prelude.{ℕ, Bool, List, refl}
+use Rattle.std.specs.FinMap as finite
+use Rattle.std.specs.Coded.{Coded, code_by, coded×, coded_ℕ, coded_bool, coded_list}
+use Rattle.prodash_base.specs.Path.{Path}
+use Rattle.prodash_base.specs.Coding.{coded_path, coded_entry}
+use Rattle.prodash_line.specs.Renderer.{Renderer}
+use Rattle.prodash_line.specs.Coding.{coded_renderer}
+use Rattle.prodash_core.specs.Tables.{Table}
+use Rattle.prodash_core.specs.Sessions.{SessionState}
+use Rattle.prodash_core.specs.Trees.{Handle, Tree}
+
+abbrev pub coded_handle : Coded Handle
+coded_handle =
+    code_by (Path × (ℕ × (ℕ × Bool))) (coded× coded_path (coded× coded_ℕ (coded× coded_ℕ coded_bool))) (λ h. (h.path, (h.counter, (h.children, h.lives))))
+    (λ q. record { path = q.0; counter = q.1.0; children = q.1.1.0; lives = q.1.1.1 }) (λ _. refl)
+
+abbrev pub coded_tree : Coded Tree
+coded_tree =
+    code_by (Table ℕ × List Handle) (coded× (finite.code coded_path (coded_entry coded_ℕ)) (coded_list coded_handle)) (λ t. (t.table, t.handles))
+    (λ q. record { table = q.0; handles = q.1 }) (λ _. refl)
+
+abbrev pub coded_session : Coded SessionState
+coded_session = code_by (Tree × Renderer) (coded× coded_tree coded_renderer) (λ w. (w.tree, w.renderer)) (λ q. record { tree = q.0; renderer = q.1 }) (λ _. refl)

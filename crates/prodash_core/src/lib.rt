@@ -1,0 +1,6 @@
+//! The sequential core: the tree of tasks, sessions of events on it, and whole runs.
+#![tactic(auto)]
+
+#[cfg(test)]
+mod tests;
+pub mod tree;

@@ -1,0 +1,69 @@
+ghost use Rattle.std.specs.Prelude.{◌≡◌};
+
+use prodash_base::progress::{Id, Rows, Step};
+use prodash_base::time::Moment;
+use prodash_base::{Refusal, Text};
+
+/// What a session is asked. Handles are numbered in the order in which they were made; 0 is the
+/// root, which takes `AddChild` alone.
+#[derive(Debug, PartialEq, Eq, Drop)]
+pub enum Event {
+    /// Adds an item below the root or an item.
+    AddChild {
+        /// The handle to add it below.
+        parent: u64,
+        /// Its name.
+        name: Text,
+        /// Its identifier.
+        id: Id,
+    },
+    /// Begins the progress of an item, at step 0.
+    Init {
+        /// The item's handle.
+        item: u64,
+        /// Where it will be done. Without that it has no progress.
+        max: Option<Step>,
+    },
+    /// Sets the counter of an item.
+    Set {
+        /// The item's handle.
+        item: u64,
+        /// How far it has come.
+        step: Step,
+    },
+    /// Asks for the rows.
+    Snapshot,
+    /// A frame: the rows are seen, and shown if something has changed.
+    Tick {
+        /// When it is.
+        at: Moment,
+        /// Whether the rows are shown, or held back.
+        show: bool,
+    },
+}
+
+/// What a session answers.
+#[derive(Debug, PartialEq, Eq, Drop)]
+pub enum Reply {
+    /// The handle that was made.
+    Made(u64),
+    /// It is done.
+    Done,
+    /// The rows, ascending by key.
+    Rows(Rows),
+    /// The frame was written, if it had to be.
+    Drawn,
+    /// Nothing was done.
+    Refused(Refusal),
+}
+
+impl Event {
+    ghost use Rattle.prodash_core.specs.Trees.{is_frame};
+
+    /// Whether it is a frame.
+    pub fn is_frame(&self) -> bool
+        ensures { result ≡ is_frame self.now }
+    {
+        matches!(self, Event::Tick { .. })
+    }
+}

@@ -1,0 +1,152 @@
+ghost use Rattle.std.specs.Prelude.{◌≡◌, IfOk, IfErr, false};
+ghost use Rattle.std.specs.Option.{option_map};
+ghost use Rattle.prodash_core.specs.Slots.{handle_of};
+ghost use Rattle.prodash_core.specs.Trees.{Tree, opening_tree, item as item_of, tree_rows, is_frame, Plays};
+
+use crate::tree::event::{Event, Reply};
+use crate::tree::slots::{Slot, Slots};
+use crate::tree::table::{Counted, TreeCore};
+use prodash_base::Refusal;
+use prodash_base::progress::{Id, Rows, State, Step};
+use std::alloc::Global;
+use std::marker::Model;
+
+/// The table of tasks and the handles of a session. Contracts see the tree.
+#[derive(Drop)]
+pub struct TreeState {
+    table: TreeCore<u64>,
+    slots: Slots,
+}
+
+impl Model for TreeState {
+    ghost use Rattle.prodash_core.specs.Trees.{Tree};
+    ghost use Rattle.prodash_core.specs.Coding.{coded_tree};
+
+    ghost Value = { Tree };
+
+    ghost coded = { coded_tree };
+
+    ghost view = { λ s. record { table = s.table; handles = s.slots } };
+}
+
+impl TreeState {
+    /// A tree with nothing but its root.
+    pub fn new(alloc: Global) -> Result<TreeState, Refusal>
+        ensures ok { IfOk result (λ t. t ≡ opening_tree) }
+        ensures err { IfErr result (λ e. e ≡ Refusal.Memory) }
+    {
+        Ok(TreeState {
+            table: TreeCore::new(alloc),
+            slots: Slots::new(alloc)?,
+        })
+    }
+
+    /// One event that is no frame: its reply, or a refusal that leaves the tree as it was.
+    pub fn apply(&mut self, alloc: Global, event: &Event) -> Result<Reply, Refusal>
+        requires { is_frame event.now ≡ false }
+        ensures { Plays self.old event.now result self.new }
+    {
+        match event {
+            Event::AddChild { parent, name, id } => {
+                self.add_child(alloc, *parent, name.as_str(), *id)
+            }
+            Event::Init { item, max } => self.init(*item, *max),
+            Event::Set { item, step } => self.set(*item, *step),
+            Event::Snapshot => self.snapshot(alloc),
+            Event::Tick { .. } => unreachable!(),
+        }
+    }
+
+    /// The rows, ascending by key.
+    pub fn rows(&self, alloc: Global) -> Result<Rows, Refusal>
+        ensures ok { IfOk result (λ rows. rows ≡ tree_rows self.now) }
+        ensures err { IfErr result (λ e. e ≡ Refusal.Memory) }
+    {
+        self.table.rows(alloc, &self.slots)
+    }
+
+    /// The slot of an item that lives.
+    fn item(&self, item: u64) -> Option<Slot>
+        ensures { option_map handle_of result ≡ item_of self.now item }
+    {
+        if item == 0 {
+            None
+        } else {
+            self.slots.living(item)
+        }
+    }
+
+    fn add_child(
+        &mut self,
+        alloc: Global,
+        parent: u64,
+        name: &str,
+        id: Id,
+    ) -> Result<Reply, Refusal>
+        ensures { Plays self.old (Event.AddChild parent name.now id) result self.new }
+    {
+        let Some(slot) = self.slots.living(parent) else {
+            return Err(Refusal::Gone);
+        };
+        let key = slot.key.add_child(slot.children);
+        let made = self.slots.len();
+        self.slots.push(Slot::new(key))?;
+        match self.table.insert(alloc, key, name, id) {
+            Err(refusal) => {
+                self.slots.pop();
+                Err(refusal)
+            }
+            Ok(()) => {
+                let children = slot.children.wrapping_add(1);
+                self.slots.put(parent, Slot { children, ..slot });
+                Ok(Reply::Made(made))
+            }
+        }
+    }
+
+    fn init(&mut self, item: u64, max: Option<Step>) -> Result<Reply, Refusal>
+        ensures { Plays self.old (Event.Init item max) result self.new }
+    {
+        let Some(slot) = self.item(item) else {
+            return Err(Refusal::Gone);
+        };
+        let progress = match max {
+            None => None,
+            Some(max) => Some(Counted {
+                counter: item,
+                done_at: Some(max),
+                state: State::Running,
+            }),
+        };
+        if self.table.init(slot.key, progress) {
+            self.slots.put(item, Slot { counter: 0, ..slot });
+        }
+        Ok(Reply::Done)
+    }
+
+    fn set(&mut self, item: u64, step: Step) -> Result<Reply, Refusal>
+        ensures { Plays self.old (Event.Set item step) result self.new }
+    {
+        let Some(slot) = self.item(item) else {
+            return Err(Refusal::Gone);
+        };
+        self.slots.put(
+            item,
+            Slot {
+                counter: step,
+                ..slot
+            },
+        );
+        Ok(Reply::Done)
+    }
+
+    fn snapshot(&mut self, alloc: Global) -> Result<Reply, Refusal>
+        ensures { Plays self.old Event.Snapshot result self.new }
+    {
+        if self.slots.living(0).is_none() {
+            return Err(Refusal::Gone);
+        }
+        let rows = self.rows(alloc)?;
+        Ok(Reply::Rows(rows))
+    }
+}

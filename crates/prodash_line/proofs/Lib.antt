@@ -1,0 +1,17 @@
+pub mod ScreenTaken
+pub mod Written
+pub mod Columns
+pub mod RowLines
+pub mod Joining
+pub mod Chars
+pub mod Covers
+pub mod CursorRow
+pub mod Decimals
+pub mod FramesOnPage
+pub mod Lists
+pub mod OneSpelling
+pub mod PageTheorem
+pub mod ProperFrames
+pub mod RowParts
+pub mod Sequences
+pub mod SignFronts

@@ -1,0 +1,61 @@
+-- The signs of frames that fit are proper, so their bytes are read as them.
+use Rattle.std.proofs.Common.{ℕ, zero, suc, ◌-◌, List, [], ◌∷◌, length, map, drop, refl, arith}
+use Rattle.std.specs.Prelude.{max, replicate}
+use Rattle.std.specs.List.{AllByRecursion}
+use Rattle.prodash_line.specs.declared.render.line.page.sign.Sign.TheVariants.{Char, LineFeed}
+use Rattle.prodash_line.specs.Signs.{IsProper}
+use Rattle.prodash_line.specs.Lines.{Line, spaces, columns_of}
+use Rattle.prodash_line.specs.Frames.{piece_signs, line_signs, part, cover, first, up, redraw, widths_of, Body, Frame, body_signs, frame_signs, frame_leaves, signs_of}
+use Rattle.prodash_line.specs.Reading.{AreProper}
+use Rattle.prodash_line.specs.Fits.{IsPlainChar, IsPlainPiece, LineFits, LinesFit, BodyFits, FrameFits}
+use Rattle.prodash_line.proofs.Lists.{AllByRecursion-append, AllByRecursion-replicate, AllByRecursion-map}
+use Rattle.prodash_line.proofs.FramesOnPage.{LineFits-empty}
+
+-- of proper characters
+pub chars_proper : (text : List ℕ) → AllByRecursion (λ c. IsProper (Char c)) text → AreProper (map Char text)
+chars_proper [] h = tt
+chars_proper (c ∷ cs) h = (h.0, chars_proper cs h.1)
+
+-- of plain pieces
+pub line_proper : (line : Line) → AllByRecursion IsPlainPiece line → AreProper (line_signs line)
+line_proper [] h = tt
+line_proper (p ∷ ps) h = AllByRecursion-append IsProper (piece_signs p) (line_signs ps) (chars_proper p.text (AllByRecursion-map IsPlainChar (λ c. IsProper (Char c)) p.text (λ c plain. plain.proper) h.0.each)) (line_proper ps h.1)
+
+-- of spaces
+pub spaces_proper : (n : ℕ) → AreProper (piece_signs (spaces n))
+spaces_proper n = chars_proper (replicate n 32) (AllByRecursion-replicate (λ c. IsProper (Char c)) n 32 (refl, refl))
+
+-- of a line over the columns that stood in its row
+pub part_proper : (columns stood : ℕ) (line : Line) → LineFits columns line → AreProper (part stood line)
+part_proper columns stood line h = AllByRecursion-append IsProper (line_signs line) _ (line_proper line h.plain.pieces)
+    (AllByRecursion-append IsProper (piece_signs (spaces (stood - columns_of line))) (LineFeed ∷ []) (spaces_proper (stood - columns_of line)) (tt, tt))
+
+-- of lines
+pub cover_proper : (columns : ℕ) (widths : List ℕ) (lines : List Line) → LinesFit columns lines → AreProper (cover widths lines)
+cover_proper columns widths [] h = tt
+cover_proper columns widths (l ∷ ls) h = AllByRecursion-append IsProper (part (first widths) l) (cover (drop 1 widths) ls) (part_proper columns (first widths) l h.0) (cover_proper columns (drop 1 widths) ls h.1)
+
+-- of up
+pub up_proper : (n : ℕ) → AreProper (up n)
+up_proper zero = tt
+up_proper (suc n) = ((omega arith, omega arith), tt)
+
+-- of lines drawn anew
+pub redraw_proper : (columns : ℕ) (widths : List ℕ) (lines : List Line) → LinesFit columns lines → AreProper (redraw widths lines)
+redraw_proper columns widths lines h = AllByRecursion-append IsProper _ _
+    (cover_proper columns widths _ (AllByRecursion-append (LineFits columns) lines _ h (AllByRecursion-replicate (LineFits columns) (length widths - length lines) [] (LineFits-empty columns))))
+    (up_proper (max (length lines) (length widths)))
+
+-- of what a frame does after its messages
+pub body_proper : (columns height : ℕ) (widths : List ℕ) (b : Body) → BodyFits columns height b → AreProper (body_signs widths b)
+body_proper columns height widths Body.Quiet h = tt
+body_proper columns height widths (Body.Draws lines) h = redraw_proper columns widths lines h.0
+
+-- of a frame
+pub frame_proper : (columns height : ℕ) (widths : List ℕ) (f : Frame) → FrameFits columns height f → AreProper (frame_signs widths f)
+frame_proper columns height widths f h = AllByRecursion-append IsProper (cover widths f.messages) _ (cover_proper columns widths f.messages h.messages) (body_proper columns height (drop (length f.messages) widths) f.body h.body)
+
+-- of a list of frames
+pub frames_proper : (columns height : ℕ) (standing : List Line) (fs : List Frame) → AllByRecursion (FrameFits columns height) fs → AreProper (signs_of standing fs)
+frames_proper columns height standing [] h = tt
+frames_proper columns height standing (f ∷ fs) h = AllByRecursion-append IsProper (frame_signs (widths_of standing) f) _ (frame_proper columns height (widths_of standing) f h.0) (frames_proper columns height (frame_leaves standing f) fs h.1)

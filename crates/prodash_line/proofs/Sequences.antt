@@ -1,0 +1,33 @@
+-- Control sequences: what their parameters and final bytes say.
+use Rattle.std.proofs.Common.{◌≡◌, ℕ, ◌^◌, ◌<◌, Bool, true, false, eqb, List, [], ◌∷◌, get_or, drop, sym, ap, ◌∙◌, arith}
+use Rattle.std.specs.Char.{encode_utf8, is_control}
+use Rattle.std.specs.Fmt.{decimal}
+use lib.Pointwise.{pointwise}
+use Rattle.std.proofs.lemmas.Bool.{both_ways}
+use Rattle.std.proofs.lemmas.List.{same_from_push, append-nil}
+use Rattle.std.proofs.lemmas.Str.{char_from_byte}
+use Rattle.prodash_line.specs.declared.render.line.page.sign.Sign.TheVariants.{Char, LineFeed, Up, EraseLine}
+use Rattle.prodash_line.specs.Signs.{sequence}
+use Rattle.prodash_line.specs.Reading.{MakesNone}
+
+-- a sequence has one list of parameters and one final byte
+same_sequence : (p q : List ℕ) (a b : ℕ) → sequence p a ≡ sequence q b → (p ≡ q) × (a ≡ b)
+same_sequence p q a b e = same_from_push p q a b (ap (λ (t : List ℕ). drop 2 t) e)
+
+-- what a failed comparison says
+pub differs : (b : Bool) (parameters other text : List ℕ) → b ≡ false → b ≡ pointwise eqb parameters other → other ≡ text → pointwise eqb text text ≡ true → parameters ≡ text → ⊥
+differs b parameters other text failed e is same f = both_ways b failed (e ∙ ap (λ (t : List ℕ). pointwise eqb t other) f ∙ ap (pointwise eqb text) is ∙ same)
+
+-- no kind of sequence has these parameters and this final byte
+pub record Refuses (parameters : List ℕ) (final_byte : ℕ) : Type 0 where
+  pub up : final_byte ≡ 65 → (n : ℕ) → 0 < n → n < 2 ^ 16 → decimal n ≡ parameters → ⊥
+  pub erase : final_byte ≡ 75 → parameters ≡ 50 ∷ [] → ⊥
+
+-- where no kind has them, no proper sign's sequence does
+pub makes_none : (parameters : List ℕ) (final_byte : ℕ) → Refuses parameters final_byte → MakesNone parameters final_byte
+makes_none parameters final_byte h (Char c) p e =
+    let same : c ≡ 27 = char_from_byte (sequence parameters final_byte) [] c (sym e ∙ sym (append-nil (encode_utf8 c))) (omega arith) (omega arith) in
+    both_ways (is_control c) p.1 (ap is_control same)
+makes_none parameters final_byte h LineFeed p e = omega (arith, ap (λ (t : List ℕ). get_or t 0 0) e)
+makes_none parameters final_byte h (Up n) p e = let s = same_sequence (decimal n) parameters 65 final_byte e in h.up (sym s.1) n p.0 p.1 s.0
+makes_none parameters final_byte h EraseLine p e = let s = same_sequence (50 ∷ []) parameters 75 final_byte e in h.erase (sym s.1) (sym s.0)

@@ -1,0 +1,15 @@
+use Rattle.std.proofs.Common.{[], ◌∷◌, refl, arith}
+use Rattle.prodash_line.proofs.Sequences.{makes_none, differs}
+use Rattle.prodash_line.proofs.render.line.page.reading.sign_of.Goals as goal
+
+pub returns-in-None : goal.returns-in-None
+returns-in-None c = makes_none c.args.parameters.now c.args.final_byte (record { up = λ e. c.in-None.ensures; erase = λ e. absurd (omega arith) })
+
+pub returns-in_default : goal.returns-in_default
+returns-in_default c = makes_none c.args.parameters.now c.args.final_byte (record {
+  up = λ e. absurd (omega arith);
+  erase = λ e. differs c.eq-is_two.result c.args.parameters.now c.as_slice.result.now (50 ∷ []) c.if-is_two.false c.eq-is_two.ensures c.as_slice.ensures refl;
+})
+
+pub returns-in_default-2 : goal.returns-in_default-2
+returns-in_default-2 c = makes_none c.args.parameters.now c.args.final_byte (record { up = λ e. absurd (omega arith); erase = λ e. absurd (omega arith) })

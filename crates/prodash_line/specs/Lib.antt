@@ -1,0 +1,14 @@
+pub mod Signs
+pub mod Lines
+pub mod Frames
+pub mod ProgressRows
+pub mod Screens
+pub mod Renderer
+pub mod Joined
+pub mod Coding
+pub mod Page
+pub mod Cells
+pub mod PageInside
+pub mod Reading
+pub mod Shows
+pub mod Fits

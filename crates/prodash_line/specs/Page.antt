@@ -1,0 +1,55 @@
+-- A page: all rows ever, of which the last are the window, and a cursor.
+use Rattle.std.specs.Prelude.{Bool, false, ◌&&◌, nat_le, ℕ, ◌+◌, ◌-◌, max, List, [], ◌∷◌, ◌++◌, length, replicate, slice_index_or, slice_set, nat_lt, if◌then◌else◌}
+use Rattle.prodash_line.specs.declared.render.line.page.sign.Sign.{Sign}
+use Rattle.prodash_line.specs.declared.render.line.page.sign.Sign.TheVariants.{Char, LineFeed, Up, EraseLine}
+
+-- a page by its columns, the height of its window, its rows from the first ever, and the cursor's row and column
+pub record Canvas : Type 0 where
+  pub columns : ℕ
+  pub height : ℕ
+  pub rows : List (List ℕ)
+  pub row : ℕ
+  pub column : ℕ
+
+-- a row of spaces
+abbrev pub blank : ℕ → List ℕ
+blank columns = replicate columns 32
+
+-- a page of blank rows, with the cursor at its beginning
+abbrev pub blank_page : ℕ → ℕ → Canvas
+blank_page columns height = record { columns = columns; height = height; rows = replicate height (blank columns); row = 0; column = 0 }
+
+-- the rows with a blank one below the last, where this row would lie past it
+abbrev pub with_row : ℕ → ℕ → List (List ℕ) → List (List ℕ)
+with_row columns row rows = if nat_lt row (length rows) then rows else rows ++ blank columns ∷ []
+
+-- the cursor at the beginning of the next row
+abbrev pub next_row : Canvas → Canvas
+next_row p = record p { rows = with_row p.columns (p.row + 1) p.rows; row = p.row + 1; column = 0 }
+
+-- the rows with this character in a cell
+abbrev pub with_char : ℕ → ℕ → ℕ → List (List ℕ) → List (List ℕ)
+with_char row column c rows = slice_set rows row (slice_set (slice_index_or rows row []) column c)
+
+-- a character in the cursor's cell, and the cursor right of it
+abbrev pub put : ℕ → Canvas → Canvas
+put c p = record p { rows = with_char p.row p.column c p.rows; column = p.column + 1 }
+
+-- the page after one sign: a character past the last column goes onto the next row, and up stops at the window's top
+abbrev pub after_sign : Sign → Canvas → Canvas
+after_sign (Char c) p = if nat_lt p.column p.columns then put c p else put c (next_row p)
+after_sign LineFeed p = next_row p
+after_sign (Up n) p = record p { row = max (length p.rows - p.height) (p.row - n) }
+after_sign EraseLine p = record p { rows = slice_set p.rows p.row (blank p.columns) }
+
+-- does the sign lead onto a row below the last, which has to be added?
+abbrev pub adds_row : Sign → Canvas → Bool
+adds_row (Char c) p = nat_le p.columns p.column && nat_le (length p.rows) (p.row + 1)
+adds_row LineFeed p = nat_le (length p.rows) (p.row + 1)
+adds_row (Up n) p = false
+adds_row EraseLine p = false
+
+-- the page after the signs, in order
+abbrev pub page_after : List Sign → Canvas → Canvas
+page_after [] p = p
+page_after (s ∷ ss) p = page_after ss (after_sign s p)

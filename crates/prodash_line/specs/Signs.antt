@@ -1,0 +1,29 @@
+-- Signs, and the bytes that spell them: characters in UTF-8, control functions as in ECMA-48.
+use Rattle.std.specs.Prelude.{◌≡◌, ℕ, ◌<◌, ◌^◌, false, ⊤, List, [], ◌∷◌, ◌++◌}
+use Rattle.std.specs.List.{flat_map}
+use Rattle.std.specs.Char.{encode_utf8, IsScalar, is_control}
+use Rattle.std.specs.Fmt.{decimal}
+use Rattle.prodash_line.specs.declared.render.line.page.sign.Sign.{Sign}
+use Rattle.prodash_line.specs.declared.render.line.page.sign.Sign.TheVariants.{Char, LineFeed, Up, EraseLine}
+
+-- a control sequence: ESC, an opening bracket, what is asked for, and a final letter
+abbrev pub sequence : List ℕ → ℕ → List ℕ
+sequence asked letter = 27 ∷ 91 ∷ asked ++ letter ∷ []
+
+-- the bytes of a sign
+abbrev pub spelling_of : Sign → List ℕ
+spelling_of (Char c) = encode_utf8 c
+spelling_of LineFeed = 10 ∷ []
+spelling_of (Up n) = sequence (decimal n) 65
+spelling_of EraseLine = sequence (50 ∷ []) 75
+
+-- the bytes of a list of signs
+abbrev pub spelling : List Sign → List ℕ
+spelling signs = flat_map spelling_of signs
+
+-- a character that isn't a control character, a number from 1 to 65535
+abbrev pub IsProper : Sign → Type 0
+IsProper (Char c) = IsScalar c × (is_control c ≡ false)
+IsProper LineFeed = ⊤
+IsProper (Up n) = (0 < n) × (n < 2 ^ 16)
+IsProper EraseLine = ⊤

@@ -1,0 +1,4 @@
+//! The line renderer: rows and messages drawn onto a screen of bytes.
+#![tactic(auto)]
+
+pub mod render;

@@ -1,0 +1,170 @@
+//! The page: signs, the bytes that spell them, and the rows that they write.
+ghost use Rattle.std.specs.Prelude.{◌≡◌, ◌+◌, ◌-◌, ◌<◌, ◌≤◌, [], length, slice_index_or, slice_set, IfOk, IfErr, OnOk, OnErr, MatchOption, IsTrue};
+ghost use Rattle.prodash_base.specs.declared.refusal.Refusal.TheVariants.{Memory};
+ghost use Rattle.prodash_line.specs.Cells.{cells};
+ghost use Rattle.prodash_line.specs.Page.{blank, blank_page, with_row, with_char, after_sign, adds_row};
+
+mod reading;
+mod sign;
+#[cfg(test)]
+mod tests;
+mod writing;
+
+use prodash_base::Refusal;
+pub use reading::{Fault, one_spelling, read};
+pub use sign::Sign;
+use std::alloc::{AllocError, Global};
+use std::marker::Model;
+pub use writing::spell;
+
+/// All rows ever, of which the last are the window, and a cursor.
+#[derive(Drop)]
+pub struct Page {
+    columns: u16,
+    height: u16,
+    rows: Vec<Vec<char>>,
+    row: usize,
+    column: u16,
+}
+
+impl Model for Page {
+    ghost use Rattle.prodash_line.specs.Page.{Canvas};
+
+    ghost Value = { Canvas };
+
+    ghost use Rattle.prodash_line.specs.PageInside.{canvas, IsPage};
+
+    ghost view = { canvas };
+
+    ghost invariant = { IsPage };
+}
+
+fn blank_row(alloc: Global, columns: u16) -> Result<Vec<char>, AllocError>
+    ensures { IfOk result (λ row. row.items ≡ blank columns) }
+{
+    Ok(vec![in alloc; ' '; columns as usize]?)
+}
+
+/// Adds a blank row where there is none.
+fn add_row(
+    alloc: Global,
+    rows: &mut Vec<Vec<char>>,
+    columns: u16,
+    row: usize,
+) -> Result<(), AllocError>
+    ensures ok { OnOk result (cells rows.new.items ≡ with_row columns row (cells rows.old.items)) }
+    ensures err { OnErr result (rows.new.items ≡ rows.old.items) }
+    ensures needed { OnErr result (length rows.old.items ≤ row) }
+{
+    if row < rows.len() {
+        return Ok(());
+    }
+    let blank = blank_row(alloc, columns)?;
+    rows.push(blank)?;
+    Ok(())
+}
+
+/// Writes a character into a cell.
+fn write_cell(rows: &mut Vec<Vec<char>>, row: usize, column: usize, c: char)
+    requires row { row < length rows.old.items }
+    requires column { column < length (slice_index_or (cells rows.old.items) row []) }
+    ensures { cells rows.new.items ≡ with_char row column c (cells rows.old.items) }
+{
+    let cells = &mut rows[row];
+    cells[column] = c;
+}
+
+/// Blanks a row.
+fn erase_row(rows: &mut Vec<Vec<char>>, columns: u16, row: usize)
+    requires row { row < length rows.old.items }
+    requires width { length (slice_index_or (cells rows.old.items) row []) ≡ columns }
+    ensures { cells rows.new.items ≡ slice_set (cells rows.old.items) row (blank columns) }
+{
+    let cells = &mut rows[row];
+    cells.fill(' ');
+}
+
+impl Page {
+    /// A page of blank rows, with the cursor at its beginning.
+    pub fn new(alloc: Global, columns: u16, rows: u16) -> Result<Self, Refusal>
+        requires wide { 0 < columns }
+        requires high { 0 < rows }
+        ensures page { IfOk result (λ page. page ≡ blank_page columns rows) }
+        ensures refusal { IfErr result (λ e. e ≡ Memory) }
+    {
+        let mut blanks = Vec::new(alloc);
+        for _ in 0..rows {
+            let blank = blank_row(alloc, columns)?;
+            blanks.push(blank)?;
+        }
+        Ok(Page {
+            columns,
+            height: rows,
+            rows: blanks,
+            row: 0,
+            column: 0,
+        })
+    }
+
+    /// Writes one sign. A refusal leaves the page as it was.
+    pub fn apply(&mut self, alloc: Global, sign: &Sign) -> Result<(), Refusal>
+        ensures ok { OnOk result (self.new ≡ after_sign sign.now self.old) }
+        ensures err { OnErr result (self.new ≡ self.old) }
+        ensures refusal { IfErr result (λ e. e ≡ Memory) }
+
+        // Memory is wanted for a new row alone.
+        ensures needed { OnErr result (IsTrue (adds_row sign.now self.old)) }
+    {
+        match *sign {
+            Sign::Char(c) => {
+                if self.column < self.columns {
+                    write_cell(&mut self.rows, self.row, self.column as usize, c);
+                    self.column += 1;
+                } else {
+                    add_row(alloc, &mut self.rows, self.columns, self.row + 1)?;
+                    write_cell(&mut self.rows, self.row + 1, 0, c);
+                    self.row += 1;
+                    self.column = 1;
+                }
+            }
+            Sign::LineFeed => {
+                add_row(alloc, &mut self.rows, self.columns, self.row + 1)?;
+                self.row += 1;
+                self.column = 0;
+            }
+            Sign::Up(n) => self.row = self.row.saturating_sub(n as usize).max(self.top()),
+            Sign::EraseLine => erase_row(&mut self.rows, self.columns, self.row),
+        }
+        Ok(())
+    }
+
+    /// The row at a place, counted from the first row ever.
+    pub fn row(&self, n: usize) -> Option<&[char]>
+        ensures { MatchOption result (length self.now.rows ≤ n)
+            (λ row. (n < length self.now.rows) × (row.now ≡ slice_index_or self.now.rows n [])) }
+    {
+        let row = self.rows.get(n)?;
+        Some(row.as_slice())
+    }
+
+    /// How many rows there ever were.
+    pub fn rows(&self) -> usize
+        ensures { result ≡ length self.now.rows }
+    {
+        self.rows.len()
+    }
+
+    /// The first row of the window.
+    pub fn top(&self) -> usize
+        ensures { result ≡ length self.now.rows - self.now.height }
+    {
+        self.rows().saturating_sub(self.height as usize)
+    }
+
+    /// The cursor's row, counted from the first row ever, and its column.
+    pub fn cursor(&self) -> (usize, u16)
+        ensures { result ≡ (self.now.row, self.now.column) }
+    {
+        (self.row, self.column)
+    }
+}

@@ -1,0 +1,80 @@
+use prodash_base::Text;
+use prodash_base::progress::UNKNOWN;
+use prodash_core::tree::Event;
+use std::alloc::{AllocError, Global};
+
+/// The number that a word is: 1 to 20 decimal digits, with a value that fits 64 bits.
+pub fn number(word: &str) -> Option<u64> {
+    if word.is_empty() || word.len() > 20 || !word.bytes().all(|b| b.is_ascii_digit()) {
+        return None;
+    }
+    word.parse::<u64>().ok()
+}
+
+/// The bound that a word is: a number, or `-` for none.
+fn bound(word: &str) -> Option<Option<u64>> {
+    if word == "-" {
+        return Some(None);
+    }
+    Some(Some(number(word)?))
+}
+
+/// The event that a line is, if it is one.
+pub fn event_of(alloc: Global, line: &str) -> Result<Option<Event>, AllocError> {
+    let Some((word, rest)) = line.split_once(' ') else {
+        return Ok(None);
+    };
+    match word {
+        "add" => add(alloc, rest),
+        "init" => Ok(init(rest)),
+        "set" => Ok(set(rest)),
+        "tick" => Ok(tick(rest, true)),
+        "hold" => Ok(tick(rest, false)),
+        _ => Ok(None),
+    }
+}
+
+/// `H NAME`.
+fn add(alloc: Global, rest: &str) -> Result<Option<Event>, AllocError> {
+    let Some((parent, name)) = rest.split_once(' ') else {
+        return Ok(None);
+    };
+    let Some(parent) = number(parent) else {
+        return Ok(None);
+    };
+    Ok(Some(Event::AddChild {
+        parent,
+        name: Text::from_str(alloc, name)?,
+        id: UNKNOWN,
+    }))
+}
+
+/// `H MAX UNIT`, where the unit is none.
+fn init(rest: &str) -> Option<Event> {
+    let (item, rest) = rest.split_once(' ')?;
+    let (max, unit) = rest.split_once(' ')?;
+    let item = number(item)?;
+    let max = bound(max)?;
+    if unit == "-" {
+        Some(Event::Init { item, max })
+    } else {
+        None
+    }
+}
+
+/// `H N`.
+fn set(rest: &str) -> Option<Event> {
+    let (item, step) = rest.split_once(' ')?;
+    Some(Event::Set {
+        item: number(item)?,
+        step: number(step)?,
+    })
+}
+
+/// `AT`.
+fn tick(rest: &str, show: bool) -> Option<Event> {
+    Some(Event::Tick {
+        at: number(rest)?,
+        show,
+    })
+}
