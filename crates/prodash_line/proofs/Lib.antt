@@ -15,3 +15,5 @@ pub mod ProperFrames
 pub mod RowParts
 pub mod Sequences
 pub mod SignFronts
+pub mod WorkedFrames
+pub mod WorkedPages

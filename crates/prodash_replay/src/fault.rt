@@ -1,3 +1,7 @@
+ghost use Rattle.std.specs.Prelude.{◌≡◌};
+ghost use Rattle.prodash_replay.specs.declared.fault.Fault.TheVariants.{Memory};
+ghost use Rattle.prodash_replay.specs.Faults.{IsFaultOfRead};
+
 use prodash_base::Refusal;
 use prodash_line::render::line::page;
 use std::alloc::{AllocError, AllocFailed};
@@ -24,8 +28,12 @@ pub enum Fault {
 }
 
 impl Fault {
+    ghost use Rattle.prodash_replay.specs.Faults.{status_of};
+
     /// The status that the program ends with.
-    pub fn status(&self) -> u8 {
+    pub fn status(&self) -> u8
+        ensures { result ≡ status_of self.now }
+    {
         match self {
             Fault::Usage | Fault::Line(_) => 2,
             Fault::Sign(_) | Fault::Input | Fault::Output | Fault::Memory => 1,
@@ -42,18 +50,24 @@ impl Fault {
 }
 
 impl From<AllocError> for Fault {
+    ghost from_gives = { λ _ e. e ≡ Memory };
+
     fn from(_error: AllocError) -> Fault {
         Fault::Memory
     }
 }
 
 impl<T: Drop> From<AllocFailed<T>> for Fault {
+    ghost from_gives = { λ _ e. e ≡ Memory };
+
     fn from(_error: AllocFailed<T>) -> Fault {
         Fault::Memory
     }
 }
 
 impl From<page::Fault> for Fault {
+    ghost from_gives = { IsFaultOfRead };
+
     fn from(fault: page::Fault) -> Fault {
         match fault {
             page::Fault::At(n) => Fault::Sign(n),
@@ -63,6 +77,8 @@ impl From<page::Fault> for Fault {
 }
 
 impl From<Refusal> for Fault {
+    ghost from_gives = { λ _ e. e ≡ Memory };
+
     /// A screen in memory breaks for want of memory alone.
     fn from(_refusal: Refusal) -> Fault {
         Fault::Memory

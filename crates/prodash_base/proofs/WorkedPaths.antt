@@ -1,0 +1,32 @@
+-- The definitions of paths and rows, computed.
+use Rattle.std.proofs.Common.{◌≡◌, ℕ, List, [], ◌∷◌, Some, None, true, false, refl}
+use Rattle.std.specs.Prelude.{codes}
+use Rattle.std.specs.declared.cmp.Ordering.TheVariants.{Less, Greater}
+use Rattle.prodash_base.specs.Path.{child, path_cmp}
+use Rattle.prodash_base.specs.Rows.{PathRow, same_rows}
+
+pub below : child (1 ∷ 2 ∷ []) 7 ≡ 1 ∷ 2 ∷ 7 ∷ []
+below = refl
+
+-- past the sixth number the last is replaced
+pub past_six : child (1 ∷ 2 ∷ 3 ∷ 4 ∷ 5 ∷ 6 ∷ []) 7 ≡ 1 ∷ 2 ∷ 3 ∷ 4 ∷ 5 ∷ 7 ∷ []
+past_six = refl
+
+-- a proper front comes first, else the first number that differs decides
+pub front_first : path_cmp (1 ∷ []) (1 ∷ 0 ∷ []) ≡ Less
+front_first = refl
+
+pub number_first : path_cmp (2 ∷ []) (1 ∷ 9 ∷ []) ≡ Greater
+number_first = refl
+
+abbrev row : List ℕ → PathRow
+row name = (0 ∷ [], record { name = name; id = 0 ∷ 0 ∷ 0 ∷ 0 ∷ []; progress = None })
+
+pub same : same_rows (row (codes "a") ∷ []) (row (codes "a") ∷ []) ≡ true
+same = refl
+
+pub other_name : same_rows (row (codes "a") ∷ []) (row (codes "b") ∷ []) ≡ false
+other_name = refl
+
+pub other_length : same_rows (row (codes "a") ∷ []) [] ≡ false
+other_length = refl

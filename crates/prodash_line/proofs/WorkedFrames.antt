@@ -1,0 +1,72 @@
+-- The definitions of frames and of what fits, computed on a row without progress.
+use Rattle.std.proofs.Common.{◌≡◌, ℕ, List, [], ◌∷◌, ◌++◌, map, Some, None, true, false, refl, arith}
+use Rattle.std.specs.Prelude.{codes}
+use Rattle.std.specs.Str.{chars}
+use Rattle.unicode_width.specs.Width.{str_width, char_width, step, past_emoji}
+use Rattle.prodash_base.specs.Rows.{PathRow}
+use Rattle.prodash_line.specs.declared.render.line.page.sign.Sign.{Sign}
+use Rattle.prodash_line.specs.declared.render.line.page.sign.Sign.TheVariants.{Char, LineFeed, Up}
+use Rattle.prodash_line.specs.declared.render.line.draw.input.Input.{Input}
+use Rattle.prodash_line.specs.declared.render.line.draw.input.Input.TheVariants.{Tick}
+use Rattle.prodash_line.specs.Frames.{frame_signs}
+use Rattle.prodash_line.specs.Renderer.{Renderer, fresh, frame_at, next}
+use Rattle.prodash_line.specs.Fits.{FrameFits}
+use Rattle.prodash_line.specs.Lines.{line_text}
+use Rattle.prodash_line.specs.ProgressRows.{bar}
+
+-- a task below the root, without progress
+abbrev row : List ℕ → PathRow
+row name = (0 ∷ [], record { name = name; id = 0 ∷ 0 ∷ 0 ∷ 0 ∷ []; progress = None })
+
+abbrev signs_at : Renderer → Input → List Sign
+signs_at r input = frame_signs r.standing (frame_at r input)
+
+abbrev terminal : Renderer
+terminal = fresh (record { terminal_dimensions = (40, 4) })
+
+-- its name behind a space, a line feed, and up by one row
+pub drawn : signs_at terminal (Tick 0 true (row (codes "task") ∷ [])) ≡ map Char (codes " task") ++ LineFeed ∷ Up 1 ∷ []
+unfolding chars str_width step past_emoji
+drawn = refl
+
+-- a shorter name, and blanks up to the columns that stood there
+pub drawn_over : signs_at (next terminal (Tick 0 true (row (codes "task") ∷ []))) (Tick 1 true (row (codes "a") ∷ [])) ≡ map Char (codes " a   ") ++ LineFeed ∷ Up 1 ∷ []
+unfolding chars str_width step past_emoji
+drawn_over = refl
+
+-- held back, and shown again without a change
+pub held_back : signs_at terminal (Tick 0 false (row (codes "task") ∷ [])) ≡ []
+held_back = refl
+
+pub unchanged : signs_at (next terminal (Tick 0 false (row (codes "task") ∷ []))) (Tick 1 true (row (codes "task") ∷ [])) ≡ []
+unchanged = refl
+
+-- what a page of that size takes
+pub fits : FrameFits 40 4 (frame_at terminal (Tick 0 true (row (codes "a") ∷ [])))
+unfolding chars str_width char_width step past_emoji
+fits = record {
+  messages = tt;
+  body = ((record {
+    plain = record {
+      pieces = (
+        record { each = (record { proper = (refl, refl); width = refl }, tt); width = refl },
+        (record { each = (record { proper = (refl, refl); width = refl }, tt); width = refl }, tt),
+      );
+      columns = refl;
+    };
+    within = omega arith;
+  }, tt), omega arith);
+}
+
+-- bars on the columns that are left: three tenths of 26 cells; a bound of 0; brackets and arrow alone; none
+pub three_tenths : line_text (bar 30 3 (Some 10)) ≡ codes " [=======>-------------------]"
+three_tenths = refl
+
+pub bound_of_zero : line_text (bar 14 0 (Some 0)) ≡ codes " [==========>]"
+bound_of_zero = refl
+
+pub no_cell : line_text (bar 1 3 (Some 10)) ≡ codes " [>]"
+no_cell = refl
+
+pub no_column : line_text (bar 0 3 (Some 10)) ≡ []
+no_column = refl
