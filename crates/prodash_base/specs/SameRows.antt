@@ -1,9 +1,9 @@
 -- The test of equal rows is true exactly where the rows are equal.
-use Rattle.std.proofs.Common.{◌≡◌, ℕ, Bool, true, false, nat_eq, List, [], ◌∷◌, Option, Some, None, refl, ap, sym, ◌∙◌, ◌&&◌}
+use Rattle.std.proofs.Common.{◌≡◌, Bool, true, nat_eq, List, [], ◌∷◌, Some, None, refl, ap, sym, ◌∙◌, ◌&&◌}
 use Rattle.std.proofs.lemmas.Bool.{eqb-true, eq-eqb, and_parts}
 use Rattle.std.specs.Cmp.Lexicographic.{pointwise}
 use Rattle.std.specs.Cmp.{IsEquivalence, decided}
-use Rattle.prodash_base.specs.Rows.{Phase, Blocked, Halted, Running, Progress, Entry, PathRow, same_text, same_option, same_phase, same_progress, same_entry, same_row, same_rows}
+use Rattle.prodash_base.specs.Rows.{Blocked, Halted, Running, PathRow, same_text, same_option, same_phase, same_progress, same_entry, same_row, same_rows}
 use Rattle.prodash_base.specs.KeyHash.{same_path}
 
 both : (a b : Bool) → a ≡ true → b ≡ true → a && b ≡ true

@@ -3,6 +3,8 @@
 
 pub mod progress;
 mod refusal;
+#[cfg(test)]
+mod tests;
 pub mod text;
 pub mod time;
 

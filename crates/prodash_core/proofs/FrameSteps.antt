@@ -1,5 +1,5 @@
 -- Frames that are refused before anything is asked of the renderer.
-use Rattle.std.proofs.Common.{◌≡◌, Option, Some, None, Err, refl, sym, subst, ap, ◌∙◌, inl}
+use Rattle.std.proofs.Common.{◌≡◌, Some, None, Err, refl, sym, subst, ap, ◌∙◌, inl}
 use Rattle.prodash_base.specs.declared.refusal.Refusal.{Refusal}
 use Rattle.prodash_base.specs.declared.refusal.Refusal.TheVariants as refusals
 use Rattle.prodash_line.specs.declared.render.line.draw.input.Input.{Input}

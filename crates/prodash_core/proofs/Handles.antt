@@ -1,12 +1,12 @@
 -- Handles that live, and lists of handles.
-use Rattle.std.proofs.Common.{◌≡◌, ℕ, ◌+◌, ◌-◌, ◌<◌, List, [], ◌∷◌, ◌++◌, length, take, set, Option, Some, None, refl, sym, ap, ◌∙◌, arith, length-append}
+use Rattle.std.proofs.Common.{◌≡◌, ℕ, ◌<◌, List, [], ◌∷◌, ◌++◌, length, Option, Some, None, refl, sym, ap, ◌∙◌}
 use Rattle.std.specs.Prelude.{slice_get, slice_set, Ok}
 use Rattle.std.proofs.lemmas.Option.{slice_get_within}
-use Rattle.std.proofs.lemmas.List.{set-append_left, take_at}
+use Rattle.std.proofs.lemmas.List.{set-append_left}
 use Rattle.std.specs.FinMap as finite
 use Rattle.prodash_base.specs.Path.{Path, child}
 use Rattle.prodash_core.specs.Tables.{Table}
-use Rattle.prodash_core.specs.Trees.{Handle, Tree, if_lives, living, new_handle, new_entry, next_child, add_child, for_handle, play}
+use Rattle.prodash_core.specs.Trees.{Handle, Tree, if_lives, new_handle, new_entry, next_child, add_child, for_handle, play}
 use Rattle.prodash_core.specs.declared.tree.event.Event.TheVariants.{AddChild}
 use Rattle.prodash_core.specs.declared.tree.event.Reply.{Reply}
 use Rattle.prodash_core.specs.declared.tree.event.Reply.TheVariants as replies

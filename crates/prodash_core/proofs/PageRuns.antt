@@ -1,12 +1,10 @@
 -- A run whose screen isn't broken, on a page.
-use Rattle.std.proofs.Common.{◌≡◌, ◌∙◌, ap, sym, subst, ℕ, zero, suc, ◌^◌, ◌<◌, ◌++◌, ◌∷◌, [], List, refl, append_assoc, append-nil, take, drop, map, Bool, true, false, Option, Some, None}
+use Rattle.std.proofs.Common.{◌≡◌, ◌∙◌, ap, sym, subst, ℕ, zero, suc, ◌^◌, ◌<◌, ◌++◌, ◌∷◌, [], List, refl, append_assoc, take, drop, Bool, true, false, None}
 use Rattle.std.specs.Prelude.{MatchBool}
 use Rattle.std.specs.List.{AllByRecursion}
-use Rattle.prodash_base.specs.declared.refusal.Refusal.TheVariants as refusals
 use Rattle.prodash_line.specs.declared.render.line.draw.input.Options.{Options}
 use Rattle.prodash_line.specs.declared.render.line.draw.input.Input.{Input}
 use Rattle.prodash_line.specs.declared.render.line.draw.input.Input.TheVariants as inputs
-use Rattle.prodash_line.specs.declared.render.line.page.sign.Sign.{Sign}
 use Rattle.prodash_line.specs.Signs.{spelling}
 use Rattle.prodash_line.specs.Lines.{Line}
 use Rattle.prodash_line.specs.Frames.{Frame, frame_signs, frame_leaves, widths_of, signs_of, standing_after}
@@ -16,7 +14,7 @@ use Rattle.prodash_line.specs.Screens.{Taken}
 use Rattle.prodash_line.proofs.Written.{spelling-append}
 use Rattle.prodash_line.proofs.ProperFrames.{frames_proper}
 use Rattle.prodash_line.proofs.PageTheorem.{shows_each_front}
-use Rattle.prodash_core.specs.Sessions.{SessionState, input_at}
+use Rattle.prodash_core.specs.Sessions.{SessionState}
 use Rattle.prodash_core.specs.Runs.{Run, renderer_after, Shot, shots_of, bytes_over, Wrote}
 use Rattle.prodash_core.specs.PageRuns.{frames_of, RunFits, ShowsFrames}
 use Rattle.prodash_core.proofs.RunBytes.{Did, Kept, Acted, Drew, Broke, step_did, shots-refused, shots-none, shots-some, wrote_run}

@@ -1,6 +1,5 @@
 -- What a whole run writes.
-use Rattle.std.proofs.Common.{◌≡◌, ◌∙◌, ap, sym, subst, ℕ, ◌++◌, ◌∷◌, [], List, refl, append_assoc, append-nil, take, map, drop, length, Bool, true, false, cond, Result, Ok, Err, Option, Some, None, ◌⊎◌, ⊎_elim}
-use Rattle.std.specs.Prelude.{MatchBool, IsTrue}
+use Rattle.std.proofs.Common.{◌≡◌, ◌∙◌, ap, sym, subst, ℕ, ◌++◌, ◌∷◌, [], List, refl, append_assoc, append-nil, take, drop, length, Bool, true, false, cond, Result, Ok, Err, Some, None, ⊎_elim}
 use Rattle.std.specs.Option.{option_map}
 use Rattle.std.proofs.lemmas.List.{drop-map}
 use Rattle.prodash_base.specs.declared.refusal.Refusal.{Refusal}

@@ -144,6 +144,8 @@ struct Narrow {
 impl Screen for Narrow {
     ghost taken = { λ s. s.bytes.items };
 
+    ghost sent = { λ s. s.bytes.items };
+
     ghost broken = { λ s. s.broken };
 
     fn put(&mut self, bytes: &[u8]) -> Result<usize, Refusal> {

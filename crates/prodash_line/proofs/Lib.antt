@@ -17,3 +17,4 @@ pub mod Sequences
 pub mod SignFronts
 pub mod WorkedFrames
 pub mod WorkedPages
+pub mod Inputs

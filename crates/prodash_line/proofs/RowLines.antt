@@ -1,8 +1,8 @@
 -- The line of a row with progress, put together from what was appended.
-use Rattle.std.proofs.Common.{◌≡◌, ℕ, ◌+◌, ◌-◌, List, [], ◌∷◌, ◌++◌, Some, chars, ap, sym, subst, ◌∙◌, append_assoc}
+use Rattle.std.proofs.Common.{◌≡◌, ℕ, ◌+◌, ◌-◌, List, [], ◌∷◌, ◌++◌, Some, chars, ap, sym, ◌∙◌}
 use Rattle.prodash_base.specs.Rows.{PathRow, Progress}
-use Rattle.prodash_line.specs.Lines.{Line, piece, spaces, capped, columns_of}
-use Rattle.prodash_line.specs.ProgressRows.{values_of, head_of, measured, padded, bar, midpoint_with, row_line_with}
+use Rattle.prodash_line.specs.Lines.{piece, spaces, capped, columns_of}
+use Rattle.prodash_line.specs.ProgressRows.{values_of, head_of, padded, bar, midpoint_with, row_line_with}
 use Rattle.prodash_line.specs.Joined.{written}
 use Rattle.prodash_line.proofs.Written.{written_more, written_piece}
 use Rattle.prodash_line.proofs.Columns.{columns_of-append, columns_of-measured, columns_of-padded}

@@ -46,16 +46,22 @@ pub fits : FrameFits 40 4 (frame_at terminal (Tick 0 true (row (codes "a") ∷ [
 unfolding chars str_width char_width step past_emoji
 fits = record {
   messages = tt;
-  body = ((record {
-    plain = record {
-      pieces = (
-        record { each = (record { proper = (refl, refl); width = refl }, tt); width = refl },
-        (record { each = (record { proper = (refl, refl); width = refl }, tt); width = refl }, tt),
-      );
-      columns = refl;
-    };
-    within = omega arith;
-  }, tt), omega arith);
+  body = (
+    (
+      record {
+        plain = record {
+          pieces = (
+            record { each = (record { proper = (refl, refl); width = refl }, tt); width = refl },
+            (record { each = (record { proper = (refl, refl); width = refl }, tt); width = refl }, tt),
+          );
+          columns = refl;
+        };
+        within = omega arith;
+      },
+      tt,
+    ),
+    omega arith,
+  );
 }
 
 -- bars on the columns that are left: three tenths of 26 cells; a bound of 0; brackets and arrow alone; none

@@ -1,7 +1,7 @@
 -- The definition of a page, computed.
-use Rattle.std.proofs.Common.{◌≡◌, ℕ, List, [], ◌∷◌, refl}
+use Rattle.std.proofs.Common.{◌≡◌, [], ◌∷◌, refl}
 use Rattle.prodash_line.specs.declared.render.line.page.sign.Sign.TheVariants.{Char, LineFeed, Up, EraseLine}
-use Rattle.prodash_line.specs.Page.{Canvas, blank_page, page_after}
+use Rattle.prodash_line.specs.Page.{blank_page, page_after}
 
 -- a page of one cell: `a`, `b`, a line feed, and up, which stops at the window's top
 pub one_cell : page_after (Char 97 ∷ Char 98 ∷ LineFeed ∷ Up 5 ∷ []) (blank_page 1 1)

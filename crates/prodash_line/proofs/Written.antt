@@ -1,5 +1,5 @@
 -- What lists of signs and lines spell.
-use Rattle.std.proofs.Common.{◌≡◌, ℕ, zero, suc, ◌+◌, ◌<◌, ◌^◌, List, [], ◌∷◌, ◌++◌, map, replicate, chars, refl, sym, ap, ◌∙◌, append_assoc, append-nil, arith}
+use Rattle.std.proofs.Common.{◌≡◌, ℕ, zero, suc, ◌<◌, ◌^◌, List, [], ◌∷◌, ◌++◌, map, replicate, chars, refl, sym, ap, ◌∙◌, append_assoc, append-nil, arith}
 use Rattle.std.specs.Prelude.{Some}
 use Rattle.std.specs.Fmt.{decimal}
 use Rattle.std.specs.Str.{IsAscii, IsUtf8, encode_utf8_all}
@@ -11,7 +11,7 @@ use Rattle.std.proofs.lemmas.Grind.{flat_map-append}
 use Rattle.prodash_line.specs.declared.render.line.page.sign.Sign.{Sign}
 use Rattle.prodash_line.specs.declared.render.line.page.sign.Sign.TheVariants.{Char}
 use Rattle.prodash_line.specs.Signs.{spelling, spelling_of}
-use Rattle.prodash_line.specs.Lines.{Piece, Line, piece}
+use Rattle.prodash_line.specs.Lines.{Line, piece}
 use Rattle.prodash_line.specs.Frames.{piece_signs, line_signs}
 use Rattle.prodash_line.specs.ProgressRows.{values_of}
 use Rattle.prodash_line.specs.Joined.{written}

@@ -1,5 +1,5 @@
 -- The renderer: what it keeps, the frame that it draws for an input, and what that frame leaves.
-use Rattle.std.specs.Prelude.{◌≡◌, ℕ, nat_lt, length, List, [], ◌++◌, Bool, true, false, ◌&&◌, not, Option, Some, None, if◌then◌else◌, Result, Ok, Err, ◌⊎◌, IsTrue}
+use Rattle.std.specs.Prelude.{◌≡◌, ℕ, nat_lt, length, List, [], ◌++◌, Bool, true, false, ◌&&◌, not, Option, Some, None, if◌then◌else◌, Result, Ok, Err, OnOk, ◌⊎◌, IsTrue}
 use Rattle.prodash_base.specs.Rows.{PathRow, same_rows}
 use Rattle.prodash_base.specs.declared.refusal.Refusal.{Refusal}
 use Rattle.prodash_base.specs.declared.refusal.Refusal.TheVariants as refusals
@@ -98,3 +98,7 @@ Renders r input s (Ok answer) r' s' = Accepts r input s answer r' s'
 Renders r input s (Err refusals.Memory) r' s' = Starves r s r' s'
 Renders r input s (Err refusals.Broken) r' s' = Refuses r refusals.Broken s r' s' ⊎ Breaks r input s r' s'
 Renders r input s (Err _) r' s' = ⊥
+
+-- an accepted frame that has bytes is sent on with all that was taken before it
+abbrev pub SendsOn : Renderer → Input → Result Answer Refusal → List ℕ → List ℕ → Type 0
+SendsOn r input result sent taken = OnOk result (IsTrue (has_bytes (frame_bytes r input)) → sent ≡ taken)

@@ -1,10 +1,12 @@
 ghost use Rattle.std.specs.Prelude.{◌≡◌, ℕ, IfSome};
-ghost use Rattle.prodash_line.specs.Renderer.{Renderer, Renders, fresh, differs};
+ghost use Rattle.prodash_line.specs.Renderer.{Renderer, Renders, SendsOn, fresh, differs};
 
 mod frame;
 mod input;
 mod row;
 mod screen;
+#[cfg(test)]
+mod tests;
 mod text;
 
 use frame::compose;
@@ -96,8 +98,9 @@ pub fn all<S: Screen>(
     state: &mut State,
     input: Input,
 ) -> Result<Answer, Refusal>
-    ensures { Renders state.old input (record { bytes = S.taken screen.old; broken = S.broken screen.old }) result
+    ensures renders { Renders state.old input (record { bytes = S.taken screen.old; broken = S.broken screen.old }) result
         state.new (record { bytes = S.taken screen.new; broken = S.broken screen.new }) }
+    ensures sent { SendsOn state.old input result (S.sent screen.new) (S.taken screen.new) }
 {
     match input {
         Input::Tick { at: _, show, rows } => tick(alloc, screen, state, show, rows),
@@ -112,8 +115,9 @@ fn tick<S: Screen>(
     show: bool,
     rows: Rows,
 ) -> Result<Answer, Refusal>
-    ensures { (at : ℕ) → Renders state.old (Input.Tick at show rows) (record { bytes = S.taken screen.old; broken = S.broken screen.old }) result
+    ensures renders { (at : ℕ) → Renders state.old (Input.Tick at show rows) (record { bytes = S.taken screen.old; broken = S.broken screen.old }) result
         state.new (record { bytes = S.taken screen.new; broken = S.broken screen.new }) }
+    ensures sent { (at : ℕ) → SendsOn state.old (Input.Tick at show rows) result (S.sent screen.new) (S.taken screen.new) }
 {
     if state.broken {
         return Err(Refusal::Broken);

@@ -10,6 +10,9 @@ pub trait Screen {
     /// The bytes taken so far.
     ghost taken: { Self → List ℕ };
 
+    /// The bytes sent on so far.
+    ghost sent: { Self → List ℕ };
+
     /// Whether it is broken.
     ghost broken: { Self → Bool };
 
@@ -26,6 +29,7 @@ pub trait Screen {
     /// Sends on what was taken, or breaks.
     fn flush(&mut self) -> Result<(), Refusal>
         ensures same { taken self.new ≡ taken self.old }
+        ensures sent { OnOk result (sent self.new ≡ taken self.new) }
         ensures reason { IfErr result (λ e. e ≡ Refusal.Broken) }
         ensures exact { is_err result ≡ broken self.new }
         ensures stays { IsTrue (broken self.old) → IsTrue (broken self.new) };
@@ -39,6 +43,7 @@ pub trait Screen {
 pub(crate) fn write_frame<S: Screen>(screen: &mut S, frame: &[u8]) -> Result<(), Refusal>
     requires { 0 < length frame.now }
     ensures ok { OnOk result (S.taken screen.new ≡ S.taken screen.old ++ frame.now) }
+    ensures sent { OnOk result (S.sent screen.new ≡ S.taken screen.new) }
     ensures err { OnErr result (TakesFront frame.now (S.taken screen.old) (S.taken screen.new)) }
     ensures reason { IfErr result (λ e. e ≡ Refusal.Broken) }
     ensures exact { is_err result ≡ S.broken screen.new }
@@ -95,6 +100,8 @@ impl MemoryScreen {
 impl Screen for MemoryScreen {
     ghost taken = { λ s. s.bytes };
 
+    ghost sent = { λ s. s.bytes };
+
     ghost broken = { λ s. s.broken };
 
     fn put(&mut self, bytes: &[u8]) -> Result<usize, Refusal>
@@ -106,7 +113,10 @@ impl Screen for MemoryScreen {
         ensures stays { IsTrue self.old.broken → IsTrue self.new.broken × (self.new.bytes ≡ self.old.bytes) }
         ensures room { self.new.room ≡ self.old.room }
 
-        // What fits the room is taken.
+        // All is taken, unless it breaks.
+        ensures whole { IfOk result (λ n. n ≡ length bytes.now) }
+
+        // What fits the room doesn't break it.
         ensures fits { length self.old.bytes + length bytes.now ≤ self.old.room → self.new.broken ≡ self.old.broken }
     {
         if self.broken || self.bytes.extend_from_slice(bytes).is_err() {
@@ -117,10 +127,9 @@ impl Screen for MemoryScreen {
     }
 
     fn flush(&mut self) -> Result<(), Refusal>
-        ensures same { self.new ≡ self.old }
+        ensures unchanged { self.new ≡ self.old }
         ensures reason { IfErr result (λ e. e ≡ Refusal.Broken) }
         ensures exact { is_err result ≡ self.new.broken }
-        ensures stays { IsTrue self.old.broken → IsTrue self.new.broken }
     {
         if self.broken {
             Err(Refusal::Broken)

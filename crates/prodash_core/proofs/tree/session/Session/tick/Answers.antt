@@ -1,4 +1,4 @@
-use Rattle.std.proofs.Common.{ap, ◌∙◌, sym}
+use Rattle.std.proofs.Common.{ap, ◌∙◌}
 use Rattle.prodash_core.proofs.FrameSteps.{frame_refused, frame_wants}
 use Rattle.prodash_core.proofs.tree.session.Session.tick.Goals as goal
 

@@ -1,5 +1,3 @@
-use Rattle.std.proofs.Common.{◌≡◌, ◌∙◌, ap}
-use Rattle.std.specs.Prelude.{slice_set}
 use Rattle.std.proofs.lemmas.List.{map-set}
 use Rattle.prodash_core.specs.Slots.{handle_of}
 use Rattle.prodash_core.proofs.tree.slots.Slots.put.Goals as goal

@@ -1,4 +1,4 @@
-use Rattle.std.proofs.Common.{◌≡◌, ◌∙◌, ap, ◌∷◌, [], ◌++◌}
+use Rattle.std.proofs.Common.{◌∙◌, ap, ◌∷◌, [], ◌++◌}
 use Rattle.prodash_core.specs.Slots.{handle_of}
 use Rattle.prodash_core.proofs.Handles.{adds_child}
 use Rattle.prodash_core.proofs.tree.state.TreeState.add_child.Goals as goal

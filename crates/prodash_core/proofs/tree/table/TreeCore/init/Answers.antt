@@ -1,4 +1,4 @@
-use Rattle.std.proofs.Common.{rules, ◌≡◌, ◌∙◌, ap, sym, subst, Some, IsSome}
+use Rattle.std.proofs.Common.{rules, ◌∙◌, ap, sym}
 use Rattle.std.specs.Option.{option_map}
 use Rattle.prodash_core.specs.Tables.{counted_of}
 use Rattle.prodash_core.proofs.TableChanges.{table_of, is_some-none, is_some-some, with_progress-none, with_progress-some}

@@ -1,6 +1,6 @@
-use Rattle.std.proofs.Common.{◌≡◌, ◌∙◌, ap, sym, List, ℕ, Bool, cond, None, Some}
+use Rattle.std.proofs.Common.{◌∙◌, ap, List, ℕ, None}
 use Rattle.std.specs.FinMap as finite
-use Rattle.prodash_core.proofs.TableChanges.{table_of, table_of-update, task_at}
+use Rattle.prodash_core.proofs.TableChanges.{table_of, table_of-update}
 use Rattle.prodash_core.proofs.Sorting.{update_by_eq}
 use Rattle.prodash_core.proofs.tree.table.TreeCore.insert.Goals as goal
 

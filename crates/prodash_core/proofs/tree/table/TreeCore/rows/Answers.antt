@@ -1,4 +1,4 @@
-use Rattle.std.proofs.Common.{◌≡◌, ◌∙◌, ap}
+use Rattle.std.proofs.Common.{◌∙◌, ap}
 use Rattle.prodash_core.specs.Tables.{rows_at}
 use Rattle.prodash_core.proofs.Sorting.{rows_sorted}
 use Rattle.prodash_core.proofs.tree.table.TreeCore.rows.Goals as goal

@@ -1,4 +1,4 @@
-use Rattle.std.proofs.Common.{◌≡◌, ℕ, List, [], set, get_or, length, replicate, ap, ◌∙◌, sym, Vec, vec_len, rules}
+use Rattle.std.proofs.Common.{◌≡◌, ℕ, List, [], set, length, replicate, ap, ◌∙◌, sym, Vec, vec_len, rules}
 use Rattle.std.specs.Global.{Global}
 use Rattle.std.proofs.lemmas.List.{map-set, get_or-map}
 use Rattle.prodash_line.specs.Cells.{cells}

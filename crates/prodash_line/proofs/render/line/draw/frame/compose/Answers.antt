@@ -1,5 +1,4 @@
-use Rattle.std.proofs.Common.{◌≡◌, ◌++◌, List, ℕ, map, length, ap, sym, ◌∙◌, arith}
-use Rattle.std.specs.Prelude.{min, max}
+use Rattle.std.proofs.Common.{◌++◌, map, ap, ◌∙◌}
 use Rattle.prodash_base.specs.Rows.{rows_of}
 use Rattle.prodash_line.specs.ProgressRows.{row_lines}
 use Rattle.prodash_line.specs.declared.render.line.draw.text.LineText.{LineText}

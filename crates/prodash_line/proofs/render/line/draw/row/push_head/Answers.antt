@@ -1,8 +1,8 @@
 use Rattle.std.proofs.Common.{arith, [], ◌∷◌, length, chars, ap, ◌++◌, ◌∙◌}
 use Rattle.std.specs.String.{string_bytes}
-use Rattle.prodash_line.specs.Lines.{piece, spaces}
+use Rattle.prodash_line.specs.Lines.{spaces}
 use Rattle.prodash_line.specs.Joined.{written}
-use Rattle.prodash_line.proofs.Written.{written_more, written_piece}
+use Rattle.prodash_line.proofs.Written.{written_piece}
 use Rattle.prodash_line.proofs.render.line.draw.row.push_head.Goals as goal
 
 pub returns-clause-bytes : goal.returns-clause-bytes

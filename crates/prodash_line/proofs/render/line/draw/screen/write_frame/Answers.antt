@@ -1,4 +1,4 @@
-use Rattle.std.proofs.Common.{◌≡◌, ℕ, ◌+◌, ◌≤◌, List, ◌++◌, Bool, true, false, IsTrue, arith}
+use Rattle.std.proofs.Common.{◌+◌, arith}
 use Rattle.std.proofs.lemmas.Result.{err_from_is_err_and}
 use Rattle.prodash_line.proofs.ScreenTaken.{takes_more}
 use Rattle.prodash_line.proofs.render.line.draw.screen.write_frame.Goals as goal

@@ -1,7 +1,6 @@
-use Rattle.std.proofs.Common.{◌≡◌, ap, sym, ◌∙◌, ◌++◌, append-nil, arith, Some}
+use Rattle.std.proofs.Common.{◌≡◌, ap, ◌∙◌, arith}
 use Rattle.std.specs.String.{string_bytes}
 use Rattle.prodash_line.specs.ProgressRows.{bar}
-use Rattle.prodash_line.specs.Joined.{written}
 use Rattle.prodash_line.proofs.Written.{written_none}
 use Rattle.prodash_line.proofs.render.line.draw.text.push_bar.Goals as goal
 

@@ -1,4 +1,4 @@
-use Rattle.std.proofs.Common.{◌≡◌, ◌-◌, ◌+◌, [], ◌∷◌, ◌++◌, ap, sym, ◌∙◌, chars, codes, replicate, arith, refl}
+use Rattle.std.proofs.Common.{◌≡◌, ◌-◌, [], ◌∷◌, ◌++◌, ap, sym, ◌∙◌, codes, replicate, arith}
 use Rattle.std.specs.String.{string_bytes}
 use Rattle.prodash_line.specs.Lines.{piece, columns_of}
 use Rattle.prodash_line.specs.ProgressRows.{bounded_bar, bar_with, filled}
