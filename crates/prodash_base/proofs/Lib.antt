@@ -1,1 +1,2 @@
+mod RingLaws
 pub mod WorkedPaths

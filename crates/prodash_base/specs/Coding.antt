@@ -3,9 +3,13 @@ use Rattle.std.specs.Prelude.{◌≡◌, ℕ, zero, suc, List, Option, Some, Non
 use Rattle.std.specs.Coded.{Coded, code_by, coded×, coded_ℕ, coded_list, coded_option, coded⊎}
 use Rattle.std.proofs.Common.{inl, inr}
 use Rattle.prodash_base.specs.declared.refusal.Refusal.{Refusal}
-use Rattle.prodash_base.specs.declared.refusal.Refusal.TheVariants.{Memory, Gone, Broken}
+use Rattle.prodash_base.specs.declared.refusal.Refusal.TheVariants.{Memory, TooManyMessages, Gone, Broken}
+use Rattle.prodash_base.specs.declared.messages.MessageLevel.{MessageLevel}
+use Rattle.prodash_base.specs.declared.messages.MessageLevel.TheVariants.{Info, Failure, Success}
+use Rattle.prodash_base.specs.declared.messages.Message.{Message}
 use Rattle.prodash_base.specs.Path.{Path}
 use Rattle.prodash_base.specs.Rows.{Phase, Blocked, Halted, Running, Progress, Entry, PathRow}
+use Rattle.prodash_base.specs.Rings.{Ring}
 
 abbrev pub coded_path : Coded Path
 coded_path = coded_list coded_ℕ
@@ -49,18 +53,52 @@ coded_rows = coded_list (coded× coded_path (coded_entry coded_ℕ))
 
 abbrev pub refusal_number : Refusal → ℕ
 refusal_number Memory = 0
-refusal_number Gone = 1
-refusal_number Broken = 2
+refusal_number TooManyMessages = 1
+refusal_number Gone = 2
+refusal_number Broken = 3
 
 abbrev pub refusal_from : ℕ → Refusal
 refusal_from zero = Memory
-refusal_from (suc zero) = Gone
-refusal_from (suc (suc n)) = Broken
+refusal_from (suc zero) = TooManyMessages
+refusal_from (suc (suc zero)) = Gone
+refusal_from (suc (suc (suc n))) = Broken
 
 abbrev pub refusal_from-refusal_number : (r : Refusal) → refusal_from (refusal_number r) ≡ r
 refusal_from-refusal_number Memory = refl
+refusal_from-refusal_number TooManyMessages = refl
 refusal_from-refusal_number Gone = refl
 refusal_from-refusal_number Broken = refl
 
 abbrev pub coded_refusal : Coded Refusal
 coded_refusal = code_by ℕ coded_ℕ refusal_number refusal_from refusal_from-refusal_number
+
+abbrev pub level_number : MessageLevel → ℕ
+level_number Info = 0
+level_number Failure = 1
+level_number Success = 2
+
+abbrev pub level_from : ℕ → MessageLevel
+level_from zero = Info
+level_from (suc zero) = Failure
+level_from (suc (suc n)) = Success
+
+abbrev pub level_from-level_number : (l : MessageLevel) → level_from (level_number l) ≡ l
+level_from-level_number Info = refl
+level_from-level_number Failure = refl
+level_from-level_number Success = refl
+
+abbrev pub coded_level : Coded MessageLevel
+coded_level = code_by ℕ coded_ℕ level_number level_from level_from-level_number
+
+abbrev pub coded_message : Coded Message
+coded_message =
+    code_by (ℕ × (MessageLevel × (List ℕ × List ℕ))) (coded× coded_ℕ (coded× coded_level (coded× (coded_list coded_ℕ) (coded_list coded_ℕ)))) (λ m. (m.time, (m.level, (m.origin, m.message))))
+    (λ q. record { time = q.0; level = q.1.0; origin = q.1.1.0; message = q.1.1.1 }) (λ _. refl)
+
+abbrev pub coded_messages : Coded (List Message)
+coded_messages = coded_list coded_message
+
+abbrev pub coded_ring : Coded Ring
+coded_ring =
+    code_by (ℕ × (List Message × ℕ)) (coded× coded_ℕ (coded× coded_messages coded_ℕ)) (λ r. (r.capacity, (r.kept, r.pushed)))
+    (λ q. record { capacity = q.0; kept = q.1.0; pushed = q.1.1 }) (λ _. refl)

@@ -6,20 +6,20 @@ use Rattle.std.specs.Cmp.{IsEquivalence, decided}
 use Rattle.prodash_base.specs.Rows.{Blocked, Halted, Running, PathRow, same_text, same_option, same_phase, same_progress, same_entry, same_row, same_rows}
 use Rattle.prodash_base.specs.KeyHash.{same_path}
 
-both : (a b : Bool) → a ≡ true → b ≡ true → a && b ≡ true
+pub both : (a b : Bool) → a ≡ true → b ≡ true → a && b ≡ true
 both a b p q = ap (λ x. x && b) p ∙ q
 
 -- a test that is true of equal values alone; and of all of them
-abbrev Exact : {X : Type 0} → (X → X → Bool) → Type 0
+abbrev pub Exact : {X : Type 0} → (X → X → Bool) → Type 0
 Exact {X} same = (x y : X) → same x y ≡ true → x ≡ y
 
-abbrev Reflexive : {X : Type 0} → (X → X → Bool) → Type 0
+abbrev pub Reflexive : {X : Type 0} → (X → X → Bool) → Type 0
 Reflexive {X} same = (x : X) → same x x ≡ true
 
-exact_ℕ : Exact nat_eq
+pub exact_ℕ : Exact nat_eq
 exact_ℕ x y h = eqb-true x y h
 
-reflexive_ℕ : Reflexive nat_eq
+pub reflexive_ℕ : Reflexive nat_eq
 reflexive_ℕ x = eq-eqb x x refl
 
 exact_option : {X : Type 0} (same : X → X → Bool) → Exact same → Exact (same_option same)
@@ -32,7 +32,7 @@ reflexive_option : {X : Type 0} (same : X → X → Bool) → Reflexive same →
 reflexive_option same r None = refl
 reflexive_option same r (Some x) = r x
 
-exact_list : {X : Type 0} (same : X → X → Bool) → Exact same → Exact (pointwise same)
+pub exact_list : {X : Type 0} (same : X → X → Bool) → Exact same → Exact (pointwise same)
 exact_list same e [] [] h = refl
 exact_list same e [] (y ∷ ys) h = cc
 exact_list same e (x ∷ xs) [] h = cc
@@ -42,11 +42,11 @@ exact_list same e (x ∷ xs) (y ∷ ys) h =
     let tail : xs ≡ ys = exact_list same e xs ys parts.1 in
     λ i. head i ∷ tail i
 
-reflexive_list : {X : Type 0} (same : X → X → Bool) → Reflexive same → Reflexive (pointwise same)
+pub reflexive_list : {X : Type 0} (same : X → X → Bool) → Reflexive same → Reflexive (pointwise same)
 reflexive_list same r [] = refl
 reflexive_list same r (x ∷ xs) = both (same x x) (pointwise same xs xs) (r x) (reflexive_list same r xs)
 
-reflexive_text : Reflexive same_text
+pub reflexive_text : Reflexive same_text
 reflexive_text = reflexive_list nat_eq reflexive_ℕ
 
 exact_phase : Exact same_phase

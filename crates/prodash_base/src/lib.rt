@@ -1,6 +1,7 @@
-//! Keys, rows, texts, moments and refusals: what all other crates of prodash speak of.
+//! Keys, rows, texts, messages, moments and refusals: what all other crates of prodash speak of.
 #![tactic(auto)]
 
+pub mod messages;
 pub mod progress;
 mod refusal;
 #[cfg(test)]

@@ -10,6 +10,9 @@ pub enum Refusal {
     /// A growth was refused. Nothing has changed.
     #[error("no memory")]
     Memory,
+    /// As many messages were pushed as can be counted. Nothing has changed.
+    #[error("too many messages")]
+    TooManyMessages,
     /// The handle that is named or needed doesn't live, or the root is named where an item is
     /// meant. Nothing has changed.
     #[error("no such handle")]

@@ -10,7 +10,7 @@ use Rattle.prodash_line.specs.declared.render.line.draw.input.Answer.{Answer}
 use Rattle.prodash_line.specs.declared.render.line.draw.input.Answer.TheVariants as answers
 use Rattle.prodash_line.specs.Signs.{spelling}
 use Rattle.prodash_line.specs.Lines.{Line, columns_of}
-use Rattle.prodash_line.specs.Frames.{Body, Quiet, Draws, Frame, frame_signs, frame_leaves, body_leaves, frame_widths, body_widths, widths_of}
+use Rattle.prodash_line.specs.Frames.{Body, Quiet, Draws, Closes, Frame, frame_signs, frame_leaves, body_leaves, frame_widths, body_widths, widths_of}
 use Rattle.prodash_line.specs.Renderer.{Renderer, Renders, frame_at, frame_bytes, next}
 use Rattle.prodash_line.specs.Screens.{Taken}
 use Rattle.prodash_core.specs.Trees.{play}
@@ -46,6 +46,7 @@ other w s e replies.Done w' s' none h = acted w s e replies.Done w' s' none refl
 other w s e (replies.Rows rows) w' s' none h = acted w s e (replies.Rows rows) w' s' none refl h
 other w s e replies.Drawn w' s' none h = acted w s e replies.Drawn w' s' none refl h
 other w s e (replies.Refused refusals.Memory) w' s' none h = Kept refl h.session h.screen
+other w s e (replies.Refused refusals.TooManyMessages) w' s' none h = acted w s e (replies.Refused refusals.TooManyMessages) w' s' none refl h
 other w s e (replies.Refused refusals.Gone) w' s' none h = acted w s e (replies.Refused refusals.Gone) w' s' none refl h
 other w s e (replies.Refused refusals.Broken) w' s' none h = acted w s e (replies.Refused refusals.Broken) w' s' none refl h
 
@@ -57,6 +58,7 @@ framed w s e input w' s' asks stays t (Ok answers.Drawn) h =
     let tree : w'.tree ≡ played_tree w.tree (play w.tree e) = t ∙ sym stays in
     Drew input refl refl asks h.running (λ i. record { tree = tree i; renderer = renderer i }) h.bytes h.broken
 framed w s e input w' s' asks stays t (Err refusals.Memory) h = Kept refl (λ i. record { tree = t i; renderer = h.renderer i }) h.screen
+framed w s e input w' s' asks stays t (Err refusals.TooManyMessages) h = absurd h
 framed w s e input w' s' asks stays t (Err refusals.Gone) h = absurd h
 framed w s e input w' s' asks stays t (Err refusals.Broken) h = ⊎_elim
     (λ a. let ends : w'.renderer.ended ≡ Some refusals.Broken = ap (λ r. r.ended) a.renderer ∙ a.ended in
@@ -68,6 +70,7 @@ framed w s e input w' s' asks stays t (Err refusals.Broken) h = ⊎_elim
 
 pub step_did : (w : SessionState) (s : Taken) (e : Event) (r : Reply) (w' : SessionState) (s' : Taken) → Steps w s e r w' s' → Did w s e r w' s'
 step_did w s (events.AddChild parent name id) r w' s' h = other w s (events.AddChild parent name id) r w' s' refl h
+step_did w s (events.Drop n) r w' s' h = other w s (events.Drop n) r w' s' refl h
 step_did w s (events.Init n max) r w' s' h = other w s (events.Init n max) r w' s' refl h
 step_did w s (events.Set n step) r w' s' h = other w s (events.Set n step) r w' s' refl h
 step_did w s events.Snapshot r w' s' h = other w s events.Snapshot r w' s' refl h
@@ -80,6 +83,7 @@ true_is_not_false b t f = cc
 -- whether a frame is asked for is told by the event alone
 asks_alike : (v w : SessionState) (e : Event) (r : Reply) → AllBroken (shot_of (option_map (frame_at v.renderer) (input_at v e)) r) → AllBroken (shot_of (option_map (frame_at w.renderer) (input_at w e)) r)
 asks_alike v w (events.AddChild parent name id) r h = h
+asks_alike v w (events.Drop n) r h = h
 asks_alike v w (events.Init n max) r h = h
 asks_alike v w (events.Set n step) r h = h
 asks_alike v w events.Snapshot r h = h
@@ -159,6 +163,7 @@ broken_run (e ∷ es) (r ∷ rs) w s w' s' h b = broken_step es rs w s s' h.0 h.
 body_widths-widths_of : (standing : List Line) (b : Body) → body_widths (widths_of standing) b ≡ widths_of (body_leaves standing b)
 body_widths-widths_of standing Quiet = refl
 body_widths-widths_of standing (Draws lines) = refl
+body_widths-widths_of standing (Closes ending) = refl
 
 frame_widths-widths_of : (standing : List Line) (f : Frame) → frame_widths (widths_of standing) f ≡ widths_of (frame_leaves standing f)
 frame_widths-widths_of standing f =

@@ -91,12 +91,12 @@ strictly_sorted key xs s d =
     subst (IsStrictlySortedBy path_cmp) (dedup_distinct (map key xs) d) (IsStrictlySortedBy-dedup nat_list_cmp_total texts_ties (map key xs) (sorted_keys key xs s))
 
 -- an update by one test of the keys is one by the other
-pub update_by_eq : {X : Type 0} (es fs : List (Path × X)) (k : Path) (w : X)
-    → ((q : Path) → lookup (pointwise nat_eq q) fs ≡ cond (pointwise nat_eq k q) (Some w) (lookup (pointwise nat_eq q) es))
-    → (q : Path) → lookup (is_at (path_cmp q)) fs ≡ cond (is_at (path_cmp k) q) (Some w) (lookup (is_at (path_cmp q)) es)
+pub update_by_eq : {X : Type 0} (es fs : List (Path × X)) (k : Path) (w : Option X)
+    → ((q : Path) → lookup (pointwise nat_eq q) fs ≡ cond (pointwise nat_eq k q) w (lookup (pointwise nat_eq q) es))
+    → (q : Path) → lookup (is_at (path_cmp q)) fs ≡ cond (is_at (path_cmp k) q) w (lookup (is_at (path_cmp q)) es)
 update_by_eq es fs k w h q =
-    sym (lookup_by_eq fs q) ∙ h q ∙ ap (λ b. cond b (Some w) (lookup (pointwise nat_eq q) es)) (texts_ties k q)
-    ∙ ap (λ o. cond (is_at (path_cmp k) q) (Some w) o) (lookup_by_eq es q)
+    sym (lookup_by_eq fs q) ∙ h q ∙ ap (λ b. cond b w (lookup (pointwise nat_eq q) es)) (texts_ties k q)
+    ∙ ap (λ o. cond (is_at (path_cmp k) q) w o) (lookup_by_eq es q)
 
 keys-rows_of : (rows : List Row) → keys_of (rows_of rows) ≡ map (λ r. r.key) rows
 keys-rows_of [] = refl

@@ -10,7 +10,7 @@ use Rattle.std.specs.List.Sorted.{IsStrictlySortedBy}
 use Rattle.std.specs.declared.cmp.Ordering.TheVariants.{Less}
 use Rattle.std.specs.FinMap.Entries.{below_all, is_sorted}
 use Rattle.std.specs.Map.{keys_of}
-use Rattle.std.specs.FinMap.{entries, from_sorted, entries-from_sorted, get-from_sorted, find, get, insert, from_entries, get-from_entries, get-insert, same_map, slice_cmp-IsAntisymmetric, nat_cmp-IsAntisymmetric}
+use Rattle.std.specs.FinMap.{entries, from_sorted, entries-from_sorted, get-from_sorted, find, get, insert, remove, from_entries, get-from_entries, get-insert, get-remove, same_map, slice_cmp-IsAntisymmetric, nat_cmp-IsAntisymmetric}
 use Rattle.std.specs.BTreeMap.{is_at}
 use Rattle.std.specs.Map.{lookup}
 use Rattle.prodash_base.specs.Path.{Path, path_cmp}
@@ -45,6 +45,22 @@ table_of-update es fs k w h = same_map nat_list_cmp_total (slice_cmp-IsAntisymme
     get-table_of fs q ∙ ap (option_map entry_of) (h q) ∙ map_cond entry_of (is_at (path_cmp k) q) (Some w) (task_at es q)
     ∙ ap (λ b. cond b (Some (entry_of w)) (option_map entry_of (task_at es q))) ((eq_by_cmp_equiv nat_list_cmp_total).symm k q)
     ∙ sym (get-insert nat_list_cmp_total (table_of es) k (entry_of w) q ∙ ap (cond (eq_by_cmp path_cmp q k) (Some (entry_of w))) (get-table_of es q)))
+
+-- no task at one path
+pub table_of-remove : {C : Type 0} (es fs : List (Path × Task C)) (k : Path)
+    → ((q : Path) → task_at fs q ≡ cond (is_at (path_cmp k) q) None (task_at es q)) → table_of fs ≡ remove (table_of es) k
+table_of-remove es fs k h = same_map nat_list_cmp_total (slice_cmp-IsAntisymmetric nat_cmp-IsAntisymmetric) _ _ (λ q.
+    get-table_of fs q ∙ ap (option_map entry_of) (h q) ∙ map_cond entry_of (is_at (path_cmp k) q) None (task_at es q)
+    ∙ ap (λ b. cond b None (option_map entry_of (task_at es q))) ((eq_by_cmp_equiv nat_list_cmp_total).symm k q)
+    ∙ sym (get-remove nat_list_cmp_total (table_of es) k q ∙ ap (cond (eq_by_cmp path_cmp q k) None) (get-table_of es q)))
+
+is_some-map : {A B : Type 0} (f : A → B) (o : Option A) → is_some (option_map f o) ≡ is_some o
+is_some-map f None = refl
+is_some-map f (Some a) = refl
+
+-- the table has a path where a task is there
+pub is_some-table_of : {C : Type 0} (es : List (Path × Task C)) (k : Path) → is_some (get (table_of es) k) ≡ is_some (task_at es k)
+is_some-table_of es k = ap is_some (get-table_of es k) ∙ is_some-map entry_of (task_at es k)
 
 pub is_some-none : {C : Type 0} (es : List (Path × Task C)) (k : Path) → None ≡ task_at es k → is_some (get (table_of es) k) ≡ false
 is_some-none es k h = ap is_some (get-table_of es k ∙ ap (option_map entry_of) (sym h))

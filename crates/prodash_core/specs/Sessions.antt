@@ -11,7 +11,7 @@ use Rattle.prodash_line.specs.Renderer.{Renderer, Renders, fresh}
 use Rattle.prodash_line.specs.Screens.{Taken}
 use Rattle.prodash_core.specs.Trees.{Tree, opening_tree, tree_rows, play, takes_memory}
 use Rattle.prodash_core.specs.declared.tree.event.Event.{Event}
-use Rattle.prodash_core.specs.declared.tree.event.Event.TheVariants.{AddChild, Init, Set, Snapshot, Tick}
+use Rattle.prodash_core.specs.declared.tree.event.Event.TheVariants.{AddChild, Drop, Init, Set, Snapshot, Tick}
 use Rattle.prodash_core.specs.declared.tree.event.Reply.{Reply}
 use Rattle.prodash_core.specs.declared.tree.event.Reply.TheVariants as replies
 
@@ -26,6 +26,7 @@ opening options = record { tree = opening_tree; renderer = fresh options }
 -- what a frame asks of the renderer; other events ask nothing
 abbrev pub input_at : SessionState → Event → Option Input
 input_at w (AddChild parent name id) = None
+input_at w (Drop n) = None
 input_at w (Init n max) = None
 input_at w (Set n step) = None
 input_at w Snapshot = None

@@ -7,7 +7,7 @@ use Rattle.prodash_base.specs.declared.refusal.Refusal.{Refusal}
 use Rattle.prodash_base.specs.declared.refusal.Refusal.TheVariants as refusals
 use Rattle.prodash_core.specs.Tables.{Table, rows_at}
 use Rattle.prodash_core.specs.declared.tree.event.Event.{Event}
-use Rattle.prodash_core.specs.declared.tree.event.Event.TheVariants.{AddChild, Init, Set, Snapshot, Tick}
+use Rattle.prodash_core.specs.declared.tree.event.Event.TheVariants.{AddChild, Drop, Init, Set, Snapshot, Tick}
 use Rattle.prodash_core.specs.declared.tree.event.Reply.{Reply}
 use Rattle.prodash_core.specs.declared.tree.event.Reply.TheVariants as replies
 
@@ -70,6 +70,10 @@ add_child t n h name id = record t {
   handles = slice_set t.handles n (next_child h) ++ new_handle (child h.path h.children) ∷ [];
 }
 
+-- the tree without the entry of the handle h, whose number is n and which lives no more; what stands below it stays
+abbrev pub drop_item : Tree → ℕ → Handle → Tree
+drop_item t n h = record t { table = finite.remove t.table h.path; handles = slice_set t.handles n (record h { lives = false }) }
+
 -- the counter of the handle h, whose number is n
 abbrev pub set_counter : Tree → ℕ → Handle → ℕ → Tree
 set_counter t n h step = record t { handles = slice_set t.handles n (record h { counter = step }) }
@@ -95,6 +99,7 @@ for_handle (Some h) f = Ok (f h)
 -- the tree after an event, and the reply; or the refusal. A frame leaves the tree as it is
 abbrev pub play : Tree → Event → Result (Tree × Reply) Refusal
 play t (AddChild parent name id) = for_handle (living t parent) (λ h. (add_child t parent h name id, replies.Made (length t.handles)))
+play t (Drop n) = for_handle (item t n) (λ h. (drop_item t n h, replies.Done))
 play t (Init n max) = for_handle (item t n) (λ h. (init t n h max, replies.Done))
 play t (Set n step) = for_handle (item t n) (λ h. (set_counter t n h step, replies.Done))
 play t Snapshot = for_handle (living t 0) (λ root. (t, replies.Rows (tree_rows t)))
@@ -103,6 +108,7 @@ play t (Tick at show) = Ok (t, replies.Drawn)
 -- is it a frame?
 abbrev pub is_frame : Event → Bool
 is_frame (AddChild parent name id) = false
+is_frame (Drop n) = false
 is_frame (Init n max) = false
 is_frame (Set n step) = false
 is_frame Snapshot = false
@@ -111,6 +117,7 @@ is_frame (Tick at show) = true
 -- may it be refused memory?
 abbrev pub takes_memory : Event → Bool
 takes_memory (AddChild parent name id) = true
+takes_memory (Drop n) = false
 takes_memory (Init n max) = false
 takes_memory (Set n step) = false
 takes_memory Snapshot = true

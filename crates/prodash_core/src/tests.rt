@@ -10,6 +10,7 @@ use std::test::Fail;
 #[derive(Clone, Copy)]
 enum Told {
     Add(u64, &'static str),
+    Drop(u64),
     Init(u64, u64),
     Set(u64, u64),
     Show,
@@ -17,7 +18,7 @@ enum Told {
     Rows,
 }
 
-use Told::{Add, Hold, Init, Rows, Set, Show};
+use Told::{Add, Drop, Hold, Init, Rows, Set, Show};
 
 fn event_of(alloc: Global, told: &Told) -> Result<Event, AllocError> {
     Ok(match *told {
@@ -26,6 +27,7 @@ fn event_of(alloc: Global, told: &Told) -> Result<Event, AllocError> {
             name: Text::from_str(alloc, name)?,
             id: UNKNOWN,
         },
+        Drop(item) => Event::Drop { item },
         Init(item, max) => Event::Init {
             item,
             max: Some(max),
@@ -64,7 +66,7 @@ struct Row {
     bytes: &'static [u8],
 }
 
-const ROWS: [Row; 7] = [
+const ROWS: [Row; 8] = [
     Row {
         columns: 40,
         script: &ONE_TASK,
@@ -113,6 +115,23 @@ const ROWS: [Row; 7] = [
         columns: 40,
         script: &[Add(0, "task"), Init(1, 10), Hold, Show, Set(1, 3), Show],
         bytes: ONE_TASK_DRAWN,
+    },
+    // a dropped item's row goes, those below it stay, and the next child takes the next place
+    Row {
+        columns: 40,
+        script: &[
+            Add(0, "a"),
+            Add(1, "b"),
+            Show,
+            Drop(1),
+            Show,
+            Add(0, "c"),
+            Show,
+            Drop(2),
+            Drop(3),
+            Show,
+        ],
+        bytes: b" a\n  b\n\x1b[2A  b\n   \n\x1b[2A  b\n c\n\x1b[2A   \n  \n\x1b[2A",
     },
 ];
 
@@ -224,7 +243,7 @@ fn applies_one_event_after_another(rt: HostRuntime) -> Result<(), Fail> {
 }
 
 #[test]
-fn refuses_handles_that_were_not_made(rt: HostRuntime) -> Result<(), Fail> {
+fn refuses_handles_that_do_not_live(rt: HostRuntime) -> Result<(), Fail> {
     let script = [
         Set(1, 3),
         Init(1, 10),
@@ -233,6 +252,12 @@ fn refuses_handles_that_were_not_made(rt: HostRuntime) -> Result<(), Fail> {
         Init(0, 10),
         Add(0, "a"),
         Set(2, 1),
+        Drop(2),
+        Drop(0),
+        Drop(1),
+        Drop(1),
+        Set(1, 3),
+        Add(1, "below"),
     ];
     let events = events_of(rt.alloc(), &script)?;
     let mut screen = MemoryScreen::new(rt.alloc(), 0)?;
@@ -241,7 +266,8 @@ fn refuses_handles_that_were_not_made(rt: HostRuntime) -> Result<(), Fail> {
         match reply {
             Reply::Made(handle) => assert_eq!(rt; (i, *handle), (5, 1)),
             Reply::Refused(refusal) => assert_eq!(rt; *refusal, Refusal::Gone),
-            Reply::Done | Reply::Rows(_) | Reply::Drawn => panic!(rt; "at {i}"),
+            Reply::Done => assert_eq!(rt; i, 9),
+            Reply::Rows(_) | Reply::Drawn => panic!(rt; "at {i}"),
         }
     }
     Ok(())

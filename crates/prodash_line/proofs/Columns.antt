@@ -1,12 +1,14 @@
 -- The columns of lines.
-use Rattle.std.proofs.Common.{◌≡◌, ℕ, zero, suc, ◌+◌, ◌≤◌, true, false, ◌&&◌, ◌-◌, List, [], ◌∷◌, ◌++◌, replicate, refl, ap, ◌∙◌, arith}
+use Rattle.std.proofs.Common.{◌≡◌, ℕ, zero, suc, ◌+◌, ◌≤◌, Bool, true, false, cond, not, ◌&&◌, ◌-◌, List, [], ◌∷◌, ◌++◌, replicate, refl, ap, ◌∙◌, arith}
 use Rattle.std.specs.Prelude.{codes}
 use Rattle.std.specs.List.{list_all}
 use Rattle.std.specs.Int.{is_in_range}
 use Rattle.std.proofs.lemmas.Bool.Decides.{nat_tests}
 use Rattle.std.proofs.lemmas.List.{length-replicate}
 use Rattle.std.proofs.lemmas.List.Sums.{sum_by-append}
-use Rattle.unicode_width.specs.Width.{str_width}
+use Rattle.unicode_width.proofs.Computing.{unicode_width}
+use Rattle.unicode_width.specs.declared.state.State.{State}
+use Rattle.unicode_width.specs.Width.{plain, step, read_before, str_width}
 use Rattle.unicode_width.proofs.Rules.{str_width-printable}
 use Rattle.prodash_line.specs.ProgressRows.{bar_with}
 use Rattle.prodash_line.specs.Lines.{Line, piece, spaces, capped, width_of, columns_of}
@@ -27,6 +29,25 @@ all_printable (suc n) c h = ap (λ b. b && list_all (is_in_range 0x20 0x7E) (rep
 
 pub width-repeated : (n c : ℕ) → 32 ≤ c → c ≤ 126 → str_width false (replicate n c) ≡ n
 width-repeated n c low high = str_width-printable false (replicate n c) (all_printable n c (printable c low high)) ∙ length-replicate n c
+
+same_cond : {A : Type 0} (b : Bool) (x : A) → cond b x x ≡ x
+same_cond true x = refl
+same_cond false x = refl
+
+-- a space takes a column, whatever follows it
+step_space : (total : ℕ) (s : State) → step false 32 (total, s) ≡ (total + 1, plain)
+unfolding unicode_width
+step_space total s = same_cond (not s.emoji) (total + 1, plain)
+
+-- spaces before a text
+pub width-indented : (n : ℕ) (text : List ℕ) → str_width false (replicate n 32 ++ text) ≡ n + str_width false text
+unfolding str_width
+width-indented zero text = omega arith
+width-indented (suc n) text =
+    let r = read_before false (replicate n 32 ++ text) (0, plain) in
+    let here : (step false 32 r).0 ≡ r.0 + 1 = ap (λ q. q.0) (step_space r.0 r.1) in
+    let others : r.0 ≡ n + str_width false text = width-indented n text in
+    omega arith
 
 -- a printable ASCII character so many times
 pub columns_of-repeated : (n c : ℕ) → 32 ≤ c → c ≤ 126 → n ≤ 65535 → columns_of (piece (replicate n c) ∷ []) ≡ n

@@ -2,12 +2,14 @@
 use Rattle.std.proofs.Common.{◌≡◌, ℕ, zero, suc, ◌+◌, ◌-◌, ◌^◌, ◌<◌, ◌≤◌, List, [], ◌∷◌, ◌++◌, length, drop, map, refl, sym, ap, subst, ◌∙◌, append_assoc, length-append, length-drop, arith}
 use Rattle.std.specs.Prelude.{replicate, min, max}
 use Rattle.std.specs.List.{AllByRecursion}
-use Rattle.std.proofs.lemmas.List.{append-nil, drop_all, length-replicate, length-map, map-append, drop-map}
+use Rattle.std.proofs.lemmas.List.{append-nil, drop_all, length-replicate, length-map, map-append, drop-map, set_at}
+use Rattle.prodash_line.specs.declared.render.line.page.sign.Sign.{Sign}
+use Rattle.prodash_line.specs.declared.render.line.page.sign.Sign.TheVariants.{CarriageReturn, EraseLine}
 use Rattle.prodash_line.specs.Lines.{Line, columns_of}
 use Rattle.prodash_line.specs.Frames.{cover, widths_of, up, redraw, Body, Frame, body_signs, frame_signs, body_leaves, frame_leaves, signs_of, standing_after, printed}
-use Rattle.prodash_line.specs.Page.{Canvas, page_after}
+use Rattle.prodash_line.specs.Page.{Canvas, blank, page_after}
 use Rattle.prodash_line.specs.Shows.{shown, Stand, Shows}
-use Rattle.prodash_line.specs.Fits.{LineFits, LinesFit, BodyFits, FrameFits}
+use Rattle.prodash_line.specs.Fits.{LineFits, LinesFit, IsEnding, BodyFits, FrameFits}
 use Rattle.prodash_line.proofs.Lists.{AllByRecursion-append, AllByRecursion-replicate, AllByRecursion-drop}
 use Rattle.prodash_line.proofs.CursorRow.{at, page_after-append}
 use Rattle.prodash_line.proofs.Covers.{rows_after, length-rows_after, Stand-rows_after, cover_at}
@@ -72,6 +74,25 @@ redrawn_stands columns height standing lines below h i fits hs hl =
     let blanks : Stand columns [] (rows_after columns (length all) below) = subst (λ (s : List Line). Stand columns s (rows_after columns (length all) below)) (drop_all (length all) standing (omega arith)) (Stand-rows_after columns (length all) standing below i h) in
     (Stand-lines columns n lines (rows_after columns (length all) below) blanks, omega arith, omega arith)
 
+-- signs that end change nothing where the cursor's row is blank
+pub ending_at : (signs : List Sign) (columns height : ℕ) (above below : List (List ℕ)) → AllByRecursion IsEnding signs
+    → page_after signs (at columns height above (blank columns ∷ below)) ≡ at columns height above (blank columns ∷ below)
+ending_at [] columns height above below h = refl
+ending_at (CarriageReturn ∷ ss) columns height above below h = ending_at ss columns height above below h.1
+ending_at (EraseLine ∷ ss) columns height above below h =
+    ap (λ (rows : List (List ℕ)). page_after ss (record { columns = columns; height = height; rows = rows; row = length above; column = 0 })) (set_at above (blank columns) below (blank columns) (length above) refl)
+    ∙ ending_at ss columns height above below h.1
+ending_at (_ ∷ ss) columns height above below h = absurd h.0
+
+-- nor where nothing stands
+pub ending_stands : (signs : List Sign) (columns height : ℕ) (above below : List (List ℕ)) → AllByRecursion IsEnding signs → Stand columns [] below → 0 < length below
+    → page_after signs (at columns height above below) ≡ at columns height above below
+ending_stands signs columns height above [] h s i = absurd (omega arith)
+ending_stands signs columns height above (row ∷ below) h s i =
+    ap (λ (r : List ℕ). page_after signs (at columns height above (r ∷ below))) s.0
+    ∙ ending_at signs columns height above below h
+    ∙ ap (λ (r : List ℕ). at columns height above (r ∷ below)) (sym s.0)
+
 -- What each frame keeps: the rows above are as they were, the lines stand below, and the window begins no later.
 pub record Home (columns height : ℕ) (above : List (List ℕ)) (standing : List Line) (p : Canvas) : Type 0 where
   pub below : List (List ℕ)
@@ -96,6 +117,20 @@ Home-body columns height above standing p (Body.Draws lines) w h f =
       window = after.2;
       fit = f.0;
       few = f.1;
+    }
+Home-body columns height above standing p (Body.Closes ending) w h f =
+    let few : 0 < height = omega (arith, h.few) in
+    let after = redrawn_stands columns height standing [] h.below h.stand h.inside h.window h.few few in
+    record {
+      below = redrawn columns standing [] h.below;
+      is = page_after-append (redraw (widths_of standing) []) ending p
+          ∙ ap (page_after ending) (ap (page_after (redraw (widths_of standing) [])) h.is ∙ redraw_at columns height standing [] above h.below h.fit tt h.few few w h.stand h.inside h.window)
+          ∙ ending_stands ending columns height above (redrawn columns standing [] h.below) f after.0 after.1;
+      stand = after.0;
+      inside = after.1;
+      window = after.2;
+      fit = tt;
+      few = few;
     }
 
 -- messages come below the rows above, and the lines that stood in their rows no longer stand

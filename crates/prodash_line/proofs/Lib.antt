@@ -3,6 +3,7 @@ pub mod Written
 pub mod Columns
 pub mod RowLines
 pub mod Joining
+pub mod MessageLines
 pub mod Chars
 pub mod Covers
 pub mod CursorRow

@@ -11,7 +11,7 @@ use Rattle.std.proofs.lemmas.List.{take_at, get_or_at, append_cancel_left}
 use Rattle.std.proofs.lemmas.Str.{encode_same, char_from_byte, length-encode, len_utf8_bounds}
 use Rattle.std.proofs.lemmas.Bool.Decides.{nat_tests}
 use Rattle.prodash_line.specs.declared.render.line.page.sign.Sign.{Sign}
-use Rattle.prodash_line.specs.declared.render.line.page.sign.Sign.TheVariants.{Char, LineFeed, Up, EraseLine}
+use Rattle.prodash_line.specs.declared.render.line.page.sign.Sign.TheVariants.{Char, LineFeed, CarriageReturn, Up, EraseLine}
 use Rattle.prodash_line.specs.Signs.{spelling_of, spelling, IsProper}
 use Rattle.prodash_line.specs.Reading.{is_parameter, NoSignAt, AreProper}
 
@@ -22,7 +22,7 @@ candidate parameters final_byte = cond (final_byte == 65) (Up (digits_value 10 p
 -- the sign other than a character that stands at the front, if one does
 abbrev pub unspell : List ℕ → Sign
 unspell [] = LineFeed
-unspell (b ∷ bytes) = cond (b == 10) LineFeed (candidate (take (prefix_len is_parameter (drop 1 bytes)) (drop 1 bytes)) (get_or (drop 1 bytes) (prefix_len is_parameter (drop 1 bytes)) 0))
+unspell (b ∷ bytes) = cond (b == 10) LineFeed (cond (b == 13) CarriageReturn (candidate (take (prefix_len is_parameter (drop 1 bytes)) (drop 1 bytes)) (get_or (drop 1 bytes) (prefix_len is_parameter (drop 1 bytes)) 0)))
 
 -- a sign that is no character
 abbrev pub IsOther : Sign → Type 0
@@ -47,6 +47,7 @@ digits_parameters (c ∷ p) h = (digit_parameter c h.0, digits_parameters p h.1)
 pub unspell_other : (s : Sign) (x : List ℕ) → IsOther s → IsProper s → unspell (spelling_of s ++ x) ≡ s
 unspell_other (Char c) x o p = absurd o
 unspell_other LineFeed x o p = refl
+unspell_other CarriageReturn x o p = refl
 unspell_other (Up n) x o p =
     let numeral = decimal_is_IsNumeral n (omega arith) in
     let text : (decimal n ++ 65 ∷ []) ++ x ≡ decimal n ++ 65 ∷ x = append_assoc (decimal n) (65 ∷ []) x in

@@ -2,12 +2,13 @@
 use Rattle.std.proofs.Common.{ℕ, zero, suc, ◌-◌, List, [], ◌∷◌, length, map, drop, refl, arith}
 use Rattle.std.specs.Prelude.{max, replicate}
 use Rattle.std.specs.List.{AllByRecursion}
-use Rattle.prodash_line.specs.declared.render.line.page.sign.Sign.TheVariants.{Char, LineFeed}
+use Rattle.prodash_line.specs.declared.render.line.page.sign.Sign.{Sign}
+use Rattle.prodash_line.specs.declared.render.line.page.sign.Sign.TheVariants.{Char, LineFeed, CarriageReturn, EraseLine}
 use Rattle.prodash_line.specs.Signs.{IsProper}
 use Rattle.prodash_line.specs.Lines.{Line, spaces, columns_of}
 use Rattle.prodash_line.specs.Frames.{piece_signs, line_signs, part, cover, first, up, redraw, widths_of, Body, Frame, body_signs, frame_signs, frame_leaves, signs_of}
 use Rattle.prodash_line.specs.Reading.{AreProper}
-use Rattle.prodash_line.specs.Fits.{IsPlainChar, IsPlainPiece, LineFits, LinesFit, BodyFits, FrameFits}
+use Rattle.prodash_line.specs.Fits.{IsPlainChar, IsPlainPiece, LineFits, LinesFit, IsEnding, BodyFits, FrameFits}
 use Rattle.prodash_line.proofs.Lists.{AllByRecursion-append, AllByRecursion-replicate, AllByRecursion-map}
 use Rattle.prodash_line.proofs.FramesOnPage.{LineFits-empty}
 
@@ -46,10 +47,18 @@ redraw_proper columns widths lines h = AllByRecursion-append IsProper _ _
     (cover_proper columns widths _ (AllByRecursion-append (LineFits columns) lines _ h (AllByRecursion-replicate (LineFits columns) (length widths - length lines) [] (LineFits-empty columns))))
     (up_proper (max (length lines) (length widths)))
 
+-- of signs that end
+pub ending_proper : (s : Sign) → IsEnding s → IsProper s
+ending_proper CarriageReturn h = tt
+ending_proper EraseLine h = tt
+ending_proper _ h = absurd h
+
 -- of what a frame does after its messages
 pub body_proper : (columns height : ℕ) (widths : List ℕ) (b : Body) → BodyFits columns height b → AreProper (body_signs widths b)
 body_proper columns height widths Body.Quiet h = tt
 body_proper columns height widths (Body.Draws lines) h = redraw_proper columns widths lines h.0
+body_proper columns height widths (Body.Closes ending) h =
+    AllByRecursion-append IsProper (redraw widths []) ending (redraw_proper columns widths [] tt) (AllByRecursion-map IsEnding IsProper ending ending_proper h)
 
 -- of a frame
 pub frame_proper : (columns height : ℕ) (widths : List ℕ) (f : Frame) → FrameFits columns height f → AreProper (frame_signs widths f)

@@ -6,7 +6,7 @@ use lib.Pointwise.{pointwise}
 use Rattle.std.proofs.lemmas.Bool.{both_ways}
 use Rattle.std.proofs.lemmas.List.{same_from_push, append-nil}
 use Rattle.std.proofs.lemmas.Str.{char_from_byte}
-use Rattle.prodash_line.specs.declared.render.line.page.sign.Sign.TheVariants.{Char, LineFeed, Up, EraseLine}
+use Rattle.prodash_line.specs.declared.render.line.page.sign.Sign.TheVariants.{Char, LineFeed, CarriageReturn, Up, EraseLine}
 use Rattle.prodash_line.specs.Signs.{sequence}
 use Rattle.prodash_line.specs.Reading.{MakesNone}
 
@@ -29,5 +29,6 @@ makes_none parameters final_byte h (Char c) p e =
     let same : c ≡ 27 = char_from_byte (sequence parameters final_byte) [] c (sym e ∙ sym (append-nil (encode_utf8 c))) (omega arith) (omega arith) in
     both_ways (is_control c) p.1 (ap is_control same)
 makes_none parameters final_byte h LineFeed p e = omega (arith, ap (λ (t : List ℕ). get_or t 0 0) e)
+makes_none parameters final_byte h CarriageReturn p e = omega (arith, ap (λ (t : List ℕ). get_or t 0 0) e)
 makes_none parameters final_byte h (Up n) p e = let s = same_sequence (decimal n) parameters 65 final_byte e in h.up (sym s.1) n p.0 p.1 s.0
 makes_none parameters final_byte h EraseLine p e = let s = same_sequence (50 ∷ []) parameters 75 final_byte e in h.erase (sym s.1) (sym s.0)

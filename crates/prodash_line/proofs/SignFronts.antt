@@ -8,7 +8,7 @@ use Rattle.std.proofs.lemmas.Fmt.{decimal_is_IsNumeral}
 use Rattle.std.proofs.lemmas.List.{take-append-drop, take_at, get_or_at, length-take-le, append-nil, nil_from_length}
 use Rattle.std.proofs.lemmas.Str.{char_from_byte, encode_same}
 use Rattle.prodash_line.specs.declared.render.line.page.sign.Sign.{Sign}
-use Rattle.prodash_line.specs.declared.render.line.page.sign.Sign.TheVariants.{Char, LineFeed, Up, EraseLine}
+use Rattle.prodash_line.specs.declared.render.line.page.sign.Sign.TheVariants.{Char, LineFeed, CarriageReturn, Up, EraseLine}
 use Rattle.prodash_line.specs.Signs.{spelling_of, spelling, sequence, IsProper}
 use Rattle.prodash_line.specs.Reading.{is_parameter, MakesNone, NoSequenceAt, NoSignAt, AreProper, IsLongestFront}
 use Rattle.prodash_line.proofs.OneSpelling.{prefix_parameters, digits_parameters, spells_something, longest_front, one_spelling}
@@ -37,6 +37,7 @@ stands (Char c) bytes rest p e =
     let same : c ≡ 27 = char_from_byte (27 ∷ 91 ∷ bytes) rest c e (omega arith) (omega arith) in
     absurd (both_ways (is_control c) p.1 (ap is_control same))
 stands LineFeed bytes rest p e = absurd (omega (arith, ap (λ (t : List ℕ). get_or t 0 0) e))
+stands CarriageReturn bytes rest p e = absurd (omega (arith, ap (λ (t : List ℕ). get_or t 0 0) e))
 stands (Up n) bytes rest p e = let numeral = decimal_is_IsNumeral n (omega arith) in stand (decimal n) 65 (Up n) bytes rest refl (digits_parameters (decimal n) numeral.0.1) refl e
 stands EraseLine bytes rest p e = stand (50 ∷ []) 75 EraseLine bytes rest refl (refl, tt) refl e
 
@@ -55,12 +56,13 @@ none_made bytes len l none s rest p e =
     let last : get_or bytes len 0 ≡ there.final_byte = ap (λ (t : List ℕ). get_or t len 0) there.whole ∙ get_or_at there.parameters there.final_byte rest 0 len size in
     none s p (there.is ∙ ap (λ (t : List ℕ). sequence t there.final_byte) (sym front) ∙ ap (sequence (take len bytes)) (sym last))
 
--- where no line feed, sequence or character that isn't a control character stands, no sign does
-pub no_sign : (bytes : List ℕ) → get_or bytes 0 0 ≢ 10 → (get_or bytes 0 0 ≡ 27 → get_or bytes 1 0 ≢ 91)
+-- where no line feed, carriage return, sequence or character that isn't a control character stands, no sign does
+pub no_sign : (bytes : List ℕ) → get_or bytes 0 0 ≢ 10 → get_or bytes 0 0 ≢ 13 → (get_or bytes 0 0 ≡ 27 → get_or bytes 1 0 ≢ 91)
     → ((c : ℕ) (rest : List ℕ) → IsScalar c → is_control c ≡ false → bytes ≡ encode_utf8 c ++ rest → ⊥) → NoSignAt bytes
-no_sign bytes feed seq char (Char c) rest p e = char c rest p.0 p.1 e
-no_sign bytes feed seq char LineFeed rest p e = feed (ap (λ (t : List ℕ). get_or t 0 0) e)
-no_sign bytes feed seq char _ rest p e = seq (ap (λ (t : List ℕ). get_or t 0 0) e) (ap (λ (t : List ℕ). get_or t 1 0) e)
+no_sign bytes feed return seq char (Char c) rest p e = char c rest p.0 p.1 e
+no_sign bytes feed return seq char LineFeed rest p e = feed (ap (λ (t : List ℕ). get_or t 0 0) e)
+no_sign bytes feed return seq char CarriageReturn rest p e = return (ap (λ (t : List ℕ). get_or t 0 0) e)
+no_sign bytes feed return seq char _ rest p e = seq (ap (λ (t : List ℕ). get_or t 0 0) e) (ap (λ (t : List ℕ). get_or t 1 0) e)
 
 -- no sign stands at the front of no bytes
 pub none_empty : (bytes : List ℕ) → length bytes ≡ 0 → NoSignAt bytes
@@ -68,12 +70,12 @@ none_empty bytes h s rest p e = omega (arith, ap length e, length-append (spelli
 
 -- nor behind an escape that no bracket follows
 pub no_escape : (bytes : List ℕ) → 0 < length bytes → get_or bytes 0 0 ≡ 27 → get_or bytes 1 0 ≢ 91 → NoSignAt bytes
-no_escape bytes some first second = no_sign bytes (λ e. omega arith) (λ e. second) (λ c rest scalar plain e.
+no_escape bytes some first second = no_sign bytes (λ e. omega arith) (λ e. omega arith) (λ e. second) (λ c rest scalar plain e.
     both_ways (is_control c) plain (ap is_control (char_from_byte bytes rest c e (omega arith) some ∙ first)))
 
 -- nor where another control character stands
-pub no_control : (bytes rest : List ℕ) (c : ℕ) → get_or bytes 0 0 ≢ 10 → get_or bytes 0 0 ≢ 27 → bytes ≡ encode_utf8 c ++ rest → is_control c ≡ true → NoSignAt bytes
-no_control bytes rest c feed escape stands control = no_sign bytes feed (λ e. absurd (escape e)) (λ d others scalar plain e.
+pub no_control : (bytes rest : List ℕ) (c : ℕ) → get_or bytes 0 0 ≢ 10 → get_or bytes 0 0 ≢ 13 → get_or bytes 0 0 ≢ 27 → bytes ≡ encode_utf8 c ++ rest → is_control c ≡ true → NoSignAt bytes
+no_control bytes rest c feed return escape stands control = no_sign bytes feed return (λ e. absurd (escape e)) (λ d others scalar plain e.
     both_ways (is_control d) plain (ap is_control (encode_same d c others rest (sym e ∙ stands)).0 ∙ control))
 
 -- behind a sign fewer bytes are left

@@ -5,7 +5,8 @@ use Rattle.unicode_width.specs.Width.{char_width}
 use Rattle.prodash_line.specs.Signs.{IsProper}
 use Rattle.prodash_line.specs.Lines.{Piece, Line, width_of, columns_of, line_text}
 use Rattle.prodash_line.specs.Frames.{Body, Frame}
-use Rattle.prodash_line.specs.declared.render.line.page.sign.Sign.TheVariants.{Char}
+use Rattle.prodash_line.specs.declared.render.line.page.sign.Sign.{Sign}
+use Rattle.prodash_line.specs.declared.render.line.page.sign.Sign.TheVariants.{Char, CarriageReturn, EraseLine}
 
 -- a character that isn't a control character, one column wide
 pub record IsPlainChar (c : ℕ) : Type 0 where
@@ -29,10 +30,17 @@ pub record LineFits (columns : ℕ) (line : Line) : Type 0 where
 abbrev pub LinesFit : ℕ → List Line → Type 0
 LinesFit columns lines = AllByRecursion (LineFits columns) lines
 
--- lines that fit, at least one row fewer than the window has
+-- a sign that changes nothing where the cursor is at the beginning of a blank row
+abbrev pub IsEnding : Sign → Type 0
+IsEnding CarriageReturn = ⊤
+IsEnding EraseLine = ⊤
+IsEnding _ = ⊥
+
+-- lines that fit, at least one row fewer than the window has; signs that end
 abbrev pub BodyFits : ℕ → ℕ → Body → Type 0
 BodyFits columns height Body.Quiet = ⊤
 BodyFits columns height (Body.Draws lines) = LinesFit columns lines × (length lines < height)
+BodyFits columns height (Body.Closes ending) = AllByRecursion IsEnding ending
 
 pub record FrameFits (columns height : ℕ) (f : Frame) : Type 0 where
   pub messages : LinesFit columns f.messages

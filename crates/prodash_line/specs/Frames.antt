@@ -38,6 +38,8 @@ redraw widths lines = cover widths (lines ++ replicate (length widths - length l
 pub data Body : Type 0 where
   Quiet : Body
   Draws : List Line → Body
+  -- blanks what stands, goes back up, and ends with these signs
+  Closes : List Sign → Body
 
 pub record Frame : Type 0 where
   pub messages : List Line
@@ -46,6 +48,7 @@ pub record Frame : Type 0 where
 abbrev pub body_signs : List ℕ → Body → List Sign
 body_signs widths Quiet = []
 body_signs widths (Draws lines) = redraw widths lines
+body_signs widths (Closes ending) = redraw widths [] ++ ending
 
 -- the signs of a frame over the columns that stand before it
 abbrev pub frame_signs : List ℕ → Frame → List Sign
@@ -54,6 +57,7 @@ frame_signs widths f = cover widths f.messages ++ body_signs (drop (length f.mes
 abbrev pub body_leaves : List Line → Body → List Line
 body_leaves standing Quiet = standing
 body_leaves standing (Draws lines) = lines
+body_leaves standing (Closes ending) = []
 
 -- what stands after a frame: the lines that were drawn last, those taken off that a message took the place of
 abbrev pub frame_leaves : List Line → Frame → List Line
@@ -66,6 +70,7 @@ widths_of lines = map columns_of lines
 abbrev pub body_widths : List ℕ → Body → List ℕ
 body_widths widths Quiet = widths
 body_widths widths (Draws lines) = widths_of lines
+body_widths widths (Closes ending) = []
 
 -- the columns that stand after a frame
 abbrev pub frame_widths : List ℕ → Frame → List ℕ

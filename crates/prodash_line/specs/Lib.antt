@@ -2,6 +2,7 @@ pub mod Signs
 pub mod Lines
 pub mod Frames
 pub mod ProgressRows
+pub mod MessageLines
 pub mod Screens
 pub mod Renderer
 pub mod Joined

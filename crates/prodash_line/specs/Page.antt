@@ -1,7 +1,7 @@
 -- A page: all rows ever, of which the last are the window, and a cursor.
 use Rattle.std.specs.Prelude.{Bool, false, ◌&&◌, nat_le, ℕ, ◌+◌, ◌-◌, max, List, [], ◌∷◌, ◌++◌, length, replicate, slice_index_or, slice_set, nat_lt, if◌then◌else◌}
 use Rattle.prodash_line.specs.declared.render.line.page.sign.Sign.{Sign}
-use Rattle.prodash_line.specs.declared.render.line.page.sign.Sign.TheVariants.{Char, LineFeed, Up, EraseLine}
+use Rattle.prodash_line.specs.declared.render.line.page.sign.Sign.TheVariants.{Char, LineFeed, CarriageReturn, Up, EraseLine}
 
 -- a page by its columns, the height of its window, its rows from the first ever, and the cursor's row and column
 pub record Canvas : Type 0 where
@@ -39,6 +39,7 @@ put c p = record p { rows = with_char p.row p.column c p.rows; column = p.column
 abbrev pub after_sign : Sign → Canvas → Canvas
 after_sign (Char c) p = if nat_lt p.column p.columns then put c p else put c (next_row p)
 after_sign LineFeed p = next_row p
+after_sign CarriageReturn p = record p { column = 0 }
 after_sign (Up n) p = record p { row = max (length p.rows - p.height) (p.row - n) }
 after_sign EraseLine p = record p { rows = slice_set p.rows p.row (blank p.columns) }
 
@@ -46,6 +47,7 @@ after_sign EraseLine p = record p { rows = slice_set p.rows p.row (blank p.colum
 abbrev pub adds_row : Sign → Canvas → Bool
 adds_row (Char c) p = nat_le p.columns p.column && nat_le (length p.rows) (p.row + 1)
 adds_row LineFeed p = nat_le (length p.rows) (p.row + 1)
+adds_row CarriageReturn p = false
 adds_row (Up n) p = false
 adds_row EraseLine p = false
 

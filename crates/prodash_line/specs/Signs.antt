@@ -4,7 +4,7 @@ use Rattle.std.specs.List.{flat_map}
 use Rattle.std.specs.Char.{encode_utf8, IsScalar, is_control}
 use Rattle.std.specs.Fmt.{decimal}
 use Rattle.prodash_line.specs.declared.render.line.page.sign.Sign.{Sign}
-use Rattle.prodash_line.specs.declared.render.line.page.sign.Sign.TheVariants.{Char, LineFeed, Up, EraseLine}
+use Rattle.prodash_line.specs.declared.render.line.page.sign.Sign.TheVariants.{Char, LineFeed, CarriageReturn, Up, EraseLine}
 
 -- a control sequence: ESC, an opening bracket, what is asked for, and a final letter
 abbrev pub sequence : List ℕ → ℕ → List ℕ
@@ -14,6 +14,7 @@ sequence asked letter = 27 ∷ 91 ∷ asked ++ letter ∷ []
 abbrev pub spelling_of : Sign → List ℕ
 spelling_of (Char c) = encode_utf8 c
 spelling_of LineFeed = 10 ∷ []
+spelling_of CarriageReturn = 13 ∷ []
 spelling_of (Up n) = sequence (decimal n) 65
 spelling_of EraseLine = sequence (50 ∷ []) 75
 
@@ -25,5 +26,6 @@ spelling signs = flat_map spelling_of signs
 abbrev pub IsProper : Sign → Type 0
 IsProper (Char c) = IsScalar c × (is_control c ≡ false)
 IsProper LineFeed = ⊤
+IsProper CarriageReturn = ⊤
 IsProper (Up n) = (0 < n) × (n < 2 ^ 16)
 IsProper EraseLine = ⊤

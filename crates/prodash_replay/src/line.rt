@@ -26,6 +26,7 @@ pub fn event_of(alloc: Global, line: &str) -> Result<Option<Event>, AllocError> 
     };
     match word {
         "add" => add(alloc, rest),
+        "drop" => Ok(drop_item(rest)),
         "init" => Ok(init(rest)),
         "set" => Ok(set(rest)),
         "tick" => Ok(tick(rest, true)),
@@ -47,6 +48,13 @@ fn add(alloc: Global, rest: &str) -> Result<Option<Event>, AllocError> {
         name: Text::from_str(alloc, name)?,
         id: UNKNOWN,
     }))
+}
+
+/// `H`.
+fn drop_item(rest: &str) -> Option<Event> {
+    Some(Event::Drop {
+        item: number(rest)?,
+    })
 }
 
 /// `H MAX UNIT`, where the unit is none.

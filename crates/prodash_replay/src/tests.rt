@@ -64,7 +64,7 @@ const DRAWN: &[u8] = b" task 3/10 [=======>-------------------]\n\x1b[1A";
 
 const ONE_TASK: &[u8] = b"add 0 task\ninit 1 10 -\nset 1 3\ntick 0\n";
 
-const REPLAYS: [Replay; 24] = [
+const REPLAYS: [Replay; 26] = [
     Replay {
         words: BYTES,
         input: ONE_TASK,
@@ -91,6 +91,13 @@ const REPLAYS: [Replay; 24] = [
         words: BYTES,
         input: b"",
         out: b"",
+        err: b"",
+        status: 0,
+    },
+    Replay {
+        words: PAGE,
+        input: b"add 0 a\nadd 0 b\ntick 0\ndrop 1\ntick 1\n",
+        out: b" b\n\n\n\n",
         err: b"",
         status: 0,
     },
@@ -125,6 +132,13 @@ const REPLAYS: [Replay; 24] = [
         status: 1,
     },
     // lines that are no events
+    Replay {
+        words: BYTES,
+        input: b"drop 1 2\n",
+        out: b"",
+        err: b"line 1: not an event\n",
+        status: 2,
+    },
     Replay {
         words: BYTES,
         input: b"add 0 task\nfoo\n",

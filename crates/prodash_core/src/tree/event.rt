@@ -17,6 +17,11 @@ pub enum Event {
         /// Its identifier.
         id: Id,
     },
+    /// Takes an item away: its row alone, not those below it. Its handle lives no more.
+    Drop {
+        /// The item's handle.
+        item: u64,
+    },
     /// Begins the progress of an item, at step 0.
     Init {
         /// The item's handle.

@@ -50,6 +50,7 @@ impl TreeState {
             Event::AddChild { parent, name, id } => {
                 self.add_child(alloc, *parent, name.as_str(), *id)
             }
+            Event::Drop { item } => self.drop_item(*item),
             Event::Init { item, max } => self.init(*item, *max),
             Event::Set { item, step } => self.set(*item, *step),
             Event::Snapshot => self.snapshot(alloc),
@@ -102,6 +103,23 @@ impl TreeState {
                 Ok(Reply::Made(made))
             }
         }
+    }
+
+    fn drop_item(&mut self, item: u64) -> Result<Reply, Refusal>
+        ensures { Plays self.old (Event.Drop item) result self.new }
+    {
+        let Some(slot) = self.item(item) else {
+            return Err(Refusal::Gone);
+        };
+        self.table.remove(slot.key);
+        self.slots.put(
+            item,
+            Slot {
+                lives: false,
+                ..slot
+            },
+        );
+        Ok(Reply::Done)
     }
 
     fn init(&mut self, item: u64, max: Option<Step>) -> Result<Reply, Refusal>

@@ -99,6 +99,14 @@ impl<C: Copy> TreeCore<C> {
         Ok(())
     }
 
+    /// Takes away the entry at a key, where there is one, and says whether there was.
+    pub fn remove(&mut self, key: Key) -> bool
+        ensures found { result ≡ is_some (finite.get self.old key) }
+        ensures after { self.new ≡ finite.remove self.old key }
+    {
+        self.tasks.remove(&key).is_some()
+    }
+
     /// Sets the progress at a key, where there is an entry, and says whether there is.
     pub fn init(&mut self, key: Key, progress: Option<Counted<C>>) -> bool
         ensures found { result ≡ is_some (finite.get self.old key) }

@@ -3,6 +3,7 @@ ghost use Rattle.prodash_line.specs.Renderer.{Renderer, Renders, SendsOn, fresh,
 
 mod frame;
 mod input;
+mod message;
 mod row;
 mod screen;
 #[cfg(test)]

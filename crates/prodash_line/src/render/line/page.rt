@@ -132,6 +132,7 @@ impl Page {
                 self.row += 1;
                 self.column = 0;
             }
+            Sign::CarriageReturn => self.column = 0,
             Sign::Up(n) => self.row = self.row.saturating_sub(n as usize).max(self.top()),
             Sign::EraseLine => erase_row(&mut self.rows, self.columns, self.row),
         }

@@ -136,6 +136,7 @@ fn sign_at(bytes: &[u8]) -> Option<(Sign, &[u8])>
     }
     match bytes[0] {
         b'\n' => Some((Sign::LineFeed, &bytes[1..])),
+        b'\r' => Some((Sign::CarriageReturn, &bytes[1..])),
         0x1b => {
             if bytes.len() < 2 {
                 return None;

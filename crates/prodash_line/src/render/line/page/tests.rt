@@ -11,7 +11,7 @@ struct Written {
     cursor: (usize, u16),
 }
 
-const WRITTEN: [Written; 5] = [
+const WRITTEN: [Written; 6] = [
     // a page of one cell
     Written {
         columns: 1,
@@ -57,6 +57,15 @@ const WRITTEN: [Written; 5] = [
         top: 0,
         cursor: (0, 3),
     },
+    // a carriage return goes to the beginning of the row and blanks nothing
+    Written {
+        columns: 3,
+        height: 2,
+        bytes: b"ab\rc",
+        rows: &["cb", ""],
+        top: 0,
+        cursor: (0, 1),
+    },
 ];
 
 #[test]
@@ -90,9 +99,10 @@ fn reads_what_is_spelled(rt: HostRuntime) -> Result<(), Fail> {
         Sign::EraseLine,
         Sign::Up(65535),
         Sign::Char('é'),
+        Sign::CarriageReturn,
         Sign::LineFeed,
     ];
-    let bytes = "a\x1b[2K\x1b[65535Aé\n".as_bytes();
+    let bytes = "a\x1b[2K\x1b[65535Aé\r\n".as_bytes();
     assert_eq!(rt; read(rt.alloc(), bytes)?.as_slice(), signs.as_slice());
     assert_eq!(rt; spell(rt.alloc(), &signs)?.as_slice(), bytes);
     Ok(())

@@ -26,6 +26,7 @@ fn push_sign(alloc: Global, out: &mut Vec<u8>, sign: &Sign) -> Result<(), AllocE
             out.extend_from_slice(c.encode_utf8(&mut buffer).as_bytes())?;
         }
         Sign::LineFeed => out.push(b'\n')?,
+        Sign::CarriageReturn => out.push(b'\r')?,
         Sign::Up(n) => {
             let number = format!(in alloc; "{n}")?;
             push_sequence(out, number.as_bytes(), b'A')?;

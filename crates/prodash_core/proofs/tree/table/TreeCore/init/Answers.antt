@@ -1,4 +1,4 @@
-use Rattle.std.proofs.Common.{rules, ◌∙◌, ap, sym}
+use Rattle.std.proofs.Common.{rules, ◌∙◌, ap, sym, Some}
 use Rattle.std.specs.Option.{option_map}
 use Rattle.prodash_core.specs.Tables.{counted_of}
 use Rattle.prodash_core.proofs.TableChanges.{table_of, is_some-none, is_some-some, with_progress-none, with_progress-some}
@@ -22,6 +22,6 @@ returns-clause-after g c =
           ∙ with_progress-none es c.args.key (option_map counted_of c.args.progress) (w.in-None.ensures.value ∙ lookup_by_eq es c.args.key)
       | in-Some w ↦ ap (λ t. table_of t.tasks.entries) w.self-inside-is
           ∙ with_progress-some es _ c.args.key c.args.progress w.in-Some.task.now (w.in-Some.ensures.value ∙ lookup_by_eq es c.args.key)
-          (update_by_eq es _ c.args.key (record { name = w.in-Some.task.now.name; id = w.in-Some.task.now.id; progress = c.args.progress })
+          (update_by_eq es _ c.args.key (Some (record { name = w.in-Some.task.now.name; id = w.in-Some.task.now.id; progress = c.args.progress }))
           ((c.get_mut.follows.holds (record { name = w.in-Some.task.now.name; id = w.in-Some.task.now.id; progress = c.args.progress })).3 (search (rules, w.in-Some.ensures.value))).0)
     ])

@@ -1,4 +1,4 @@
-use Rattle.std.proofs.Common.{◌∙◌, ap, List, ℕ, None}
+use Rattle.std.proofs.Common.{◌∙◌, ap, List, ℕ, None, Some}
 use Rattle.std.specs.FinMap as finite
 use Rattle.prodash_core.proofs.TableChanges.{table_of, table_of-update}
 use Rattle.prodash_core.proofs.Sorting.{update_by_eq}
@@ -9,6 +9,6 @@ returns-clause-ok g c =
     let old = c.self.inside.tasks.entries in
     let new = c.insert.new.self.entries in
     table_of-update old new c.args.key (record { name = c.in_ok-name.name; id = c.args.id; progress = None })
-    (update_by_eq old new c.args.key (record { name = c.in_ok-name.name; id = c.args.id; progress = None }) c.in_ok-insert.ensures.updates.0)
+    (update_by_eq old new c.args.key (Some (record { name = c.in_ok-name.name; id = c.args.id; progress = None })) c.in_ok-insert.ensures.updates.0)
     ∙ ap (λ (name : List ℕ). finite.insert (table_of old) c.args.key (record { name = name; id = c.args.id; progress = None })) c.in_ok-name.ensures
     ∙ ap (λ m. finite.insert m c.args.key (record { name = c.args.name.now; id = c.args.id; progress = None })) c.self.view_is

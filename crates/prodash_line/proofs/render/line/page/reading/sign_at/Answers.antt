@@ -14,4 +14,4 @@ pub returns-then-bytes-ne91 : goal.returns-then-bytes-ne91
 returns-then-bytes-ne91 c = no_escape c.args.bytes.now (omega (arith, c.if-bytes-lt2.false)) c.in-27.is c.if-bytes-ne91.true
 
 pub returns-then-is_control : goal.returns-then-is_control
-returns-then-is_control c = no_control c.args.bytes.now c.in-Some.rest.now c.in-Some.c (λ e. omega arith) (λ e. omega arith) c.in-Some.ensures (sym c.if-is_control.ensures)
+returns-then-is_control c = no_control c.args.bytes.now c.in-Some.rest.now c.in-Some.c (λ e. omega arith) (λ e. omega arith) (λ e. omega arith) c.in-Some.ensures (sym c.if-is_control.ensures)

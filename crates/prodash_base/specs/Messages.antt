@@ -1,0 +1,23 @@
+-- Messages: how one is made, and tests of equality, which compute.
+use Rattle.std.specs.Prelude.{ℕ, List, Bool, true, false, ◌&&◌, nat_eq}
+use Rattle.std.specs.Cmp.Lexicographic.{pointwise}
+use Rattle.prodash_base.specs.Rows.{same_text}
+use Rattle.prodash_base.specs.declared.messages.MessageLevel.{MessageLevel}
+use Rattle.prodash_base.specs.declared.messages.MessageLevel.TheVariants.{Info, Failure, Success}
+use Rattle.prodash_base.specs.declared.messages.Message.{Message}
+
+-- what a task of this name said
+abbrev pub message_of : ℕ → MessageLevel → List ℕ → List ℕ → Message
+message_of time level origin message = record { time = time; level = level; origin = origin; message = message }
+
+abbrev pub same_level : MessageLevel → MessageLevel → Bool
+same_level Info Info = true
+same_level Failure Failure = true
+same_level Success Success = true
+same_level _ _ = false
+
+abbrev pub same_message : Message → Message → Bool
+same_message m n = nat_eq m.time n.time && (same_level m.level n.level && (same_text m.origin n.origin && same_text m.message n.message))
+
+abbrev pub same_messages : List Message → List Message → Bool
+same_messages = pointwise same_message

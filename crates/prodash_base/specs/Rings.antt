@@ -1,0 +1,38 @@
+-- Rings of messages: what is kept of all messages that were ever pushed.
+use Rattle.std.specs.Prelude.{ℕ, ◌+◌, ◌-◌, min, List, [], ◌∷◌, ◌++◌, length, Option, Some, None}
+use Rattle.circular_buffer.specs.Buffer.{keep_last}
+use Rattle.prodash_base.specs.declared.messages.Message.{Message}
+
+-- how many messages a ring keeps at most, those that it keeps, the oldest first, and how many were ever pushed
+pub record Ring : Type 0 where
+  pub capacity : ℕ
+  pub kept : List Message
+  pub pushed : ℕ
+
+-- nothing was pushed yet
+abbrev pub empty_ring : ℕ → Ring
+empty_ring capacity = record { capacity = capacity; kept = []; pushed = 0 }
+
+-- the message is the latest, and is counted; the oldest is let go where there is no place left
+abbrev pub push : Ring → Message → Ring
+push r m = record { capacity = r.capacity; kept = keep_last r.capacity (r.kept ++ m ∷ []); pushed = r.pushed + 1 }
+
+-- What a copy gives: without a state all that is kept; with one, which is how many pushes were seen, what is kept of the later ones.
+-- That is nothing where none is later.
+abbrev pub copied : Ring → Option ℕ → List Message
+copied r None = r.kept
+copied r (Some seen) = keep_last (r.pushed - seen) r.kept
+
+-- The same of the list of all messages that were ever pushed, the first one first. Kept are the last ones, at most as many as there
+-- are places.
+abbrev pub kept_of : ℕ → List Message → List Message
+kept_of capacity all = keep_last capacity all
+
+-- the ring after these pushes
+abbrev pub ring_of : ℕ → List Message → Ring
+ring_of capacity all = record { capacity = capacity; kept = kept_of capacity all; pushed = length all }
+
+-- The last ones, at most as many as there are places, and at most as many as were pushed after those that were seen. That is nothing
+-- where none was pushed after them.
+abbrev pub new_since : ℕ → List Message → ℕ → List Message
+new_since capacity all seen = keep_last (min capacity (length all - seen)) all
