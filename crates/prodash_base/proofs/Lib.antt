@@ -1,2 +1,2 @@
-mod RingLaws
+pub mod RingLaws
 pub mod WorkedPaths

@@ -3,7 +3,7 @@ use Rattle.std.specs.Prelude.{◌≡◌, ℕ, zero, suc, List, Option, Some, Non
 use Rattle.std.specs.Coded.{Coded, code_by, coded×, coded_ℕ, coded_list, coded_option, coded⊎}
 use Rattle.std.proofs.Common.{inl, inr}
 use Rattle.prodash_base.specs.declared.refusal.Refusal.{Refusal}
-use Rattle.prodash_base.specs.declared.refusal.Refusal.TheVariants.{Memory, TooManyMessages, Gone, Broken}
+use Rattle.prodash_base.specs.declared.refusal.Refusal.TheVariants.{Memory, TooManyMessages, Gone, Closed, Broken}
 use Rattle.prodash_base.specs.declared.messages.MessageLevel.{MessageLevel}
 use Rattle.prodash_base.specs.declared.messages.MessageLevel.TheVariants.{Info, Failure, Success}
 use Rattle.prodash_base.specs.declared.messages.Message.{Message}
@@ -55,18 +55,21 @@ abbrev pub refusal_number : Refusal → ℕ
 refusal_number Memory = 0
 refusal_number TooManyMessages = 1
 refusal_number Gone = 2
-refusal_number Broken = 3
+refusal_number Closed = 3
+refusal_number Broken = 4
 
 abbrev pub refusal_from : ℕ → Refusal
 refusal_from zero = Memory
 refusal_from (suc zero) = TooManyMessages
 refusal_from (suc (suc zero)) = Gone
-refusal_from (suc (suc (suc n))) = Broken
+refusal_from (suc (suc (suc zero))) = Closed
+refusal_from (suc (suc (suc (suc n)))) = Broken
 
 abbrev pub refusal_from-refusal_number : (r : Refusal) → refusal_from (refusal_number r) ≡ r
 refusal_from-refusal_number Memory = refl
 refusal_from-refusal_number TooManyMessages = refl
 refusal_from-refusal_number Gone = refl
+refusal_from-refusal_number Closed = refl
 refusal_from-refusal_number Broken = refl
 
 abbrev pub coded_refusal : Coded Refusal

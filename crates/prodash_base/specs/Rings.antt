@@ -1,5 +1,5 @@
 -- Rings of messages: what is kept of all messages that were ever pushed.
-use Rattle.std.specs.Prelude.{ℕ, ◌+◌, ◌-◌, min, List, [], ◌∷◌, ◌++◌, length, Option, Some, None}
+use Rattle.std.specs.Prelude.{ℕ, Bool, nat_eq, ◌+◌, ◌-◌, ◌^◌, min, List, [], ◌∷◌, ◌++◌, length, Option, Some, None}
 use Rattle.circular_buffer.specs.Buffer.{keep_last}
 use Rattle.prodash_base.specs.declared.messages.Message.{Message}
 
@@ -12,6 +12,10 @@ pub record Ring : Type 0 where
 -- nothing was pushed yet
 abbrev pub empty_ring : ℕ → Ring
 empty_ring capacity = record { capacity = capacity; kept = []; pushed = 0 }
+
+-- were as many pushed as can be counted?
+abbrev pub counts_no_more : Ring → Bool
+counts_no_more r = nat_eq r.pushed (2 ^ 64 - 1)
 
 -- the message is the latest, and is counted; the oldest is let go where there is no place left
 abbrev pub push : Ring → Message → Ring

@@ -1,3 +1,4 @@
+//! Messages of tasks, and the ring that keeps the latest.
 mod list;
 mod ring;
 

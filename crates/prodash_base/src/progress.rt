@@ -1,3 +1,4 @@
+//! What a task has to show: keys, states, values and rows.
 ghost use Rattle.std.specs.Prelude.{◌≡◌};
 ghost use Rattle.std.specs.Option.{option_map};
 

@@ -17,6 +17,9 @@ pub enum Refusal {
     /// meant. Nothing has changed.
     #[error("no such handle")]
     Gone,
+    /// A closing frame was written before. Nothing has changed.
+    #[error("renderer is closed")]
+    Closed,
     /// The screen is broken. The renderer answers so for good.
     #[error("output is broken")]
     Broken,

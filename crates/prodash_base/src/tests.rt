@@ -32,7 +32,9 @@ fn row(alloc: Global, name: &str, step: u64) -> Result<Row, AllocError> {
 fn refusals_have_texts(rt: HostRuntime) -> Result<(), Fail> {
     for (refusal, want) in [
         (Refusal::Memory, "no memory"),
+        (Refusal::TooManyMessages, "too many messages"),
         (Refusal::Gone, "no such handle"),
+        (Refusal::Closed, "renderer is closed"),
         (Refusal::Broken, "output is broken"),
     ] {
         assert_eq!(rt; format!(in rt.alloc(); "{refusal}")?.as_str(), want);

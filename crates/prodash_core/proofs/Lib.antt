@@ -5,3 +5,4 @@ pub mod FrameSteps
 pub mod RunSteps
 pub mod RunBytes
 pub mod PageRuns
+pub mod AllSaid

@@ -62,12 +62,6 @@ is_some-map f (Some a) = refl
 pub is_some-table_of : {C : Type 0} (es : List (Path × Task C)) (k : Path) → is_some (get (table_of es) k) ≡ is_some (task_at es k)
 is_some-table_of es k = ap is_some (get-table_of es k) ∙ is_some-map entry_of (task_at es k)
 
-pub is_some-none : {C : Type 0} (es : List (Path × Task C)) (k : Path) → None ≡ task_at es k → is_some (get (table_of es) k) ≡ false
-is_some-none es k h = ap is_some (get-table_of es k ∙ ap (option_map entry_of) (sym h))
-
-pub is_some-some : {C : Type 0} (es : List (Path × Task C)) (k : Path) (t : Task C) → Some t ≡ task_at es k → is_some (get (table_of es) k) ≡ true
-is_some-some es k t h = ap is_some (get-table_of es k ∙ ap (option_map entry_of) (sym h))
-
 pub with_progress-none : {C : Type 0} (es : List (Path × Task C)) (k : Path) (p : Option (Progress C)) → None ≡ task_at es k
     → table_of es ≡ with_progress (table_of es) k p (get (table_of es) k)
 with_progress-none es k p h = sym (ap (with_progress (table_of es) k p) (get-table_of es k ∙ ap (option_map entry_of) (sym h)))

@@ -3,7 +3,8 @@ use Rattle.std.specs.Prelude.{ℕ, Bool, List, refl}
 use Rattle.std.specs.FinMap as finite
 use Rattle.std.specs.Coded.{Coded, code_by, coded×, coded_ℕ, coded_bool, coded_list}
 use Rattle.prodash_base.specs.Path.{Path}
-use Rattle.prodash_base.specs.Coding.{coded_path, coded_entry}
+use Rattle.prodash_base.specs.Coding.{coded_path, coded_entry, coded_ring}
+use Rattle.prodash_base.specs.Rings.{Ring}
 use Rattle.prodash_line.specs.Renderer.{Renderer}
 use Rattle.prodash_line.specs.Coding.{coded_renderer}
 use Rattle.prodash_core.specs.Tables.{Table}
@@ -17,8 +18,8 @@ coded_handle =
 
 abbrev pub coded_tree : Coded Tree
 coded_tree =
-    code_by (Table ℕ × List Handle) (coded× (finite.code coded_path (coded_entry coded_ℕ)) (coded_list coded_handle)) (λ t. (t.table, t.handles))
-    (λ q. record { table = q.0; handles = q.1 }) (λ _. refl)
+    code_by (Table ℕ × (List Handle × Ring)) (coded× (finite.code coded_path (coded_entry coded_ℕ)) (coded× (coded_list coded_handle) coded_ring)) (λ t. (t.table, (t.handles, t.ring)))
+    (λ q. record { table = q.0; handles = q.1.0; ring = q.1.1 }) (λ _. refl)
 
 abbrev pub coded_session : Coded SessionState
 coded_session = code_by (Tree × Renderer) (coded× coded_tree coded_renderer) (λ w. (w.tree, w.renderer)) (λ q. record { tree = q.0; renderer = q.1 }) (λ _. refl)

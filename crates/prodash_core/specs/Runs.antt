@@ -9,9 +9,12 @@ use Rattle.prodash_line.specs.Lines.{Line}
 use Rattle.prodash_line.specs.Frames.{Frame, frame_signs, frame_leaves, widths_of}
 use Rattle.prodash_line.specs.Renderer.{Renderer, frame_at, next}
 use Rattle.prodash_line.specs.Screens.{Taken}
-use Rattle.prodash_core.specs.Trees.{play}
+use Rattle.prodash_core.specs.Trees.{Handle, Tree, item, words_of, play}
 use Rattle.prodash_core.specs.Sessions.{SessionState, input_at, played_tree, Steps}
+use Rattle.prodash_base.specs.declared.messages.Message.{Message as Said}
+use Rattle.prodash_base.specs.declared.messages.MessageLevel.{MessageLevel}
 use Rattle.prodash_core.specs.declared.tree.event.Event.{Event}
+use Rattle.prodash_core.specs.declared.tree.event.Event.TheVariants.{Message}
 use Rattle.prodash_core.specs.declared.tree.event.Reply.{Reply}
 use Rattle.prodash_core.specs.declared.tree.event.Reply.TheVariants as replies
 
@@ -30,6 +33,10 @@ abbrev pub is_broken : Reply → Bool
 is_broken (replies.Refused refusals.Broken) = true
 is_broken _ = false
 
+abbrev pub is_closed : Reply → Bool
+is_closed (replies.Refused refusals.Closed) = true
+is_closed _ = false
+
 -- the events that weren't refused memory, and their replies
 abbrev pub accepted : List Event → List Reply → List Event
 accepted [] rs = []
@@ -40,28 +47,61 @@ abbrev pub answered : List Reply → List Reply
 answered [] = []
 answered (r ∷ rs) = if is_memory r then answered rs else r ∷ answered rs
 
--- the session after an accepted event
-abbrev pub renderer_after : Renderer → Option Input → Renderer
-renderer_after r None = r
-renderer_after r (Some input) = next r input
+-- The session after an event that was answered so, not with want of memory. A frame that was answered that the renderer is closed has
+-- changed nothing, and after one that was answered that the screen is broken every further frame is.
+abbrev pub renderer_after : Renderer → Option Input → Reply → Renderer
+renderer_after r None reply = r
+renderer_after r (Some input) reply = if is_closed reply then r else if is_broken reply then record r { ended = Some refusals.Broken } else next r input
 
-abbrev pub follow : SessionState → Event → SessionState
-follow w e = record { tree = played_tree w.tree (play w.tree e); renderer = renderer_after w.renderer (input_at w e) }
+abbrev pub follow : SessionState → Event → Reply → SessionState
+follow w e reply = record { tree = played_tree w.tree (play w.tree e); renderer = renderer_after w.renderer (input_at w e) reply }
+
+-- the session after an event, and after a list of events, that were answered so
+abbrev pub after_event : SessionState → Event → Reply → SessionState
+after_event w e r = if is_memory r then w else follow w e r
+
+abbrev pub after : SessionState → List Event → List Reply → SessionState
+after w [] rs = w
+after w (e ∷ es) [] = w
+after w (e ∷ es) (r ∷ rs) = after (after_event w e r) es rs
+
+-- what an event says, if it is one that says something and its item lives
+abbrev pub words_for : Tree → Option Handle → ℕ → MessageLevel → List ℕ → List Said
+words_for t None at level text = []
+words_for t (Some h) at level text = words_of t h at level text ∷ []
+
+abbrev pub words_by : Tree → Event → List Said
+words_by t (Message n at level text) = words_for t (item t n) at level text
+words_by t e = []
+
+abbrev pub is_done : Reply → Bool
+is_done replies.Done = true
+is_done reply = false
+
+-- all messages that were said and accepted, in order
+abbrev pub words_in : Tree → Event → Reply → List Said
+words_in t e r = if is_done r then words_by t e else []
+
+abbrev pub all_said : SessionState → List Event → List Reply → List Said
+all_said w [] rs = []
+all_said w (e ∷ es) [] = []
+all_said w (e ∷ es) (r ∷ rs) = words_in w.tree e r ++ all_said (after_event w e r) es rs
 
 -- a frame that was asked for, and whether it was answered that the screen is broken
 pub record Shot : Type 0 where
   pub frame : Frame
   pub broken : Bool
 
+-- none where it was answered that the renderer is closed
 abbrev pub shot_of : Option Frame → Reply → List Shot
-shot_of None r = []
-shot_of (Some frame) r = record { frame = frame; broken = is_broken r } ∷ []
+shot_of None reply = []
+shot_of (Some frame) reply = if is_closed reply then [] else record { frame = frame; broken = is_broken reply } ∷ []
 
--- the frames of a list of events that were answered so, those refused memory taken out
+-- the frames of a list of events that were answered so, those refused memory and those after the closing frame taken out
 abbrev pub shots_of : SessionState → List Event → List Reply → List Shot
 shots_of w [] rs = []
 shots_of w (e ∷ es) [] = []
-shots_of w (e ∷ es) (r ∷ rs) = if is_memory r then shots_of w es rs else shot_of (option_map (frame_at w.renderer) (input_at w e)) r ++ shots_of (follow w e) es rs
+shots_of w (e ∷ es) (r ∷ rs) = if is_memory r then shots_of w es rs else shot_of (option_map (frame_at w.renderer) (input_at w e)) r ++ shots_of (follow w e r) es rs
 
 -- the bytes of a frame over the lines that stand
 abbrev pub bytes_over : List Line → Frame → List ℕ

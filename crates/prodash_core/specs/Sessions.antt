@@ -2,16 +2,16 @@
 use Rattle.std.specs.Prelude.{◌≡◌, Option, Some, None, Result, Ok, Err, IsTrue, IsOk}
 use Rattle.prodash_base.specs.declared.refusal.Refusal.{Refusal}
 use Rattle.prodash_base.specs.declared.refusal.Refusal.TheVariants as refusals
-use Rattle.prodash_line.specs.declared.render.line.draw.input.Options.{Options}
 use Rattle.prodash_line.specs.declared.render.line.draw.input.Input.{Input}
 use Rattle.prodash_line.specs.declared.render.line.draw.input.Input.TheVariants as inputs
 use Rattle.prodash_line.specs.declared.render.line.draw.input.Answer.{Answer}
 use Rattle.prodash_line.specs.declared.render.line.draw.input.Answer.TheVariants as answers
 use Rattle.prodash_line.specs.Renderer.{Renderer, Renders, fresh}
 use Rattle.prodash_line.specs.Screens.{Taken}
-use Rattle.prodash_core.specs.Trees.{Tree, opening_tree, tree_rows, play, takes_memory}
+use Rattle.prodash_core.specs.Trees.{Tree, opening_tree, seen_of, play, takes_memory}
+use Rattle.prodash_core.specs.declared.tree.session.SessionOptions.{SessionOptions}
 use Rattle.prodash_core.specs.declared.tree.event.Event.{Event}
-use Rattle.prodash_core.specs.declared.tree.event.Event.TheVariants.{AddChild, Drop, Init, Set, Snapshot, Tick}
+use Rattle.prodash_core.specs.declared.tree.event.Event.TheVariants.{Tick, Quit}
 use Rattle.prodash_core.specs.declared.tree.event.Reply.{Reply}
 use Rattle.prodash_core.specs.declared.tree.event.Reply.TheVariants as replies
 
@@ -19,22 +19,20 @@ pub record SessionState : Type 0 where
   pub tree : Tree
   pub renderer : Renderer
 
--- nothing but the root, and nothing drawn
-abbrev pub opening : Options → SessionState
-opening options = record { tree = opening_tree; renderer = fresh options }
+-- nothing but the root, no messages, and nothing drawn
+abbrev pub opening : SessionOptions → SessionState
+opening options = record { tree = opening_tree options.root.message_buffer_capacity; renderer = fresh options.draw }
 
 -- what a frame asks of the renderer; other events ask nothing
 abbrev pub input_at : SessionState → Event → Option Input
-input_at w (AddChild parent name id) = None
-input_at w (Drop n) = None
-input_at w (Init n max) = None
-input_at w (Set n step) = None
-input_at w Snapshot = None
-input_at w (Tick at show) = Some (inputs.Tick at show (tree_rows w.tree))
+input_at w (Tick at show) = Some (inputs.Tick at show (seen_of w.tree w.renderer.seen))
+input_at w (Quit at) = Some (inputs.Quit at)
+input_at w _ = None
 
 -- the reply that the renderer's answer is
 abbrev pub frame_reply : Result Answer Refusal → Reply
 frame_reply (Ok answers.Drawn) = replies.Drawn
+frame_reply (Ok answers.Ended) = replies.Ended
 frame_reply (Err refusal) = replies.Refused refusal
 
 -- the reply and the tree that the event's play is

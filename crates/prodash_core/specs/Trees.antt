@@ -3,11 +3,15 @@ use Rattle.std.specs.Prelude.{◌≡◌, ℕ, ◌+◌, ◌%◌, Bool, true, fals
 use Rattle.std.specs.FinMap as finite
 use Rattle.prodash_base.specs.Path.{Path, child}
 use Rattle.prodash_base.specs.Rows.{Entry, Progress, Running, PathRow}
+use Rattle.prodash_base.specs.Messages.{message_of}
+use Rattle.prodash_base.specs.Rings.{Ring, empty_ring, push, copied, counts_no_more}
+use Rattle.prodash_base.specs.declared.messages.Message.{Message as Said}
+use Rattle.prodash_base.specs.declared.messages.MessageLevel.{MessageLevel}
 use Rattle.prodash_base.specs.declared.refusal.Refusal.{Refusal}
 use Rattle.prodash_base.specs.declared.refusal.Refusal.TheVariants as refusals
 use Rattle.prodash_core.specs.Tables.{Table, rows_at}
 use Rattle.prodash_core.specs.declared.tree.event.Event.{Event}
-use Rattle.prodash_core.specs.declared.tree.event.Event.TheVariants.{AddChild, Drop, Init, Set, Snapshot, Tick}
+use Rattle.prodash_core.specs.declared.tree.event.Event.TheVariants.{AddChild, Drop, Init, Set, Message, Snapshot, CopyMessages, CopyNew, DropRoot, Tick, Quit}
 use Rattle.prodash_core.specs.declared.tree.event.Reply.{Reply}
 use Rattle.prodash_core.specs.declared.tree.event.Reply.TheVariants as replies
 
@@ -24,13 +28,15 @@ pub record Tree : Type 0 where
   pub table : Table ℕ
   -- in the order in which they were made; the first is the root
   pub handles : List Handle
+  -- the messages that are kept
+  pub ring : Ring
 
 abbrev pub new_handle : Path → Handle
 new_handle path = record { path = path; counter = 0; children = 0; lives = true }
 
--- nothing but the root
-abbrev pub opening_tree : Tree
-opening_tree = record { table = finite.empty; handles = new_handle [] ∷ [] }
+-- nothing but the root, and a ring of this capacity
+abbrev pub opening_tree : ℕ → Tree
+opening_tree capacity = record { table = finite.empty; handles = new_handle [] ∷ []; ring = empty_ring capacity }
 
 -- the handle with a number, where it lives
 abbrev pub if_lives : Option Handle → Option Handle
@@ -91,37 +97,68 @@ init_at t n h max (Some e) = record (set_counter t n h 0) { table = finite.inser
 abbrev pub init : Tree → ℕ → Handle → Option ℕ → Tree
 init t n h max = init_at t n h max (finite.get t.table h.path)
 
--- what is done for a handle; without one the event is refused
-abbrev pub for_handle : Option Handle → (Handle → Tree × Reply) → Result (Tree × Reply) Refusal
-for_handle None f = Err refusals.Gone
-for_handle (Some h) f = Ok (f h)
+-- the name of an entry; none is empty
+abbrev pub name_of : Option (Entry ℕ) → List ℕ
+name_of None = []
+name_of (Some e) = e.name
 
--- the tree after an event, and the reply; or the refusal. A frame leaves the tree as it is
+-- what is said for the handle h: the origin is the name of the entry at the handle's path
+abbrev pub words_of : Tree → Handle → ℕ → MessageLevel → List ℕ → Said
+words_of t h at level text = message_of at level (name_of (finite.get t.table h.path)) text
+
+-- the message is pushed; refused where no more can be counted
+abbrev pub say : Tree → Said → Result (Tree × Reply) Refusal
+say t m = if counts_no_more t.ring then Err refusals.TooManyMessages else Ok (record t { ring = push t.ring m }, replies.Done)
+
+-- the tree whose root, the handle h, lives no more
+abbrev pub drop_root : Tree → Handle → Tree
+drop_root t h = record t { handles = slice_set t.handles 0 (record h { lives = false }) }
+
+-- what is answered to the reader of messages who has seen so many pushes
+abbrev pub new_messages : Tree → Option ℕ → Reply
+new_messages t previous = replies.New (copied t.ring previous) t.ring.pushed
+
+-- what a frame sees: the rows, the messages that are new since so many pushes, and how many pushes there were; nothing without a root
+abbrev pub seen_by : Option Handle → Tree → Option ℕ → Option (List PathRow × List Said × ℕ)
+seen_by None t previous = None
+seen_by (Some root) t previous = Some (tree_rows t, copied t.ring previous, t.ring.pushed)
+
+abbrev pub seen_of : Tree → Option ℕ → Option (List PathRow × List Said × ℕ)
+seen_of t previous = seen_by (living t 0) t previous
+
+-- what is done for a handle; without one the event is refused
+abbrev pub for_handle : Option Handle → (Handle → Result (Tree × Reply) Refusal) → Result (Tree × Reply) Refusal
+for_handle None f = Err refusals.Gone
+for_handle (Some h) f = f h
+
+-- the tree after an event, and the reply; or the refusal. A frame leaves the tree as it is, and is answered by the renderer
 abbrev pub play : Tree → Event → Result (Tree × Reply) Refusal
-play t (AddChild parent name id) = for_handle (living t parent) (λ h. (add_child t parent h name id, replies.Made (length t.handles)))
-play t (Drop n) = for_handle (item t n) (λ h. (drop_item t n h, replies.Done))
-play t (Init n max) = for_handle (item t n) (λ h. (init t n h max, replies.Done))
-play t (Set n step) = for_handle (item t n) (λ h. (set_counter t n h step, replies.Done))
-play t Snapshot = for_handle (living t 0) (λ root. (t, replies.Rows (tree_rows t)))
+play t (AddChild parent name id) = for_handle (living t parent) (λ h. Ok (add_child t parent h name id, replies.Made (length t.handles)))
+play t (Drop n) = for_handle (item t n) (λ h. Ok (drop_item t n h, replies.Done))
+play t (Init n max) = for_handle (item t n) (λ h. Ok (init t n h max, replies.Done))
+play t (Set n step) = for_handle (item t n) (λ h. Ok (set_counter t n h step, replies.Done))
+play t (Message n at level text) = for_handle (item t n) (λ h. say t (words_of t h at level text))
+play t Snapshot = for_handle (living t 0) (λ root. Ok (t, replies.Rows (tree_rows t)))
+play t CopyMessages = for_handle (living t 0) (λ root. Ok (t, replies.Messages t.ring.kept))
+play t (CopyNew previous) = for_handle (living t 0) (λ root. Ok (t, new_messages t previous))
+play t DropRoot = for_handle (living t 0) (λ root. Ok (drop_root t root, replies.Done))
 play t (Tick at show) = Ok (t, replies.Drawn)
+play t (Quit at) = Ok (t, replies.Ended)
 
 -- is it a frame?
 abbrev pub is_frame : Event → Bool
-is_frame (AddChild parent name id) = false
-is_frame (Drop n) = false
-is_frame (Init n max) = false
-is_frame (Set n step) = false
-is_frame Snapshot = false
 is_frame (Tick at show) = true
+is_frame (Quit at) = true
+is_frame _ = false
 
--- may it be refused memory?
+-- may it be refused memory? Of frames the renderer tells
 abbrev pub takes_memory : Event → Bool
 takes_memory (AddChild parent name id) = true
-takes_memory (Drop n) = false
-takes_memory (Init n max) = false
-takes_memory (Set n step) = false
+takes_memory (Message n at level text) = true
 takes_memory Snapshot = true
-takes_memory (Tick at show) = true
+takes_memory CopyMessages = true
+takes_memory (CopyNew previous) = true
+takes_memory _ = false
 
 -- What an event that is no frame is answered, and the tree that it leaves. A refusal leaves the tree as it was; memory is wanted only
 -- where the event may be refused it and the tree doesn't refuse it.

@@ -1,3 +1,4 @@
+//! The tree of tasks, sessions of events on it, and whole runs.
 mod event;
 mod session;
 mod slots;
@@ -5,6 +6,6 @@ mod state;
 mod table;
 
 pub use event::{Event, Reply};
-pub use session::{Session, SessionOptions, run};
+pub use session::{RootOptions, Session, SessionOptions, run};
 pub use state::TreeState;
 pub use table::{Counted, Counters, Task, TreeCore};

@@ -1,8 +1,8 @@
 -- Joined line texts are the bytes of a frame's signs.
-use Rattle.std.proofs.Common.{◌≡◌, ℕ, suc, ◌+◌, ◌-◌, ◌<◌, ◌≤◌, List, [], ◌∷◌, ◌++◌, map, length, take, drop, replicate, refl, sym, ap, ◌∙◌, append_assoc, arith, ⊎_elim, length-drop}
+use Rattle.std.proofs.Common.{◌≡◌, ℕ, suc, ◌+◌, ◌-◌, ◌<◌, ◌≤◌, List, [], ◌∷◌, ◌++◌, map, length, drop, replicate, refl, sym, ap, ◌∙◌, append_assoc, arith, ⊎_elim, length-drop}
 use Rattle.std.specs.Prelude.{min, max}
 use Rattle.std.proofs.lemmas.Bool.{cases_lt}
-use Rattle.std.proofs.lemmas.List.{drop-drop, drop_all, length-map, take_rest}
+use Rattle.std.proofs.lemmas.List.{drop-drop, drop_all, length-map}
 use Rattle.prodash_line.specs.declared.render.line.page.sign.Sign.{Sign}
 use Rattle.prodash_line.specs.declared.render.line.page.sign.Sign.TheVariants.{LineFeed}
 use Rattle.prodash_line.specs.declared.render.line.draw.text.LineText.{LineText}
@@ -75,19 +75,24 @@ redraw_joined widths lines =
     ∙ ap (λ t. spelling (cover widths lines) ++ (t ++ spelling ups)) (sym (blanked_cover rest))
     ∙ ap (λ t. t ++ (blanked rest ++ spelling ups)) (sym (joined_cover widths lines))
 
--- what composing a frame appends, one part after another
-pub composed : (widths : List ℕ) (lines : List Line) (texts : List LineText) (k most : ℕ) (joins blanks last : List ℕ) → texts ≡ texts_of lines
-    → k ≡ min (length texts) (length widths) → most ≡ max (length texts) (length widths)
-    → joins ≡ joined widths texts → blanks ≡ joins ++ blanked (take (length widths - k) (drop k widths)) → last ≡ blanks ++ spelling (up most)
-    → last ≡ spelling (redraw widths lines)
-composed widths lines texts k most joins blanks last t ek em ej eb el =
-    let size : length texts ≡ length lines = ap length t ∙ length-map lines text_of in
-    let left : take (length widths - k) (drop k widths) ≡ drop (length lines) widths =
-    take_rest widths k ∙ ap (λ n. drop n widths) (ek ∙ ap (λ n. min n (length widths)) size) ∙ drop_min (length lines) widths in
-    el ∙ ap (λ n. blanks ++ spelling (up n)) (em ∙ ap (λ n. max n (length widths)) size)
-    ∙ ap (λ b. b ++ spelling (up (max (length lines) (length widths)))) (eb ∙ ap (λ r. joins ++ blanked r) left ∙ ap (λ j. j ++ blanked (drop (length lines) widths)) (ej ∙ ap (joined widths) t))
-    ∙ append_assoc (joined widths (texts_of lines)) (blanked (drop (length lines) widths)) (spelling (up (max (length lines) (length widths))))
-    ∙ sym (redraw_joined widths lines)
+pub length-texts_of : (lines : List Line) (texts : List LineText) → texts ≡ texts_of lines → length texts ≡ length lines
+length-texts_of lines texts t = ap length t ∙ length-map lines text_of
+
+-- what a redraw appends, one part after another
+pub redrawn : (widths : List ℕ) (lines : List Line) (texts : List LineText) (most : ℕ) (old left joins blanks last : List ℕ) → texts ≡ texts_of lines
+    → left ≡ drop (length texts) widths → most ≡ max (length texts) (length widths)
+    → joins ≡ old ++ joined widths texts → blanks ≡ joins ++ blanked left → last ≡ blanks ++ spelling (up most)
+    → last ≡ old ++ spelling (redraw widths lines)
+redrawn widths lines texts most old left joins blanks last t l m ej eb el =
+    let size = length-texts_of lines texts t in
+    let rest : left ≡ drop (length lines) widths = l ∙ ap (λ n. drop n widths) size in
+    let ups = spelling (up (max (length lines) (length widths))) in
+    let blanks_of = blanked (drop (length lines) widths) in
+    el ∙ ap (λ n. blanks ++ spelling (up n)) (m ∙ ap (λ n. max n (length widths)) size)
+    ∙ ap (λ b. b ++ ups) (eb ∙ ap (λ r. joins ++ blanked r) rest ∙ ap (λ j. j ++ blanks_of) (ej ∙ ap (λ ts. old ++ joined widths ts) t))
+    ∙ append_assoc (old ++ joined widths (texts_of lines)) blanks_of ups
+    ∙ append_assoc old (joined widths (texts_of lines)) (blanks_of ++ ups)
+    ∙ ap (λ xs. old ++ xs) (sym (redraw_joined widths lines))
 
 pub columns_of_texts : (lines : List Line) → map (λ (t : LineText). t.columns) (texts_of lines) ≡ widths_of lines
 columns_of_texts [] = refl

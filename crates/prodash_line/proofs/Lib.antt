@@ -3,6 +3,7 @@ pub mod Written
 pub mod Columns
 pub mod RowLines
 pub mod Joining
+pub mod Composing
 pub mod MessageLines
 pub mod Chars
 pub mod Covers
@@ -18,4 +19,3 @@ pub mod Sequences
 pub mod SignFronts
 pub mod WorkedFrames
 pub mod WorkedPages
-pub mod Inputs

@@ -1,13 +1,16 @@
 -- The line of a message, put together from what was appended, and lines of some messages.
 use Rattle.std.proofs.Common.{◌≡◌, ℕ, ◌+◌, ◌-◌, false, List, [], ◌∷◌, ◌++◌, map, replicate, chars, refl, sym, ap, ◌∙◌, arith}
-use Rattle.std.specs.Prelude.{codes}
+use Rattle.std.specs.Prelude.{codes, max}
 use Rattle.std.proofs.lemmas.List.{map-append}
 use Rattle.unicode_width.specs.Width.{str_width}
 use Rattle.unicode_width.proofs.Computing.{unicode_width}
+use Rattle.prodash_base.specs.declared.messages.Message.{Message}
+use Rattle.prodash_base.specs.declared.messages.MessageLevel.TheVariants.{Info}
+use Rattle.prodash_base.specs.Messages.{message_of}
 use Rattle.prodash_line.specs.declared.render.line.page.sign.Sign.TheVariants.{Char}
 use Rattle.prodash_line.specs.Signs.{spelling}
-use Rattle.prodash_line.specs.Lines.{piece, spaces, capped, columns_of, line_text}
-use Rattle.prodash_line.specs.MessageLines.{OriginText, origin_width, message_line, message_lines, kept_after}
+use Rattle.prodash_line.specs.Lines.{Line, piece, spaces, capped, columns_of, line_text}
+use Rattle.prodash_line.specs.MessageLines.{origin_width, greatest_width, message_line, message_lines, kept_after}
 use Rattle.prodash_line.specs.Joined.{written}
 use Rattle.prodash_line.proofs.Written.{spelling-append, written-append, written-piece, written_more}
 use Rattle.prodash_line.proofs.Columns.{width-repeated, width-indented}
@@ -42,9 +45,26 @@ message_columns width pad own text aligned parted all origin message p o t a b c
     let name : str_width false (replicate (width - origin_width origin) 32 ++ chars origin) ≡ (width - origin_width origin) + str_width false (chars origin) = width-indented (width - origin_width origin) (chars origin) in
     omega arith
 
+-- the lines behind origins of which this is the greatest width
+abbrev pub lines_from : ℕ → List Message → List Line
+lines_from width [] = []
+lines_from width (m ∷ messages) =
+    let widest = max width (origin_width m.origin) in message_line widest m.origin m.message ∷ lines_from widest messages
+
+greatest_width-append : (widths : List ℕ) (width : ℕ) → greatest_width (widths ++ width ∷ []) ≡ max (greatest_width widths) width
+greatest_width-append [] width = omega arith
+greatest_width-append (w ∷ widths) width = ap (max w) (greatest_width-append widths width) ∙ (let e : max w (max (greatest_width widths) width) ≡ max (max w (greatest_width widths)) width = omega arith in e)
+
+pub message_lines-lines_from : (widths : List ℕ) (messages : List Message) → message_lines widths messages ≡ lines_from (greatest_width widths) messages
+message_lines-lines_from widths [] = refl
+message_lines-lines_from widths (m ∷ messages) =
+    let own = origin_width m.origin in
+    ap (λ lines. message_line (greatest_width (widths ++ own ∷ [])) m.origin m.message ∷ lines) (message_lines-lines_from (widths ++ own ∷ []) messages)
+    ∙ ap (λ n. message_line n m.origin m.message ∷ lines_from n messages) (greatest_width-append widths own)
+
 -- three messages: of `ab`, of `task`, of `c`
-abbrev three : List OriginText
-three = (codes "ab", codes "x") ∷ (codes "task", codes "y") ∷ (codes "c", codes "z") ∷ []
+abbrev three : List Message
+three = message_of 0 Info (codes "ab") (codes "x") ∷ message_of 1 Info (codes "task") (codes "y") ∷ message_of 2 Info (codes "c") (codes "z") ∷ []
 
 -- each is aligned to the greatest width up to its own
 lines_three : map line_text (message_lines [] three) ≡ codes " ab x" ∷ codes " task y" ∷ codes "    c z" ∷ []

@@ -1,13 +1,16 @@
 -- The definitions of frames and of what fits, computed on a row without progress.
-use Rattle.std.proofs.Common.{◌≡◌, ℕ, List, [], ◌∷◌, ◌++◌, map, Some, None, true, false, refl, arith}
+use Rattle.std.proofs.Common.{◌≡◌, ℕ, Bool, length, List, [], ◌∷◌, ◌++◌, map, Some, None, true, false, refl, arith}
 use Rattle.std.specs.Prelude.{codes}
 use Rattle.std.specs.Str.{chars}
 use Rattle.unicode_width.specs.Width.{str_width, char_width, step, past_emoji}
 use Rattle.prodash_base.specs.Rows.{PathRow}
+use Rattle.prodash_base.specs.Messages.{message_of}
+use Rattle.prodash_base.specs.declared.messages.Message.{Message}
+use Rattle.prodash_base.specs.declared.messages.MessageLevel.TheVariants.{Info}
 use Rattle.prodash_line.specs.declared.render.line.page.sign.Sign.{Sign}
-use Rattle.prodash_line.specs.declared.render.line.page.sign.Sign.TheVariants.{Char, LineFeed, Up}
+use Rattle.prodash_line.specs.declared.render.line.page.sign.Sign.TheVariants.{Char, LineFeed, CarriageReturn, Up, EraseLine}
 use Rattle.prodash_line.specs.declared.render.line.draw.input.Input.{Input}
-use Rattle.prodash_line.specs.declared.render.line.draw.input.Input.TheVariants.{Tick}
+use Rattle.prodash_line.specs.declared.render.line.draw.input.Input.TheVariants.{Tick, Quit}
 use Rattle.prodash_line.specs.Frames.{frame_signs}
 use Rattle.prodash_line.specs.Renderer.{Renderer, fresh, frame_at, next}
 use Rattle.prodash_line.specs.Fits.{FrameFits}
@@ -18,6 +21,10 @@ use Rattle.prodash_line.specs.ProgressRows.{bar}
 abbrev row : List ℕ → PathRow
 row name = (0 ∷ [], record { name = name; id = 0 ∷ 0 ∷ 0 ∷ 0 ∷ []; progress = None })
 
+-- a tick that sees these rows and messages
+abbrev tick : ℕ → Bool → List PathRow → List Message → Input
+tick at show rows messages = Tick at show (Some (rows, messages, length messages))
+
 abbrev signs_at : Renderer → Input → List Sign
 signs_at r input = frame_signs r.standing (frame_at r input)
 
@@ -25,24 +32,35 @@ abbrev terminal : Renderer
 terminal = fresh (record { terminal_dimensions = (40, 4) })
 
 -- its name behind a space, a line feed, and up by one row
-pub drawn : signs_at terminal (Tick 0 true (row (codes "task") ∷ [])) ≡ map Char (codes " task") ++ LineFeed ∷ Up 1 ∷ []
+pub drawn : signs_at terminal (tick 0 true (row (codes "task") ∷ []) []) ≡ map Char (codes " task") ++ LineFeed ∷ Up 1 ∷ []
 unfolding chars str_width step past_emoji
 drawn = refl
 
 -- a shorter name, and blanks up to the columns that stood there
-pub drawn_over : signs_at (next terminal (Tick 0 true (row (codes "task") ∷ []))) (Tick 1 true (row (codes "a") ∷ [])) ≡ map Char (codes " a   ") ++ LineFeed ∷ Up 1 ∷ []
+pub drawn_over : signs_at (next terminal (tick 0 true (row (codes "task") ∷ []) [])) (tick 1 true (row (codes "a") ∷ []) []) ≡ map Char (codes " a   ") ++ LineFeed ∷ Up 1 ∷ []
 unfolding chars str_width step past_emoji
 drawn_over = refl
 
+-- a message over the row, and another row below it
+pub message_over : signs_at (next terminal (tick 0 true (row (codes "task") ∷ []) [])) (tick 1 true (row (codes "a") ∷ []) (message_of 0 Info (codes "b") (codes "x") ∷ []))
+    ≡ map Char (codes " b x ") ++ LineFeed ∷ map Char (codes " a") ++ LineFeed ∷ Up 1 ∷ []
+unfolding chars str_width step past_emoji
+message_over = refl
+
+-- blanks over the row, up to it, and that row erased
+pub closing_over : signs_at (next terminal (tick 0 true (row (codes "task") ∷ []) [])) (Quit 1) ≡ map Char (codes "     ") ++ LineFeed ∷ Up 1 ∷ EraseLine ∷ CarriageReturn ∷ []
+unfolding chars str_width step past_emoji
+closing_over = refl
+
 -- held back, and shown again without a change
-pub held_back : signs_at terminal (Tick 0 false (row (codes "task") ∷ [])) ≡ []
+pub held_back : signs_at terminal (tick 0 false (row (codes "task") ∷ []) []) ≡ []
 held_back = refl
 
-pub unchanged : signs_at (next terminal (Tick 0 false (row (codes "task") ∷ []))) (Tick 1 true (row (codes "task") ∷ [])) ≡ []
+pub unchanged : signs_at (next terminal (tick 0 false (row (codes "task") ∷ []) [])) (tick 1 true (row (codes "task") ∷ []) []) ≡ []
 unchanged = refl
 
 -- what a page of that size takes
-pub fits : FrameFits 40 4 (frame_at terminal (Tick 0 true (row (codes "a") ∷ [])))
+pub fits : FrameFits 40 4 (frame_at terminal (tick 0 true (row (codes "a") ∷ []) []))
 unfolding chars str_width char_width step past_emoji
 fits = record {
   messages = tt;

@@ -12,7 +12,7 @@ coded_options = code_by (ℕ × ℕ) (coded× coded_ℕ coded_ℕ) (λ o. (o.ter
 
 abbrev pub coded_renderer : Coded Renderer
 coded_renderer =
-    code_by (Options × (List ℕ × (ℕ × (Option (List PathRow) × Option Refusal))))
-    (coded× coded_options (coded× (coded_list coded_ℕ) (coded× coded_ℕ (coded× (coded_option coded_rows) (coded_option coded_refusal)))))
-    (λ r. (r.options, (r.standing, (r.midpoint, (r.remembered, r.ended)))))
-    (λ q. record { options = q.0; standing = q.1.0; midpoint = q.1.1.0; remembered = q.1.1.1.0; ended = q.1.1.1.1 }) (λ _. refl)
+    code_by (Options × (List ℕ × (ℕ × (Option (List PathRow) × (List ℕ × (Option ℕ × Option Refusal))))))
+    (coded× coded_options (coded× (coded_list coded_ℕ) (coded× coded_ℕ (coded× (coded_option coded_rows) (coded× (coded_list coded_ℕ) (coded× (coded_option coded_ℕ) (coded_option coded_refusal)))))))
+    (λ r. (r.options, (r.standing, (r.midpoint, (r.remembered, (r.origins, (r.seen, r.ended)))))))
+    (λ q. record { options = q.0; standing = q.1.0; midpoint = q.1.1.0; remembered = q.1.1.1.0; origins = q.1.1.1.1.0; seen = q.1.1.1.1.1.0; ended = q.1.1.1.1.1.1 }) (λ _. refl)

@@ -4,6 +4,7 @@ pub mod Frames
 pub mod ProgressRows
 pub mod MessageLines
 pub mod Screens
+pub mod Endings
 pub mod Renderer
 pub mod Joined
 pub mod Coding

@@ -1,10 +1,7 @@
 -- The line of a message: its origin, aligned with those of other messages, and its text.
 use Rattle.std.specs.Prelude.{ℕ, ◌-◌, max, List, [], ◌∷◌, ◌++◌, length, drop, map, replicate, chars}
+use Rattle.prodash_base.specs.declared.messages.Message.{Message}
 use Rattle.prodash_line.specs.Lines.{Line, piece, spaces, columns_of}
-
--- a message: its origin, and its text
-abbrev pub OriginText : Type 0
-OriginText = List ℕ × List ℕ
 
 -- the columns of an origin
 abbrev pub origin_width : List ℕ → ℕ
@@ -23,18 +20,18 @@ greatest_width [] = 0
 greatest_width (width ∷ widths) = max width (greatest_width widths)
 
 -- the lines of a frame's messages behind these widths of earlier origins: each origin is aligned to the greatest width up to its own
-abbrev pub message_lines : List ℕ → List OriginText → List Line
+abbrev pub message_lines : List ℕ → List Message → List Line
 message_lines widths [] = []
 message_lines widths (m ∷ messages) =
-    let seen = widths ++ origin_width m.0 ∷ [] in message_line (greatest_width seen) m.0 m.1 ∷ message_lines seen messages
+    let seen = widths ++ origin_width m.origin ∷ [] in message_line (greatest_width seen) m.origin m.message ∷ message_lines seen messages
 
-abbrev pub origin_widths : List OriginText → List ℕ
-origin_widths messages = map (λ m. origin_width m.0) messages
+abbrev pub origin_widths : List Message → List ℕ
+origin_widths messages = map (λ m. origin_width m.origin) messages
 
 -- the last n of a list
 abbrev pub last_of : ℕ → List ℕ → List ℕ
 last_of n xs = drop (length xs - n) xs
 
 -- the widths that are kept after a frame's messages: the last, as many as the terminal has rows
-abbrev pub kept_after : ℕ → List ℕ → List OriginText → List ℕ
+abbrev pub kept_after : ℕ → List ℕ → List Message → List ℕ
 kept_after height kept messages = last_of height (kept ++ origin_widths messages)

@@ -11,6 +11,7 @@ use thiserror::Error;
 /// Why a replay wrote nothing, or not all.
 #[derive(Clone, Copy, Debug, PartialEq, Eq, Error)]
 pub enum Fault {
+    /// The words ask for nothing that there is.
     #[error("usage: prodash-replay bytes|page COLUMNS ROWS")]
     Usage,
     /// The number of the first such line, counted from 1.
@@ -19,10 +20,13 @@ pub enum Fault {
     /// How many bytes of the frames are signs, where the next is none.
     #[error("byte {0}: not a sign")]
     Sign(usize),
+    /// The input couldn't be read.
     #[error("input is broken")]
     Input,
+    /// The output couldn't be written.
     #[error("output is broken")]
     Output,
+    /// A growth was refused.
     #[error("no memory")]
     Memory,
 }

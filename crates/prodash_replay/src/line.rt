@@ -1,4 +1,5 @@
 use prodash_base::Text;
+use prodash_base::messages::MessageLevel;
 use prodash_base::progress::UNKNOWN;
 use prodash_core::tree::Event;
 use std::alloc::{AllocError, Global};
@@ -22,16 +23,28 @@ fn bound(word: &str) -> Option<Option<u64>> {
 /// The event that a line is, if it is one.
 pub fn event_of(alloc: Global, line: &str) -> Result<Option<Event>, AllocError> {
     let Some((word, rest)) = line.split_once(' ') else {
-        return Ok(None);
+        return Ok(alone(line));
     };
     match word {
         "add" => add(alloc, rest),
         "drop" => Ok(drop_item(rest)),
         "init" => Ok(init(rest)),
         "set" => Ok(set(rest)),
+        "info" => message(alloc, MessageLevel::Info, rest),
+        "done" => message(alloc, MessageLevel::Success, rest),
+        "fail" => message(alloc, MessageLevel::Failure, rest),
         "tick" => Ok(tick(rest, true)),
         "hold" => Ok(tick(rest, false)),
+        "quit" => Ok(quit(rest)),
         _ => Ok(None),
+    }
+}
+
+/// A word alone.
+fn alone(word: &str) -> Option<Event> {
+    match word {
+        "droproot" => Some(Event::DropRoot),
+        _ => None,
     }
 }
 
@@ -79,10 +92,34 @@ fn set(rest: &str) -> Option<Event> {
     })
 }
 
+/// `H AT TEXT`.
+fn message(alloc: Global, level: MessageLevel, rest: &str) -> Result<Option<Event>, AllocError> {
+    let Some((item, rest)) = rest.split_once(' ') else {
+        return Ok(None);
+    };
+    let Some((at, text)) = rest.split_once(' ') else {
+        return Ok(None);
+    };
+    let (Some(item), Some(at)) = (number(item), number(at)) else {
+        return Ok(None);
+    };
+    Ok(Some(Event::Message {
+        item,
+        at,
+        level,
+        text: Text::from_str(alloc, text)?,
+    }))
+}
+
 /// `AT`.
 fn tick(rest: &str, show: bool) -> Option<Event> {
     Some(Event::Tick {
         at: number(rest)?,
         show,
     })
+}
+
+/// `AT`.
+fn quit(rest: &str) -> Option<Event> {
+    Some(Event::Quit { at: number(rest)? })
 }

@@ -3,7 +3,7 @@ ghost use Rattle.std.specs.Prelude.{◌<◌, IfOk};
 use crate::fault::Fault;
 use crate::line::{event_of, number};
 use prodash_base::Refusal;
-use prodash_core::tree::{Event, Reply, SessionOptions, run};
+use prodash_core::tree::{Event, Reply, RootOptions, SessionOptions, run};
 use prodash_line::render::line::draw::{self, MemoryScreen};
 use prodash_line::render::line::page::{Page, read};
 use std::alloc::{AllocError, Global};
@@ -129,6 +129,7 @@ fn events_of(alloc: Global, bytes: &[u8]) -> Result<Vec<Event>, Fault> {
 /// The bytes of all frames that the events draw.
 fn drawn(alloc: Global, dimensions: (u16, u16), events: &[Event]) -> Result<Vec<u8>, Fault> {
     let options = SessionOptions {
+        root: RootOptions::default(),
         draw: draw::Options {
             terminal_dimensions: dimensions,
         },

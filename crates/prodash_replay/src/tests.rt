@@ -1,4 +1,9 @@
+use crate::line::event_of;
 use crate::replay::replay;
+use prodash_base::Text;
+use prodash_base::messages::MessageLevel;
+use prodash_base::progress::UNKNOWN;
+use prodash_core::tree::Event;
 use std::alloc::Global;
 use std::io;
 use std::io::{Read, Write};
@@ -64,7 +69,10 @@ const DRAWN: &[u8] = b" task 3/10 [=======>-------------------]\n\x1b[1A";
 
 const ONE_TASK: &[u8] = b"add 0 task\ninit 1 10 -\nset 1 3\ntick 0\n";
 
-const REPLAYS: [Replay; 26] = [
+const ONE_MESSAGE: &[u8] =
+    b"add 0 task\ninit 1 10 -\nset 1 3\ntick 0\ninfo 1 0 one\nset 1 4\ntick 1\nquit 2\n";
+
+const REPLAYS: [Replay; 36] = [
     Replay {
         words: BYTES,
         input: ONE_TASK,
@@ -131,7 +139,79 @@ const REPLAYS: [Replay; 26] = [
         err: b"byte 1: not a sign\n",
         status: 1,
     },
+    // a message takes the place of the row, and the closing frame blanks the row below it
+    Replay {
+        words: PAGE,
+        input: ONE_MESSAGE,
+        out: b" task one\n\n\n\n",
+        err: b"",
+        status: 0,
+    },
+    Replay {
+        words: BYTES,
+        input: b"add 0 task\ndone 1 0 one\nfail 1 1 \nhold 2\nquit 3\n",
+        out: b" task one\n task \n\x1b[2K\r",
+        err: b"",
+        status: 0,
+    },
+    // after a closing frame nothing more is written; nobody speaks for the root
+    Replay {
+        words: PAGE,
+        input: b"add 0 a\ntick 0\ninfo 0 0 one\ndroproot\nhold 1\ntick 2\nquit 3\n",
+        out: b"\n\n\n\n",
+        err: b"",
+        status: 0,
+    },
     // lines that are no events
+    Replay {
+        words: PAGE,
+        input: b"add 0 task\nfoo\nset 1 3\n",
+        out: b"",
+        err: b"line 2: not an event\n",
+        status: 2,
+    },
+    Replay {
+        words: BYTES,
+        input: b"info 1 0\n",
+        out: b"",
+        err: b"line 1: not an event\n",
+        status: 2,
+    },
+    Replay {
+        words: BYTES,
+        input: b"info 1 one\n",
+        out: b"",
+        err: b"line 1: not an event\n",
+        status: 2,
+    },
+    Replay {
+        words: BYTES,
+        input: b"droproot 1\n",
+        out: b"",
+        err: b"line 1: not an event\n",
+        status: 2,
+    },
+    Replay {
+        words: BYTES,
+        input: b"droproot \n",
+        out: b"",
+        err: b"line 1: not an event\n",
+        status: 2,
+    },
+    Replay {
+        words: BYTES,
+        input: b"quit\n",
+        out: b"",
+        err: b"line 1: not an event\n",
+        status: 2,
+    },
+    Replay {
+        words: BYTES,
+        input: b"quit 1 2\n",
+        out: b"",
+        err: b"line 1: not an event\n",
+        status: 2,
+    },
     Replay {
         words: BYTES,
         input: b"drop 1 2\n",
@@ -304,6 +384,49 @@ fn tells_broken_streams(rt: HostRuntime) -> Result<(), Fail> {
         assert_eq!(rt; status, 1);
         assert_eq!(rt; err.bytes.as_slice(), line);
         assert!(rt; out.bytes.is_empty());
+    }
+    Ok(())
+}
+
+#[test]
+fn reads_lines(rt: HostRuntime) -> Result<(), Fail> {
+    let message = |level, text| -> Result<Event, Fail> {
+        Ok(Event::Message {
+            item: 1,
+            at: 7,
+            level,
+            text: Text::from_str(rt.alloc(), text)?,
+        })
+    };
+    let name = Text::from_str(rt.alloc(), "a b")?;
+    for (line, event) in [
+        (
+            "add 3 a b",
+            Event::AddChild {
+                parent: 3,
+                name,
+                id: UNKNOWN,
+            },
+        ),
+        ("drop 2", Event::Drop { item: 2 }),
+        ("init 1 - -", Event::Init { item: 1, max: None }),
+        (
+            "init 1 10 -",
+            Event::Init {
+                item: 1,
+                max: Some(10),
+            },
+        ),
+        ("set 1 3", Event::Set { item: 1, step: 3 }),
+        ("info 1 7 x y", message(MessageLevel::Info, "x y")?),
+        ("done 1 7 ", message(MessageLevel::Success, "")?),
+        ("fail 1 7 x", message(MessageLevel::Failure, "x")?),
+        ("droproot", Event::DropRoot),
+        ("tick 5", Event::Tick { at: 5, show: true }),
+        ("hold 5", Event::Tick { at: 5, show: false }),
+        ("quit 5", Event::Quit { at: 5 }),
+    ] {
+        assert_eq!(rt; event_of(rt.alloc(), line)?, Some(event));
     }
     Ok(())
 }

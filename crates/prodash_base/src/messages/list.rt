@@ -1,7 +1,7 @@
 ghost use Rattle.std.specs.Prelude.{◌≡◌, ◌↔◌, IsTrue};
 ghost use Rattle.std.specs.Cmp.{partial_equiv_from_equiv};
 ghost use Rattle.prodash_base.specs.SameMessages.{same_messages_equivalence};
-ghost use Rattle.prodash_base.specs.Messages.{same_messages, same_message};
+ghost use Rattle.prodash_base.specs.Messages.{same_messages};
 
 use crate::messages::Message;
 use std::marker::Model;
@@ -57,36 +57,10 @@ impl PartialEq for Messages {
         ensures value { result ≡ same_messages self.now other.now }
         ensures exact { IsTrue result ↔ (self.now ≡ other.now) }
     {
-        are_same(&self.messages, &other.messages)
+        self.messages == other.messages
     }
 }
 
 impl Eq for Messages {
     ghost laws = { same_messages_equivalence };
-}
-
-/// Whether two lists of messages say the same.
-fn are_same(messages: &[Message], others: &[Message]) -> bool
-    ensures { result ≡ same_messages messages.now others.now }
-{
-    let mut left = messages;
-    let mut right = others;
-    while let Some((message, more)) = left.split_first() {
-        let Some((other, others)) = right.split_first() else {
-            return false;
-        };
-        if !is_same(message, other) {
-            return false;
-        }
-        left = more;
-        right = others;
-    }
-    right.is_empty()
-}
-
-/// Whether two messages say the same.
-fn is_same(message: &Message, other: &Message) -> bool
-    ensures { result ≡ same_message message.now other.now }
-{
-    *message == *other
 }

@@ -44,8 +44,8 @@ impl MessageCopyState {
     }
 }
 
-/// The latest messages, of which each new one takes the oldest one's place once there is no other,
-/// and how many there ever were.
+/// The latest messages, of which a new one replaces the oldest once all places are taken, and how
+/// many there ever were.
 #[derive(Debug, Drop)]
 pub struct MessageRingBuffer {
     ring: HeapCircularBuffer<Message>,

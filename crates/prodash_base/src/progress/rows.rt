@@ -1,7 +1,7 @@
 ghost use Rattle.std.specs.Prelude.{◌≡◌, ◌↔◌, IsTrue};
 ghost use Rattle.std.specs.Cmp.{partial_equiv_from_equiv};
 ghost use Rattle.prodash_base.specs.SameRows.{same_rows_equivalence};
-ghost use Rattle.prodash_base.specs.Rows.{row_of, rows_of, same_rows, same_row};
+ghost use Rattle.prodash_base.specs.Rows.{rows_of, same_rows};
 
 use crate::progress::Row;
 use std::marker::Model;
@@ -58,36 +58,10 @@ impl PartialEq for Rows {
         ensures value { result ≡ same_rows self.now other.now }
         ensures exact { IsTrue result ↔ (self.now ≡ other.now) }
     {
-        are_same(&self.rows, &other.rows)
+        self.rows == other.rows
     }
 }
 
 impl Eq for Rows {
     ghost laws = { same_rows_equivalence };
-}
-
-/// Whether two lists of rows say the same.
-fn are_same(rows: &[Row], others: &[Row]) -> bool
-    ensures { result ≡ same_rows (rows_of rows.now) (rows_of others.now) }
-{
-    let mut left = rows;
-    let mut right = others;
-    while let Some((row, more)) = left.split_first() {
-        let Some((other, others)) = right.split_first() else {
-            return false;
-        };
-        if !is_same(row, other) {
-            return false;
-        }
-        left = more;
-        right = others;
-    }
-    right.is_empty()
-}
-
-/// Whether two rows say the same.
-fn is_same(row: &Row, other: &Row) -> bool
-    ensures { result ≡ same_row (row_of row.now) (row_of other.now) }
-{
-    *row == *other
 }

@@ -1,5 +1,6 @@
 ghost use Rattle.std.specs.Prelude.{◌≡◌};
 
+use prodash_base::messages::{MessageCopyState, MessageLevel, Messages};
 use prodash_base::progress::{Id, Rows, Step};
 use prodash_base::time::Moment;
 use prodash_base::{Refusal, Text};
@@ -36,14 +37,40 @@ pub enum Event {
         /// How far it has come.
         step: Step,
     },
+    /// An item says something.
+    Message {
+        /// The item's handle.
+        item: u64,
+        /// When it is said.
+        at: Moment,
+        /// How grave it is.
+        level: MessageLevel,
+        /// What is said.
+        text: Text,
+    },
     /// Asks for the rows.
     Snapshot,
-    /// A frame: the rows are seen, and shown if something has changed.
+    /// Asks for all messages that are kept.
+    CopyMessages,
+    /// Asks for the messages that are new since an earlier answer.
+    CopyNew {
+        /// What that answer said. Without it all are new.
+        previous: Option<MessageCopyState>,
+    },
+    /// Takes the root away. Its handle lives no more; items work on.
+    DropRoot,
+    /// A frame: the new messages are printed, and the rows are seen, and shown if something has
+    /// changed. Without a root it closes.
     Tick {
         /// When it is.
         at: Moment,
         /// Whether the rows are shown, or held back.
         show: bool,
+    },
+    /// The closing frame: the rows that stand are blanked. Further frames are refused.
+    Quit {
+        /// When it is.
+        at: Moment,
     },
 }
 
@@ -56,8 +83,14 @@ pub enum Reply {
     Done,
     /// The rows, ascending by key.
     Rows(Rows),
+    /// The messages that are kept, the oldest first.
+    Messages(Messages),
+    /// The messages that are new, the oldest first, and what was seen with them.
+    New(Messages, MessageCopyState),
     /// The frame was written, if it had to be.
     Drawn,
+    /// The closing frame was written.
+    Ended,
     /// Nothing was done.
     Refused(Refusal),
 }
@@ -69,6 +102,6 @@ impl Event {
     pub fn is_frame(&self) -> bool
         ensures { result ≡ is_frame self.now }
     {
-        matches!(self, Event::Tick { .. })
+        matches!(self, Event::Tick { .. } | Event::Quit { .. })
     }
 }

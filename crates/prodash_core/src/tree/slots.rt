@@ -1,4 +1,4 @@
-ghost use Rattle.std.specs.Prelude.{◌≡◌, ◌+◌, ◌-◌, ◌<◌, [], ◌∷◌, ◌++◌, length, take, slice_get, slice_set, OnOk, OnErr, IfOk};
+ghost use Rattle.std.specs.Prelude.{◌≡◌, false, ◌+◌, ◌-◌, ◌<◌, [], ◌∷◌, ◌++◌, length, take, slice_get, slice_set, OnOk, OnErr, IfOk};
 ghost use Rattle.std.specs.Option.{option_map};
 ghost use Rattle.prodash_core.specs.Trees.{if_lives, new_handle};
 ghost use Rattle.prodash_core.specs.Slots.{handle_of};
@@ -28,6 +28,16 @@ impl Slot {
             counter: 0,
             children: 0,
             lives: true,
+        }
+    }
+
+    /// The same, which lives no more.
+    pub(crate) fn dropped(self) -> Slot
+        ensures { handle_of result ≡ record (handle_of self) { lives = false } }
+    {
+        Slot {
+            lives: false,
+            ..self
         }
     }
 }

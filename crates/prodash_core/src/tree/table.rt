@@ -121,6 +121,16 @@ impl<C: Copy> TreeCore<C> {
         }
     }
 
+    /// The name of the entry at a key, where there is one.
+    pub fn name(&self, key: Key) -> Option<&str>
+        ensures { option_map (λ name. name.now) result ≡ option_map (λ e. e.name) (finite.get self.now key) }
+    {
+        match self.tasks.get(&key) {
+            None => None,
+            Some(task) => Some(task.name.as_str()),
+        }
+    }
+
     /// The rows in the order of their keys, the number of each counter in its place.
     pub fn rows<N: Counters<C>>(&self, alloc: Global, counters: &N) -> Result<Rows, Refusal>
         ensures ok { IfOk result (λ rows. rows ≡ rows_at (N.number counters.now) self.now) }

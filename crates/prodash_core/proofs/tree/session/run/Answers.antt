@@ -1,8 +1,9 @@
 use Rattle.std.proofs.Common.{arith, [], refl}
 use Rattle.std.proofs.lemmas.Grind.{common_steps}
 use Rattle.prodash_core.proofs.RunSteps.{completes_more, completes_all, pushed_is}
-use Rattle.prodash_core.proofs.RunBytes.{wrote_run, accepted_run}
-use Rattle.prodash_core.proofs.PageRuns.{page_shows}
+use Rattle.prodash_core.proofs.RunBytes.{wrote_run}
+use Rattle.prodash_core.proofs.PageRuns.{page_shows, sent_run}
+use Rattle.prodash_core.proofs.AllSaid.{ends_after, accepted_ends, rings_of_fronts}
 use Rattle.prodash_core.proofs.tree.session.run.Goals as goal
 
 pub loop-event-preserved : goal.loop-event-preserved
@@ -16,7 +17,18 @@ loop-event-preserved g c =
 
 pub returns-clause-steps : goal.returns-clause-steps
 returns-clause-steps g c =
-    (c.loop-event.session, completes_all _ _ _ c.loop-event.replies.items _ _ _ c.loop-event.invariant.completes c.in_default.ensures.cases)
+    ends_after c.args.events.now c.loop-event.replies.items _ _ _ _
+    (completes_all _ _ _ c.loop-event.replies.items _ _ _ c.loop-event.invariant.completes c.in_default.ensures.cases)
+
+pub returns-clause-accepted : goal.returns-clause-accepted
+returns-clause-accepted g c =
+    accepted_ends c.args.events.now c.loop-event.replies.items _ _ _ _
+    (completes_all _ _ _ c.loop-event.replies.items _ _ _ c.loop-event.invariant.completes c.in_default.ensures.cases)
+
+pub returns-clause-messages : goal.returns-clause-messages
+returns-clause-messages g c =
+    rings_of_fronts c.args.options.now.root.message_buffer_capacity c.args.events.now c.loop-event.replies.items _ _ _ _
+    (completes_all _ _ _ c.loop-event.replies.items _ _ _ c.loop-event.invariant.completes c.in_default.ensures.cases) refl
 
 pub returns-clause-bytes : goal.returns-clause-bytes
 returns-clause-bytes g c =
@@ -28,9 +40,7 @@ returns-clause-page g c =
     page_shows c.args.events.now c.loop-event.replies.items _ _ _ _
     (completes_all _ _ _ c.loop-event.replies.items _ _ _ c.loop-event.invariant.completes c.in_default.ensures.cases) refl refl c.args.options.now.draw (omega arith)
 
-pub returns-clause-accepted : goal.returns-clause-accepted
-returns-clause-accepted g c = (
-  c.loop-event.session,
-  accepted_run c.args.events.now c.loop-event.replies.items _ _ _ _
-      (completes_all _ _ _ c.loop-event.replies.items _ _ _ c.loop-event.invariant.completes c.in_default.ensures.cases),
-)
+pub returns-clause-sent : goal.returns-clause-sent
+returns-clause-sent g c =
+    sent_run c.args.events.now c.loop-event.replies.items _ _ _ _
+    (completes_all _ _ _ c.loop-event.replies.items _ _ _ c.loop-event.invariant.completes c.in_default.ensures.cases)

@@ -5,8 +5,7 @@ use Rattle.prodash_core.proofs.tree.session.run.Given as goal
 
 abbrev pub invariant-loop-event : goal.invariant-loop-event
 invariant-loop-event g l = record {
-  completes : Completes (opening l.options.draw) (record { bytes = g.S.Screen.taken l.fn.screen; broken = g.S.Screen.broken l.fn.screen }) l.fn.events
-      l.replies.items l.session (record { bytes = g.S.Screen.taken l.screen; broken = g.S.Screen.broken l.screen }) l.left;
+  completes : Completes (opening l.options) (g.S.Screen.taken l.fn.screen) l.fn.events l.replies.items l.session (g.S.Screen.taken l.screen) l.left;
   room : vec_len l.replies + length l.left ≤ vec_capacity l.replies;
 }
 

@@ -1,50 +1,97 @@
-ghost use Rattle.std.specs.Prelude.{◌≡◌, ℕ, ◌+◌, ◌-◌, ◌<◌, ◌≤◌, [], ◌++◌, max, map, length, replicate, drop, OnOk, IfOk, string_bytes};
-ghost use Rattle.prodash_base.specs.Rows.{rows_of};
+ghost use Rattle.std.specs.Prelude.{◌≡◌, ℕ, ◌+◌, ◌-◌, ◌<◌, ◌≤◌, List, [], ◌++◌, max, map, length, replicate, drop, OnOk, IfOk, string_bytes};
+ghost use Rattle.prodash_line.specs.Lines.{Line};
 ghost use Rattle.prodash_line.specs.Signs.{spelling};
-ghost use Rattle.prodash_line.specs.Frames.{redraw, up, widths_of};
-ghost use Rattle.prodash_line.specs.ProgressRows.{row_lines, greatest_midpoint};
-ghost use Rattle.prodash_line.specs.Joined.{joined, blank, blanked};
+ghost use Rattle.prodash_line.specs.Frames.{redraw, up};
+ghost use Rattle.prodash_line.specs.Joined.{joined, blank, blanked, texts_of};
+ghost use Rattle.prodash_line.specs.Renderer.{ticked, tick_frame, closing_frame};
+ghost use Rattle.prodash_line.specs.Frames.{frame_signs};
 
+use crate::render::line::draw::State;
+use crate::render::line::draw::message::{kept_origins, message_texts};
 use crate::render::line::draw::row::row_texts;
 use crate::render::line::draw::text::LineText;
-use prodash_base::progress::Row;
+use prodash_base::messages::Messages;
+use prodash_base::progress::Rows;
 use std::alloc::{AllocError, Global};
 
-/// A drawn frame, and what it leaves.
+/// A composed frame, and what it leaves.
 #[derive(Debug, Drop)]
-pub(crate) struct DrawnFrame {
+pub(crate) struct Composed {
     pub(crate) bytes: String,
     /// The columns of each line that stands then.
     pub(crate) standing: Vec<u16>,
-    /// The greatest midpoint of its rows.
+    /// The greatest midpoint of the last drawn rows.
     pub(crate) midpoint: u16,
+    /// The widths of the last origins.
+    pub(crate) origins: Vec<u16>,
 }
 
-/// Composes the frame that draws rows on so many columns, their values brought to this midpoint,
-/// over the columns that stand.
+/// Composes the frame of a tick with a root: the messages over the lines that stand, then the rows
+/// over those that are left, where they are shown and differ.
 pub(crate) fn compose(
     alloc: Global,
-    width: u16,
-    midpoint: u16,
-    rows: &[Row],
-    standing: &[u16],
-) -> Result<DrawnFrame, AllocError>
-    ensures bytes { IfOk result (λ frame. string_bytes frame.bytes ≡ spelling (redraw standing.now (row_lines width midpoint (rows_of rows.now)))) }
-    ensures standing { IfOk result (λ frame. frame.standing.items ≡ widths_of (row_lines width midpoint (rows_of rows.now))) }
-    ensures midpoint { IfOk result (λ frame. frame.midpoint ≡ greatest_midpoint (rows_of rows.now)) }
+    state: &State,
+    show: bool,
+    rows: &Rows,
+    messages: &Messages,
+) -> Result<Composed, AllocError>
+    ensures bytes { IfOk result (λ frame. string_bytes frame.bytes ≡ spelling (frame_signs state.now.standing (tick_frame state.now show rows.now messages.now))) }
+    ensures standing { IfOk result (λ frame. (pushed : ℕ) → frame.standing.items ≡ (ticked state.now show rows.now messages.now pushed).standing) }
+    ensures midpoint { IfOk result (λ frame. (pushed : ℕ) → frame.midpoint ≡ (ticked state.now show rows.now messages.now pushed).midpoint) }
+    ensures origins { IfOk result (λ frame. (pushed : ℕ) → frame.origins.items ≡ (ticked state.now show rows.now messages.now pushed).origins) }
 {
-    let texts = row_texts(alloc, width, midpoint, rows)?;
-    let lines = texts.lines.as_slice();
+    let (width, height) = state.options.terminal_dimensions;
+    let lines = message_texts(alloc, &state.origins, messages.as_slice())?;
+    let origins = kept_origins(alloc, height, &state.origins, messages.as_slice())?;
     let mut bytes = String::new(alloc);
-    push_joined(&mut bytes, standing, lines)?;
-    push_blanked(&mut bytes, &standing[lines.len().min(standing.len())..])?;
-    push_up(&mut bytes, lines.len().max(standing.len()))?;
-    let standing = columns_of_lines(alloc, lines)?;
-    Ok(DrawnFrame {
-        bytes,
-        standing,
-        midpoint: texts.midpoint,
-    })
+    push_joined(&mut bytes, &state.standing, &lines)?;
+    let left = below(&state.standing, lines.len());
+    if state.draws(show, rows) {
+        let texts = row_texts(alloc, width, state.midpoint, rows.as_slice())?;
+        push_redraw(&mut bytes, left, &texts.lines)?;
+        Ok(Composed {
+            bytes,
+            standing: columns_of_lines(alloc, &texts.lines)?,
+            midpoint: texts.midpoint,
+            origins,
+        })
+    } else {
+        Ok(Composed {
+            bytes,
+            standing: Vec::from_slice(alloc, left)?,
+            midpoint: state.midpoint,
+            origins,
+        })
+    }
+}
+
+/// Composes the closing frame: blanks over the lines that stand, and the row below those above is
+/// erased.
+pub(crate) fn compose_closing(alloc: Global, standing: &[u16]) -> Result<String, AllocError>
+    ensures { IfOk result (λ bytes. string_bytes bytes ≡ spelling (frame_signs standing.now closing_frame)) }
+{
+    let mut bytes = String::new(alloc);
+    push_redraw(&mut bytes, standing, &[])?;
+    bytes.push_str("\u{1b}[2K\r")?;
+    Ok(bytes)
+}
+
+/// The columns that stand below the first so many lines.
+fn below(standing: &[u16], lines: usize) -> &[u16]
+    ensures { result.now ≡ drop lines standing.now }
+{
+    &standing[lines.min(standing.len())..]
+}
+
+/// Appends lines, each over the columns that stand in its row, blanks over the rows that are left
+/// over, and the control function back up.
+fn push_redraw(out: &mut String, standing: &[u16], lines: &[LineText]) -> Result<(), AllocError>
+    ensures { OnOk result ((drawn : List Line) → lines.now ≡ texts_of drawn → string_bytes out.new ≡ string_bytes out.old ++ spelling (redraw standing.now drawn)) }
+{
+    push_joined(out, standing, lines)?;
+    push_blanked(out, below(standing, lines.len()))?;
+    push_up(out, lines.len().max(standing.len()))?;
+    Ok(())
 }
 
 /// The columns of each line.

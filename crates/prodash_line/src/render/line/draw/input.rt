@@ -1,3 +1,4 @@
+use prodash_base::messages::{MessageCopyState, Messages};
 use prodash_base::progress::Rows;
 use prodash_base::time::Moment;
 
@@ -11,14 +12,20 @@ pub struct Options {
 /// What a frame is asked for.
 #[derive(Debug, Drop)]
 pub enum Input {
-    /// The rows are seen, and shown if something has changed.
+    /// The new messages are printed. The rows are seen, and shown if something has changed.
     Tick {
         /// When it is.
         at: Moment,
         /// Whether the rows are shown, or held back.
         show: bool,
-        /// The rows, ascending by key.
-        rows: Rows,
+        /// The rows, ascending by key, the messages that came since the state that `State::seen`
+        /// answers, and the state after them. Without a root there are none, and the tick closes.
+        seen: Option<(Rows, Messages, MessageCopyState)>,
+    },
+    /// The renderer closes.
+    Quit {
+        /// When it is.
+        at: Moment,
     },
 }
 
@@ -27,4 +34,6 @@ pub enum Input {
 pub enum Answer {
     /// The frame was written, if it had to be.
     Drawn,
+    /// The closing frame was written.
+    Ended,
 }

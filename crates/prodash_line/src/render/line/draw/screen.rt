@@ -1,5 +1,5 @@
-ghost use Rattle.std.specs.Prelude.{◌≡◌, ℕ, ◌+◌, ◌<◌, ◌≤◌, List, [], ◌++◌, Bool, false, length, take, is_err, IsTrue, IfOk, IfErr, OnOk, OnErr};
-ghost use Rattle.prodash_line.specs.Screens.{TakesFront};
+ghost use Rattle.std.specs.Prelude.{◌≡◌, ℕ, ◌+◌, ◌<◌, ◌≤◌, [], ◌++◌, false, length, take, is_err, IsTrue, IfOk, IfErr, OnOk, OnErr};
+ghost use Rattle.prodash_line.specs.Screens.{Taken, TakesFront, TakesFrame, BreaksUnder};
 
 use prodash_base::Refusal;
 use std::alloc::Global;
@@ -7,48 +7,42 @@ use std::marker::Model;
 
 /// Takes the bytes of frames, until it breaks. Once broken it stays so and takes nothing.
 pub trait Screen {
-    /// The bytes taken so far.
-    ghost taken: { Self → List ℕ };
-
-    /// The bytes sent on so far.
-    ghost sent: { Self → List ℕ };
-
-    /// Whether it is broken.
-    ghost broken: { Self → Bool };
+    /// The bytes taken so far, those sent on so far, and whether it is broken.
+    ghost taken: { Self → Taken };
 
     /// Takes a front of the bytes, at least one where there is one, and answers how many; or
     /// breaks, with a front of them taken.
     fn put(&mut self, bytes: &[u8]) -> Result<usize, Refusal>
-        ensures ok { IfOk result (λ n. (n ≤ length bytes.now) × (taken self.new ≡ taken self.old ++ take n bytes.now)) }
+        ensures ok { IfOk result (λ n. (n ≤ length bytes.now) × ((taken self.new).bytes ≡ (taken self.old).bytes ++ take n bytes.now)) }
         ensures some { IfOk result (λ n. 0 < length bytes.now → 0 < n) }
-        ensures err { OnErr result (TakesFront bytes.now (taken self.old) (taken self.new)) }
+        ensures err { OnErr result (TakesFront bytes.now (taken self.old).bytes (taken self.new).bytes) }
         ensures reason { IfErr result (λ e. e ≡ Refusal.Broken) }
-        ensures exact { is_err result ≡ broken self.new }
-        ensures stays { IsTrue (broken self.old) → IsTrue (broken self.new) × (taken self.new ≡ taken self.old) };
+        ensures exact { is_err result ≡ (taken self.new).broken }
+        ensures stays { IsTrue (taken self.old).broken → IsTrue (taken self.new).broken × ((taken self.new).bytes ≡ (taken self.old).bytes) };
 
     /// Sends on what was taken, or breaks.
     fn flush(&mut self) -> Result<(), Refusal>
-        ensures same { taken self.new ≡ taken self.old }
-        ensures sent { OnOk result (sent self.new ≡ taken self.new) }
+        ensures same { (taken self.new).bytes ≡ (taken self.old).bytes }
+        ensures sent { OnOk result ((taken self.new).sent ≡ (taken self.new).bytes) }
         ensures reason { IfErr result (λ e. e ≡ Refusal.Broken) }
-        ensures exact { is_err result ≡ broken self.new }
-        ensures stays { IsTrue (broken self.old) → IsTrue (broken self.new) };
+        ensures exact { is_err result ≡ (taken self.new).broken }
+        ensures stays { IsTrue (taken self.old).broken → IsTrue (taken self.new).broken };
 
     /// Whether it is broken.
     fn is_broken(&self) -> bool
-        ensures { result ≡ broken self.now };
+        ensures { result ≡ (taken self.now).broken };
 }
 
-/// Writes the whole frame and flushes it, or breaks the screen with a beginning of it written.
+/// Writes the whole frame and flushes it, or breaks the screen with a beginning of it written. A
+/// frame without bytes asks nothing of the screen.
 pub(crate) fn write_frame<S: Screen>(screen: &mut S, frame: &[u8]) -> Result<(), Refusal>
-    requires { 0 < length frame.now }
-    ensures ok { OnOk result (S.taken screen.new ≡ S.taken screen.old ++ frame.now) }
-    ensures sent { OnOk result (S.sent screen.new ≡ S.taken screen.new) }
-    ensures err { OnErr result (TakesFront frame.now (S.taken screen.old) (S.taken screen.new)) }
+    ensures ok { OnOk result (TakesFrame frame.now (S.taken screen.old) (S.taken screen.new)) }
+    ensures err { OnErr result (BreaksUnder frame.now (S.taken screen.old) (S.taken screen.new)) }
     ensures reason { IfErr result (λ e. e ≡ Refusal.Broken) }
-    ensures exact { is_err result ≡ S.broken screen.new }
-    ensures stays { IsTrue (S.broken screen.old) → IsTrue (S.broken screen.new) × (S.taken screen.new ≡ S.taken screen.old) }
 {
+    if frame.is_empty() {
+        return Ok(());
+    }
     let mut done = 0;
     while done < frame.len() {
         done += screen.put(&frame[done..])?;
@@ -98,11 +92,7 @@ impl MemoryScreen {
 }
 
 impl Screen for MemoryScreen {
-    ghost taken = { λ s. s.bytes };
-
-    ghost sent = { λ s. s.bytes };
-
-    ghost broken = { λ s. s.broken };
+    ghost taken = { λ s. record { bytes = s.bytes; sent = s.bytes; broken = s.broken } };
 
     fn put(&mut self, bytes: &[u8]) -> Result<usize, Refusal>
         ensures ok { IfOk result (λ n. (n ≤ length bytes.now) × (self.new.bytes ≡ self.old.bytes ++ take n bytes.now)) }

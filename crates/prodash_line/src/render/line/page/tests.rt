@@ -11,7 +11,7 @@ struct Written {
     cursor: (usize, u16),
 }
 
-const WRITTEN: [Written; 6] = [
+const WRITTEN: [Written; 7] = [
     // a page of one cell
     Written {
         columns: 1,
@@ -29,6 +29,22 @@ const WRITTEN: [Written; 6] = [
         rows: &["", "", " task 3/10 [=======>-------------------]", ""],
         top: 1,
         cursor: (2, 0),
+    },
+    // a message over the row that stands, and the row below it
+    Written {
+        columns: 40,
+        height: 3,
+        bytes: b"\n\n task 3/10 [=======>-------------------]\n\x1b[1A\
+\x20task one                               \n task 4/10 [==========>----------------]\n\x1b[1A",
+        rows: &[
+            "",
+            "",
+            " task one",
+            " task 4/10 [==========>----------------]",
+            "",
+        ],
+        top: 2,
+        cursor: (3, 0),
     },
     // the last column wraps with the next character
     Written {

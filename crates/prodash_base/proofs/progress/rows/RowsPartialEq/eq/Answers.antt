@@ -1,14 +1,24 @@
-use Rattle.std.proofs.Common.{◌≡◌, sym, ◌∙◌, ap}
-use Rattle.prodash_base.specs.Rows.{rows_of, same_rows}
+use Rattle.std.proofs.Common.{rules, ◌≡◌, ◌∙◌, sym, ap, List}
+use Rattle.std.specs.Cmp.Lexicographic.{pointwise}
+use Rattle.std.specs.Cmp.Derive.Mapped.{pointwise-map}
+use Rattle.prodash_base.specs.declared.progress.Row.{Row}
+use Rattle.prodash_base.specs.Rows.{row_of, rows_of, same_row, same_rows}
 use Rattle.prodash_base.specs.SameRows.{exact_rows, reflexive_rows}
+use Rattle.prodash_base.specs.contracts.progress.RowPartialEq.TheImpl as row
 use Rattle.prodash_base.proofs.progress.rows.RowsPartialEq.eq.Goals as goal
+
+same_as_row : (r s : Row) → row.ghosts.eq r s ≡ same_row (row_of r) (row_of s)
+same_as_row r s = search rules
+
+same_as_rows : (rows others : List Row) → pointwise row.ghosts.eq rows others ≡ same_rows (rows_of rows) (rows_of others)
+same_as_rows rows others = (λ i. pointwise (λ r s. same_as_row r s i) rows others) ∙ sym (pointwise-map row_of same_row rows others)
+
+pub returns-clause-value : goal.returns-clause-value
+returns-clause-value c = search (rules, same_as_rows)
 
 pub returns-clause-exact : goal.returns-clause-exact
 returns-clause-exact c =
-    let own = ap rows_of c.deref.ensures.value ∙ c.self.view_is in
-    let others = ap rows_of c.deref-2.ensures.value ∙ c.other.view_is in
-    let test : c.are_same.result ≡ same_rows c.args.self.now c.args.other.now =
-    c.are_same.ensures ∙ ap (λ rows. same_rows rows (rows_of c.deref-2.result.now)) own ∙ ap (same_rows c.args.self.now) others in (
+    let test = returns-clause-value c in (
       λ yes. exact_rows c.args.self.now c.args.other.now (sym test ∙ yes),
       λ same. test ∙ ap (λ rows. same_rows rows c.args.other.now) same ∙ reflexive_rows c.args.other.now,
     )

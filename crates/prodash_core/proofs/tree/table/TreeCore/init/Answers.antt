@@ -1,7 +1,7 @@
-use Rattle.std.proofs.Common.{rules, ◌∙◌, ap, sym, Some}
+use Rattle.std.proofs.Common.{rules, ◌∙◌, ap, sym, Some, is_some}
 use Rattle.std.specs.Option.{option_map}
 use Rattle.prodash_core.specs.Tables.{counted_of}
-use Rattle.prodash_core.proofs.TableChanges.{table_of, is_some-none, is_some-some, with_progress-none, with_progress-some}
+use Rattle.prodash_core.proofs.TableChanges.{table_of, is_some-table_of, with_progress-none, with_progress-some}
 use Rattle.prodash_core.proofs.Sorting.{lookup_by_eq, update_by_eq}
 use Rattle.prodash_core.proofs.tree.table.TreeCore.init.Goals as goal
 use Rattle.prodash_core.proofs.tree.table.TreeCore.init.Goals.{in-None, in-Some}
@@ -10,8 +10,8 @@ pub returns-clause-found : goal.returns-clause-found
 returns-clause-found g c =
     let es = c.self.inside.tasks.entries in
     rw (← c.self.view_is) (elim c.match-get_mut.branch [
-      | in-None w ↦ w.result-is ∙ sym (is_some-none es c.args.key (w.in-None.ensures.value ∙ lookup_by_eq es c.args.key))
-      | in-Some w ↦ w.result-is ∙ sym (is_some-some es c.args.key w.in-Some.task.now (w.in-Some.ensures.value ∙ lookup_by_eq es c.args.key))
+      | in-None w ↦ w.result-is ∙ ap is_some (w.in-None.ensures.value ∙ lookup_by_eq es c.args.key) ∙ sym (is_some-table_of es c.args.key)
+      | in-Some w ↦ w.result-is ∙ ap is_some (w.in-Some.ensures.value ∙ lookup_by_eq es c.args.key) ∙ sym (is_some-table_of es c.args.key)
     ])
 
 pub returns-clause-after : goal.returns-clause-after

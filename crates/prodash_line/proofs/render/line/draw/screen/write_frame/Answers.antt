@@ -1,4 +1,4 @@
-use Rattle.std.proofs.Common.{◌+◌, arith}
+use Rattle.std.proofs.Common.{◌+◌, ◌++◌, take, append-nil, ap, sym, ◌∙◌, arith}
 use Rattle.std.proofs.lemmas.Result.{err_from_is_err_and}
 use Rattle.prodash_line.proofs.ScreenTaken.{takes_more}
 use Rattle.prodash_line.proofs.render.line.draw.screen.write_frame.Goals as goal
@@ -7,15 +7,22 @@ pub returns-in_err-done-clause-err : goal.returns-in_err-done-clause-err
 returns-in_err-done-clause-err g c =
     let p = err_from_is_err_and c.from_residual.result c.from_residual.ensures.1 in
     let h = c.in_err-done.ensures.err in
-    let t = takes_more (g.S.Screen.taken c.args.screen.now) (g.S.Screen.taken c.loop-done.screen) (g.S.Screen.taken c.put.new.self) c.args.frame.now c.loop-done.done h.0 c.loop-done.invariant.within c.loop-done.invariant.taken h.1 h.2 in
-    rw p.1 (c.loop-done.done + h.0, t.0, t.1)
+    let t = takes_more (g.S.Screen.taken c.args.screen.now).bytes (g.S.Screen.taken c.loop-done.screen).bytes (g.S.Screen.taken c.put.new.self).bytes c.args.frame.now c.loop-done.done h.0 c.loop-done.invariant.within c.loop-done.invariant.taken h.1 h.2 in
+    rw p.1 (record {
+      some = grind (arith, c.loop-done-test.true);
+      front = (c.loop-done.done + h.0, t.0, t.1);
+      idle = λ b. let was = c.loop-done.invariant.was_broken b in
+          (c.in_err-done.ensures.stays was.0).1 ∙ c.loop-done.invariant.taken ∙ ap (λ n. (g.S.Screen.taken c.args.screen.now).bytes ++ take n c.args.frame.now) was.1 ∙ append-nil _;
+      broken = sym c.in_err-done.ensures.exact;
+    })
 
 pub loop-done-preserved : goal.loop-done-preserved
 loop-done-preserved g c =
     let h = c.in_ok-done.ensures in
-    let t = takes_more (g.S.Screen.taken c.args.screen.now) (g.S.Screen.taken c.loop-done.screen) (g.S.Screen.taken c.put.new.self) c.args.frame.now c.loop-done.done c.in_ok-done.field-0 c.loop-done.invariant.within c.loop-done.invariant.taken h.ok.0 h.ok.1 in
+    let t = takes_more (g.S.Screen.taken c.args.screen.now).bytes (g.S.Screen.taken c.loop-done.screen).bytes (g.S.Screen.taken c.put.new.self).bytes c.args.frame.now c.loop-done.done c.in_ok-done.field-0 c.loop-done.invariant.within c.loop-done.invariant.taken h.ok.0 h.ok.1 in
     record {
       within = t.0;
       taken = t.1;
+      is_broken = λ _. sym h.exact;
       was_broken = λ b. let s = (h.stays (c.loop-done.invariant.was_broken b).0).0 in let e = h.exact in absurd (grind (arith, s, e));
     }
