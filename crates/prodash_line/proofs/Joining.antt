@@ -9,22 +9,22 @@ use Rattle.prodash_line.specs.declared.render.line.draw.text.LineText.{LineText}
 use Rattle.prodash_line.specs.Signs.{spelling}
 use Rattle.prodash_line.specs.Lines.{Line, spaces, columns_of}
 use Rattle.prodash_line.specs.Frames.{widths_of, piece_signs, line_signs, first, part, cover, up, redraw}
-use Rattle.prodash_line.specs.Joined.{written, text_of, texts_of, blank, joined, blanked}
+use Rattle.prodash_line.specs.Joined.{written, text_of, texts_of, row_end, joined, blanked}
 use Rattle.prodash_line.proofs.Written.{spelling-append, spelling-repeated}
 
-spelling-blank : (n : ℕ) → spelling (piece_signs (spaces n) ++ LineFeed ∷ []) ≡ blank n
-spelling-blank n = spelling-append (piece_signs (spaces n)) (LineFeed ∷ []) ∙ ap (λ t. t ++ 10 ∷ []) (spelling-repeated n 32 (omega arith))
+spelling-row_end : (n : ℕ) → spelling (piece_signs (spaces n) ++ LineFeed ∷ []) ≡ row_end n
+spelling-row_end n = spelling-append (piece_signs (spaces n)) (LineFeed ∷ []) ∙ ap (λ t. t ++ 10 ∷ []) (spelling-repeated n 32 (omega arith))
 
-spelling-part : (stood : ℕ) (line : Line) → spelling (part stood line) ≡ written line ++ blank (stood - columns_of line)
+spelling-part : (stood : ℕ) (line : Line) → spelling (part stood line) ≡ written line ++ row_end (stood - columns_of line)
 unfolding written
-spelling-part stood line = spelling-append (line_signs line) (piece_signs (spaces (stood - columns_of line)) ++ LineFeed ∷ []) ∙ ap (λ t. written line ++ t) (spelling-blank (stood - columns_of line))
+spelling-part stood line = spelling-append (line_signs line) (piece_signs (spaces (stood - columns_of line)) ++ LineFeed ∷ []) ∙ ap (λ t. written line ++ t) (spelling-row_end (stood - columns_of line))
 
 -- lines over what stands
 pub joined_cover : (widths : List ℕ) (lines : List Line) → joined widths (texts_of lines) ≡ spelling (cover widths lines)
 joined_cover widths [] = refl
 joined_cover widths (line ∷ lines) =
     let gap = first widths - columns_of line in
-    sym (append_assoc (written line) (blank gap) (joined (drop 1 widths) (texts_of lines)))
+    sym (append_assoc (written line) (row_end gap) (joined (drop 1 widths) (texts_of lines)))
     ∙ ap (λ t. t ++ joined (drop 1 widths) (texts_of lines)) (sym (spelling-part (first widths) line))
     ∙ ap (λ t. spelling (part (first widths) line) ++ t) (joined_cover (drop 1 widths) lines)
     ∙ sym (spelling-append (part (first widths) line) (cover (drop 1 widths) lines))
@@ -37,8 +37,8 @@ written_empty = refl
 pub blanked_cover : (widths : List ℕ) → blanked widths ≡ spelling (cover widths (replicate (length widths) []))
 blanked_cover [] = refl
 blanked_cover (columns ∷ widths) =
-    ap (λ n. blank n ++ blanked widths) (let e : columns ≡ columns - 0 = omega arith in e)
-    ∙ ap (λ t. (t ++ blank (columns - 0)) ++ blanked widths) (sym written_empty)
+    ap (λ n. row_end n ++ blanked widths) (let e : columns ≡ columns - 0 = omega arith in e)
+    ∙ ap (λ t. (t ++ row_end (columns - 0)) ++ blanked widths) (sym written_empty)
     ∙ ap (λ t. t ++ blanked widths) (sym (spelling-part columns []))
     ∙ ap (λ t. spelling (part columns []) ++ t) (blanked_cover widths)
     ∙ sym (spelling-append (part columns []) (cover widths (replicate (length widths) [])))

@@ -16,15 +16,15 @@ abbrev pub texts_of : List Line → List LineText
 texts_of lines = map text_of lines
 
 -- so many spaces, and a line feed
-abbrev pub blank : ℕ → List ℕ
-blank columns = replicate columns 32 ++ 10 ∷ []
+abbrev pub row_end : ℕ → List ℕ
+row_end columns = replicate columns 32 ++ 10 ∷ []
 
 -- each text over the columns that stand in its row
 abbrev pub joined : List ℕ → List LineText → List ℕ
 joined widths [] = []
-joined widths (t ∷ ts) = t.text ++ (blank (first widths - t.columns) ++ joined (drop 1 widths) ts)
+joined widths (t ∷ ts) = t.text ++ (row_end (first widths - t.columns) ++ joined (drop 1 widths) ts)
 
 -- the rows that are left over
 abbrev pub blanked : List ℕ → List ℕ
 blanked [] = []
-blanked (columns ∷ widths) = blank columns ++ blanked widths
+blanked (columns ∷ widths) = row_end columns ++ blanked widths

@@ -2,7 +2,7 @@ ghost use Rattle.std.specs.Prelude.{◌≡◌, ℕ, ◌+◌, ◌-◌, ◌<◌, �
 ghost use Rattle.prodash_line.specs.Lines.{Line};
 ghost use Rattle.prodash_line.specs.Signs.{spelling};
 ghost use Rattle.prodash_line.specs.Frames.{redraw, up};
-ghost use Rattle.prodash_line.specs.Joined.{joined, blank, blanked, texts_of};
+ghost use Rattle.prodash_line.specs.Joined.{joined, row_end, blanked, texts_of};
 ghost use Rattle.prodash_line.specs.Renderer.{ticked, tick_frame, closing_frame};
 ghost use Rattle.prodash_line.specs.Frames.{frame_signs};
 
@@ -125,7 +125,7 @@ fn push_blanked(out: &mut String, standing: &[u16]) -> Result<(), AllocError>
 
 /// Appends so many spaces, and a line feed.
 fn push_blank(out: &mut String, columns: u16) -> Result<(), AllocError>
-    ensures { OnOk result (string_bytes out.new ≡ string_bytes out.old ++ blank columns) }
+    ensures { OnOk result (string_bytes out.new ≡ string_bytes out.old ++ row_end columns) }
 {
     for done in 0..columns {
         let _ = done;
