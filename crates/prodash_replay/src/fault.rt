@@ -8,25 +8,25 @@ use std::alloc::{AllocError, AllocFailed};
 use std::io;
 use thiserror::Error;
 
-/// Why a replay wrote nothing, or not all.
+/// Why a replay failed. Its text is the line that the program writes to standard error.
 #[derive(Clone, Copy, Debug, PartialEq, Eq, Error)]
 pub enum Fault {
-    /// The words ask for nothing that there is.
+    /// The arguments are not a command and two dimensions.
     #[error("usage: prodash-replay bytes|page COLUMNS ROWS")]
     Usage,
-    /// The number of the first such line, counted from 1.
+    /// This line of the input, counted from 1, is the first that is not an event.
     #[error("line {0}: not an event")]
     Line(usize),
-    /// How many bytes of the frames are signs, where the next is none.
+    /// No sign begins at this byte of the frames, and the bytes before it are signs.
     #[error("byte {0}: not a sign")]
     Sign(usize),
-    /// The input couldn't be read.
+    /// Reading the input failed.
     #[error("input is broken")]
     Input,
-    /// The output couldn't be written.
+    /// Writing the output failed.
     #[error("output is broken")]
     Output,
-    /// A growth was refused.
+    /// Out of memory.
     #[error("no memory")]
     Memory,
 }
@@ -34,7 +34,7 @@ pub enum Fault {
 impl Fault {
     ghost use Rattle.prodash_replay.specs.Faults.{status_of};
 
-    /// The status that the program ends with.
+    /// The exit status: 2 if the arguments or the input have to be mended, else 1.
     pub fn status(&self) -> u8
         ensures { result ≡ status_of self.now }
     {
@@ -44,7 +44,7 @@ impl Fault {
         }
     }
 
-    /// A fault of the input.
+    /// The fault of a read that failed: out of memory, or else `Input`.
     pub fn of_input(error: &io::Error) -> Fault {
         match error.kind() {
             io::ErrorKind::OutOfMemory => Fault::Memory,
@@ -83,7 +83,8 @@ impl From<page::Fault> for Fault {
 impl From<Refusal> for Fault {
     ghost from_gives = { λ _ e. e ≡ Memory };
 
-    /// A screen in memory breaks for want of memory alone.
+    /// The refusals that a replay meets all come from memory: a `MemoryScreen` breaks only if it
+    /// can't grow.
     fn from(_refusal: Refusal) -> Fault {
         Fault::Memory
     }

@@ -4,7 +4,7 @@ use prodash_base::progress::UNKNOWN;
 use prodash_core::tree::Event;
 use std::alloc::{AllocError, Global};
 
-/// The number that a word is: 1 to 20 decimal digits, with a value that fits 64 bits.
+/// Parses a number of 1 to 20 decimal digits that fits in 64 bits.
 pub fn number(word: &str) -> Option<u64> {
     if word.is_empty() || word.len() > 20 || !word.bytes().all(|b| b.is_ascii_digit()) {
         return None;
@@ -12,7 +12,7 @@ pub fn number(word: &str) -> Option<u64> {
     word.parse::<u64>().ok()
 }
 
-/// The bound that a word is: a number, or `-` for none.
+/// Parses a bound: a number, or `-` for none.
 fn bound(word: &str) -> Option<Option<u64>> {
     if word == "-" {
         return Some(None);
@@ -20,7 +20,7 @@ fn bound(word: &str) -> Option<Option<u64>> {
     Some(Some(number(word)?))
 }
 
-/// The event that a line is, if it is one.
+/// Parses a line as an event. Returns `None` if it is not one.
 pub fn event_of(alloc: Global, line: &str) -> Result<Option<Event>, AllocError> {
     let Some((word, rest)) = line.split_once(' ') else {
         return Ok(alone(line));
@@ -40,7 +40,7 @@ pub fn event_of(alloc: Global, line: &str) -> Result<Option<Event>, AllocError> 
     }
 }
 
-/// A word alone.
+/// Parses an event that is a single word.
 fn alone(word: &str) -> Option<Event> {
     match word {
         "droproot" => Some(Event::DropRoot),
@@ -48,7 +48,7 @@ fn alone(word: &str) -> Option<Event> {
     }
 }
 
-/// `H NAME`.
+/// Parses the arguments `H NAME`.
 fn add(alloc: Global, rest: &str) -> Result<Option<Event>, AllocError> {
     let Some((parent, name)) = rest.split_once(' ') else {
         return Ok(None);
@@ -63,14 +63,14 @@ fn add(alloc: Global, rest: &str) -> Result<Option<Event>, AllocError> {
     }))
 }
 
-/// `H`.
+/// Parses the arguments `H`.
 fn drop_item(rest: &str) -> Option<Event> {
     Some(Event::Drop {
         item: number(rest)?,
     })
 }
 
-/// `H MAX UNIT`, where the unit is none.
+/// Parses the arguments `H MAX UNIT`. The only unit is `-`, which is none.
 fn init(rest: &str) -> Option<Event> {
     let (item, rest) = rest.split_once(' ')?;
     let (max, unit) = rest.split_once(' ')?;
@@ -83,7 +83,7 @@ fn init(rest: &str) -> Option<Event> {
     }
 }
 
-/// `H N`.
+/// Parses the arguments `H N`.
 fn set(rest: &str) -> Option<Event> {
     let (item, step) = rest.split_once(' ')?;
     Some(Event::Set {
@@ -92,7 +92,7 @@ fn set(rest: &str) -> Option<Event> {
     })
 }
 
-/// `H AT TEXT`.
+/// Parses the arguments `H AT TEXT`.
 fn message(alloc: Global, level: MessageLevel, rest: &str) -> Result<Option<Event>, AllocError> {
     let Some((item, rest)) = rest.split_once(' ') else {
         return Ok(None);
@@ -111,7 +111,7 @@ fn message(alloc: Global, level: MessageLevel, rest: &str) -> Result<Option<Even
     }))
 }
 
-/// `AT`.
+/// Parses the arguments `AT`.
 fn tick(rest: &str, show: bool) -> Option<Event> {
     Some(Event::Tick {
         at: number(rest)?,
@@ -119,7 +119,7 @@ fn tick(rest: &str, show: bool) -> Option<Event> {
     })
 }
 
-/// `AT`.
+/// Parses the arguments `AT`.
 fn quit(rest: &str) -> Option<Event> {
     Some(Event::Quit { at: number(rest)? })
 }

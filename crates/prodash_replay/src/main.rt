@@ -1,4 +1,4 @@
-//! Replays a list of events, one a line, and writes the frames that it draws.
+//! Replays a list of events, one per line, and writes the frames that they draw.
 #![tactic(auto)]
 
 mod fault;
@@ -15,10 +15,10 @@ use std::rt::Env;
 use std::{env, io};
 
 fn main(rt: HostRuntime) -> ExitCode {
-    let status = match words_of(&rt) {
-        Ok(words) => replay(
+    let status = match arguments(&rt) {
+        Ok(args) => replay(
             rt.alloc(),
-            &words,
+            &args,
             &mut rt.reader(),
             &mut rt.stdout(),
             &mut rt.stderr(),
@@ -28,15 +28,15 @@ fn main(rt: HostRuntime) -> ExitCode {
     ExitCode::from(status)
 }
 
-/// The words behind the program's name. One that is no text is a fault of usage.
-fn words_of<R: Env + Alloc<A = Global>>(rt: &R) -> Result<Vec<String>, Fault> {
-    let mut words = Vec::new(rt.alloc());
+/// The command-line arguments, without the program's name. One that isn't UTF-8 is a usage fault.
+fn arguments<R: Env + Alloc<A = Global>>(rt: &R) -> Result<Vec<String>, Fault> {
+    let mut arguments = Vec::new(rt.alloc());
     match env::args(rt) {
         Ok(all) => {
-            for word in all.skip(1) {
-                words.push(word)?;
+            for argument in all.skip(1) {
+                arguments.push(argument)?;
             }
-            Ok(words)
+            Ok(arguments)
         }
         Err(error) if error.kind() == io::ErrorKind::OutOfMemory => Err(Fault::Memory),
         Err(_) => Err(Fault::Usage),

@@ -9,16 +9,16 @@ use prodash_line::render::line::page::{Page, read};
 use std::alloc::{AllocError, Global};
 use std::io::{Read, Write};
 
-/// What is written of the frames.
+/// What the program writes of the frames.
 #[derive(Clone, Copy, Debug, PartialEq, Eq)]
 enum Command {
-    /// Their bytes.
+    /// The bytes.
     Bytes,
-    /// The rows that they leave on a page.
+    /// The rows of a page on which they are played.
     Page,
 }
 
-/// What the words ask for.
+/// The command line: a command, and the columns and rows of the terminal.
 #[derive(Clone, Copy, Debug)]
 struct Request {
     command: Command,
@@ -28,18 +28,21 @@ struct Request {
     ghost high: { 0 < rows },
 }
 
-/// Replays the events of the input, one a line, as the words say: `bytes COLUMNS ROWS` writes the
-/// bytes of all frames, `page COLUMNS ROWS` plays them on a page of that size and writes every row
-/// ever, without the blanks at its end. A fault is one line on `err`, and but for a fault of `out`
-/// itself nothing is written to `out` then. Answers the program's status.
+/// Runs the program: replays the events of `input`, one per line, with the command-line arguments
+/// `bytes COLUMNS ROWS` or `page COLUMNS ROWS`. `bytes` writes the bytes of all frames to `out`;
+/// `page` plays them on a page of that size and writes each row that it ever had, without trailing
+/// blanks. Returns the exit status.
+///
+/// If anything fails, one line on `err` says what. Unless it was `out` that failed, nothing has
+/// been written to `out` then.
 pub fn replay<R: Read, O: Write, E: Write>(
     alloc: Global,
-    words: &[String],
+    args: &[String],
     input: &mut R,
     out: &mut O,
     err: &mut E,
 ) -> u8 {
-    let written = match replayed(alloc, words, input) {
+    let written = match replayed(alloc, args, input) {
         Ok(bytes) => write_all(out, &bytes),
         Err(fault) => Err(fault),
     };
@@ -49,7 +52,7 @@ pub fn replay<R: Read, O: Write, E: Write>(
     }
 }
 
-/// Writes the fault's line, and answers its status.
+/// Writes the fault's line to `err`, and returns its exit status.
 pub fn report<E: Write>(err: &mut E, fault: Fault) -> u8 {
     let _ = writeln!(err, "{fault}");
     fault.status()
@@ -63,9 +66,9 @@ fn write_all<O: Write>(out: &mut O, bytes: &[u8]) -> Result<(), Fault> {
     Ok(())
 }
 
-/// What the replay of the input is to write.
-fn replayed<R: Read>(alloc: Global, words: &[String], input: &mut R) -> Result<Vec<u8>, Fault> {
-    let request = request_of(words)?;
+/// Returns what the replay is to write to its output.
+fn replayed<R: Read>(alloc: Global, args: &[String], input: &mut R) -> Result<Vec<u8>, Fault> {
+    let request = parse_args(args)?;
     let mut bytes = Vec::new(alloc);
     if let Err(error) = input.read_to_end(&mut bytes) {
         return Err(Fault::of_input(&error));
@@ -78,9 +81,9 @@ fn replayed<R: Read>(alloc: Global, words: &[String], input: &mut R) -> Result<V
     }
 }
 
-/// What the words ask for.
-fn request_of(words: &[String]) -> Result<Request, Fault> {
-    let [command, columns, rows] = words else {
+/// Parses the command line.
+fn parse_args(args: &[String]) -> Result<Request, Fault> {
+    let [command, columns, rows] = args else {
         return Err(Fault::Usage);
     };
     let command = match command.as_str() {
@@ -97,17 +100,17 @@ fn request_of(words: &[String]) -> Result<Request, Fault> {
     })
 }
 
-/// A number of columns or rows, from 1 to 65535.
+/// Parses a number of columns or rows, from 1 to 65535.
 fn dimension(word: &str) -> Result<u16, Fault>
     ensures { IfOk result (λ n. 0 < n) }
 {
     match number(word) {
-        Some(n) if 0 < n && n <= 65535 => Ok(n as u16),
+        Some(n) if 0 < n && n <= u64::from(u16::MAX) => Ok(n as u16),
         _ => Err(Fault::Usage),
     }
 }
 
-/// The events of the lines. The last line may lack its line feed.
+/// Parses each line as an event. The last line may lack its line feed.
 fn events_of(alloc: Global, bytes: &[u8]) -> Result<Vec<Event>, Fault> {
     let mut events = Vec::new(alloc);
     if bytes.is_empty() {
@@ -126,7 +129,7 @@ fn events_of(alloc: Global, bytes: &[u8]) -> Result<Vec<Event>, Fault> {
     Ok(events)
 }
 
-/// The bytes of all frames that the events draw.
+/// Returns the bytes of all frames that the events draw.
 fn drawn(alloc: Global, dimensions: (u16, u16), events: &[Event]) -> Result<Vec<u8>, Fault> {
     let options = SessionOptions {
         root: RootOptions::default(),
@@ -136,21 +139,21 @@ fn drawn(alloc: Global, dimensions: (u16, u16), events: &[Event]) -> Result<Vec<
     };
     let mut screen = MemoryScreen::new(alloc, 0)?;
     let replies = run(alloc, &options, events, &mut screen)?;
-    if replies.iter().any(is_starved) {
+    if replies.iter().any(is_out_of_memory) {
         return Err(Fault::Memory);
     }
     Ok(Vec::from_slice(alloc, screen.bytes())?)
 }
 
-/// Whether memory was wanted. A screen in memory breaks for that alone.
-fn is_starved(reply: &Reply) -> bool {
+/// Whether an event ran out of memory. A `MemoryScreen` breaks only if it can't grow.
+fn is_out_of_memory(reply: &Reply) -> bool {
     matches!(
         reply,
         Reply::Refused(Refusal::Memory) | Reply::Refused(Refusal::Broken)
     )
 }
 
-/// The rows that the bytes leave on a new page, each with a line feed.
+/// Plays the bytes on a new page, and returns its rows, each with a line feed.
 fn rows_written(alloc: Global, request: &Request, bytes: &[u8]) -> Result<Vec<u8>, Fault> {
     let mut page = Page::new(alloc, request.columns, request.rows)?;
     for sign in &read(alloc, bytes)? {
@@ -165,7 +168,7 @@ fn rows_written(alloc: Global, request: &Request, bytes: &[u8]) -> Result<Vec<u8
     Ok(text.into_bytes())
 }
 
-/// Appends a row without the blanks at its end, and a line feed.
+/// Appends a row without trailing blanks, and a line feed.
 fn push_trimmed(out: &mut String, row: &[char]) -> Result<(), AllocError> {
     let shown = row
         .iter()
