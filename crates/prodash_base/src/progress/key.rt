@@ -68,16 +68,9 @@ impl Key {
         ensures path { IsPath result }
     {
         let mut numbers = self.numbers;
-        if self.level < Key::max_level() {
-            numbers[usize::from(self.level)] = n;
-            Key {
-                numbers,
-                level: self.level + 1,
-            }
-        } else {
-            numbers[5] = n;
-            Key { numbers, level: 6 }
-        }
+        let level = (self.level + 1).min(Key::max_level());
+        numbers[usize::from(level) - 1] = n;
+        Key { numbers, level }
     }
 
     /// Returns the count of the key's numbers.
