@@ -13,13 +13,13 @@ pub use rows::Rows;
 /// The progress of a task, counted in a unit of its own.
 pub type Step = u64;
 
-/// An identifier of an item, which stays the same from run to run, whatever its text.
+/// An identifier of an item, beside its name. It stays the same from run to run.
 pub type Id = [u8; 4];
 
 /// The identifier of an item that has none of its own.
 pub const UNKNOWN: Id = [0; 4];
 
-/// Whether a task is running.
+/// The state of a task.
 #[derive(Clone, Copy, Debug, Default, PartialEq, Eq, PartialOrd, Ord, Hash)]
 pub enum State {
     /// The task can't go on until something else happens. Holds the reason, and the moment at

@@ -13,8 +13,8 @@ pub enum Refusal {
     /// As many messages as a `u64` can count were pushed already. Nothing has changed.
     #[error("too many messages")]
     TooManyMessages,
-    /// A handle is no longer valid, or the root handle was passed for an item's. Nothing has
-    /// changed.
+    /// A handle is no longer valid, or the root handle was passed in place of an item's handle.
+    /// Nothing has changed.
     #[error("no such handle")]
     Gone,
     /// The renderer has already written its closing frame. Nothing has changed.

@@ -7,7 +7,7 @@ ghost use Rattle.prodash_base.specs.Messages.{same_messages};
 use crate::messages::Message;
 use std::marker::Model;
 
-/// Messages that were copied from a ring, the oldest first. Contracts see the list.
+/// Messages that were copied from a ring. Contracts see the list.
 #[derive(Debug, Drop)]
 pub struct Messages {
     messages: Vec<Message>,

@@ -7,14 +7,13 @@ ghost use Rattle.prodash_base.specs.Rows.{rows_of, same_rows};
 use crate::progress::Row;
 use std::marker::Model;
 
-/// The rows of a snapshot, in the order of their keys. Contracts see the list of their paths and
-/// entries.
+/// The rows of a snapshot. Contracts see the list of their paths and entries.
 ///
 /// ```rust
-/// let snapshot = Rows::new(rows);
-/// for row in snapshot.as_slice() {
-///     draw(&row.key, row.name.as_str());
-/// }
+/// let mut list = Vec::new(alloc);
+/// list.push(row)?;
+/// let rows = Rows::new(list);
+/// assert_eq!(rows.as_slice().len(), 1);
 /// ```
 #[derive(Debug, Drop)]
 pub struct Rows {
