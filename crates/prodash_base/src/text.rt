@@ -10,7 +10,7 @@ use std::marker::Model;
 ///
 /// ```rust
 /// let name = Text::from_str(alloc, "task")?;
-/// assert!(name.as_str() == "task");
+/// assert_eq!(rt; name.as_str(), "task");
 /// ```
 #[derive(Debug, Drop)]
 pub struct Text {

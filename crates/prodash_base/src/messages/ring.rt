@@ -54,8 +54,8 @@ impl MessageCopyState {
 /// let state = ring.copy_new(alloc, &mut messages, None)?;
 /// ring.push_overwrite(alloc, 5, MessageLevel::Success, "task", "done")?;
 /// ring.copy_new(alloc, &mut messages, Some(state))?;
-/// assert_eq!(messages.len(), 1);
-/// assert!(messages[0].message.as_str() == "done");
+/// assert_eq!(rt; messages.len(), 1);
+/// assert_eq!(rt; messages[0].message.as_str(), "done");
 /// ```
 #[derive(Debug, Drop)]
 pub struct MessageRingBuffer {

@@ -23,9 +23,9 @@ pub type Level = u8;
 /// ```rust
 /// let parent = Key::default().add_child(3);
 /// let key = parent.add_child(7);
-/// assert_eq!(key.level(), 2);
-/// assert_eq!((key[1], key[2]), (3, 7));
-/// assert!(key.shares_parent_with(&parent.add_child(8), 1));
+/// assert_eq!(rt; key.level(), 2);
+/// assert_eq!(rt; key[2], 7);
+/// assert!(rt; key.shares_parent_with(&parent.add_child(8), 1));
 /// ```
 #[derive(Clone, Copy, Debug)]
 pub struct Key {

@@ -13,7 +13,7 @@ use std::marker::Model;
 /// let mut list = Vec::new(alloc);
 /// list.push(row)?;
 /// let rows = Rows::new(list);
-/// assert_eq!(rows.as_slice().len(), 1);
+/// assert_eq!(rt; rows.as_slice().len(), 1);
 /// ```
 #[derive(Debug, Drop)]
 pub struct Rows {
