@@ -8,7 +8,8 @@ use Rattle.prodash_base.specs.declared.messages.Message.{Message}
 
 -- the message of a task with this name
 abbrev pub message_of : ℕ → MessageLevel → List ℕ → List ℕ → Message
-message_of time level origin message = record { time = time; level = level; origin = origin; message = message }
+message_of time level origin message =
+    record { time = time; level = level; origin = origin; message = message }
 
 -- the test of equal levels
 abbrev pub same_level : MessageLevel → MessageLevel → Bool
@@ -19,7 +20,9 @@ same_level _ _ = false
 
 -- the test of equal messages
 abbrev pub same_message : Message → Message → Bool
-same_message m n = nat_eq m.time n.time && (same_level m.level n.level && (same_text m.origin n.origin && same_text m.message n.message))
+same_message m n =
+    nat_eq m.time n.time
+    && (same_level m.level n.level && (same_text m.origin n.origin && same_text m.message n.message))
 
 -- the test of equal lists of messages
 abbrev pub same_messages : List Message → List Message → Bool

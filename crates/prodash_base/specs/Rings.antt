@@ -3,7 +3,7 @@ use Rattle.std.specs.Prelude.{ℕ, Bool, nat_eq, ◌+◌, ◌-◌, ◌^◌, min,
 use Rattle.circular_buffer.specs.Buffer.{keep_last}
 use Rattle.prodash_base.specs.declared.messages.Message.{Message}
 
--- the most messages that a ring keeps, those that it keeps, oldest first, and the count of all pushes
+-- the most messages that a ring keeps, those it keeps, oldest first, and the count of all pushes
 pub record Ring : Type 0 where
   pub capacity : ℕ
   pub messages : List Message
@@ -13,15 +13,15 @@ pub record Ring : Type 0 where
 abbrev pub new_ring : ℕ → Ring
 new_ring capacity = record { capacity = capacity; messages = []; pushed = 0 }
 
--- the test of a ring to which as many messages were pushed as a `u64` counts
+-- the test whether as many messages were pushed as a `u64` counts
 abbrev pub is_push_limit_reached : Ring → Bool
 is_push_limit_reached r = nat_eq r.pushed (2 ^ 64 - 1)
 
 -- the ring after a push, which drops the oldest message if the ring is full
 abbrev pub push : Ring → Message → Ring
-push r m = record { capacity = r.capacity; messages = keep_last r.capacity (r.messages ++ m ∷ []); pushed = r.pushed + 1 }
+push r m = record r { messages = keep_last r.capacity (r.messages ++ m ∷ []); pushed = r.pushed + 1 }
 
--- the messages of a ring that came after the first `seen` pushes, or all of them without that number
+-- the messages of a ring after the first `seen` pushes, or all of them without that number
 abbrev pub messages_since : Ring → Option ℕ → List Message
 messages_since r None = r.messages
 messages_since r (Some seen) = keep_last (r.pushed - seen) r.messages
@@ -32,7 +32,8 @@ latest_messages capacity all = keep_last capacity all
 
 -- the ring after the pushes of these messages
 abbrev pub ring_of : ℕ → List Message → Ring
-ring_of capacity all = record { capacity = capacity; messages = latest_messages capacity all; pushed = length all }
+ring_of capacity all =
+    record { capacity = capacity; messages = latest_messages capacity all; pushed = length all }
 
 -- the last messages of a list, at most `capacity`, and at most as many as follow the first `seen`
 abbrev pub new_since : ℕ → List Message → ℕ → List Message

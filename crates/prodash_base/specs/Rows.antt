@@ -42,7 +42,8 @@ progress_of v = record { counter = v.step; bound = v.done_at; phase = phase_of v
 
 -- the path and the entry of a row
 abbrev pub row_of : Row → PathRow
-row_of r = (r.key, record { name = r.name; id = r.id; progress = option_map progress_of r.progress })
+row_of r =
+    (r.key, record { name = r.name; id = r.id; progress = option_map progress_of r.progress })
 
 -- the paths and the entries of rows
 abbrev pub rows_of : List Row → List PathRow
@@ -54,18 +55,22 @@ same_text = pointwise nat_eq
 
 -- the test of equal phases
 abbrev pub same_phase : Phase → Phase → Bool
-same_phase (Blocked reason eta) (Blocked other when) = same_text reason other && option_eq nat_eq eta when
-same_phase (Halted reason eta) (Halted other when) = same_text reason other && option_eq nat_eq eta when
+same_phase (Blocked reason eta) (Blocked other when) =
+    same_text reason other && option_eq nat_eq eta when
+same_phase (Halted reason eta) (Halted other when) =
+    same_text reason other && option_eq nat_eq eta when
 same_phase Running Running = true
 same_phase _ _ = false
 
 -- the test of equal progress
 abbrev pub same_progress : Progress ℕ → Progress ℕ → Bool
-same_progress p q = nat_eq p.counter q.counter && (option_eq nat_eq p.bound q.bound && same_phase p.phase q.phase)
+same_progress p q =
+    nat_eq p.counter q.counter && (option_eq nat_eq p.bound q.bound && same_phase p.phase q.phase)
 
 -- the test of equal entries
 abbrev pub same_entry : Entry ℕ → Entry ℕ → Bool
-same_entry e f = same_text e.name f.name && (same_text e.id f.id && option_eq same_progress e.progress f.progress)
+same_entry e f =
+    same_text e.name f.name && (same_text e.id f.id && option_eq same_progress e.progress f.progress)
 
 -- the test of equal rows
 abbrev pub same_row : PathRow → PathRow → Bool
