@@ -4,8 +4,6 @@
 pub mod messages;
 pub mod progress;
 mod refusal;
-#[cfg(test)]
-mod tests;
 pub mod text;
 pub mod time;
 

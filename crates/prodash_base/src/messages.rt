@@ -33,6 +33,3 @@ pub struct Message {
     /// The text of the message.
     pub message: Text,
 }
-
-#[cfg(test)]
-mod tests;
