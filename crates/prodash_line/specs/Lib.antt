@@ -14,3 +14,4 @@ pub mod PageInside
 pub mod Reading
 pub mod Shows
 pub mod Fits
+pub mod Renderings
