@@ -6,13 +6,16 @@ pub mod Joining
 pub mod Composing
 pub mod MessageLines
 pub mod Chars
-pub mod Covers
+pub mod Overwriting
 pub mod CursorRow
 pub mod Decimals
 pub mod FramesOnPage
 pub mod Lists
+pub mod OrderlyFrames
 pub mod OneSpelling
+pub mod PageRenderings
 pub mod PageTheorem
+pub mod Renderings
 pub mod ProperFrames
 pub mod RowParts
 pub mod Sequences
