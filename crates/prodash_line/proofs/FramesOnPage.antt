@@ -75,7 +75,7 @@ redrawn_shows columns height old lines below h i fits hs hl =
     let blanks : ShowsLines columns [] (rows_after columns (length all) below) = subst (λ (s : List Line). ShowsLines columns s (rows_after columns (length all) below)) (drop_all (length all) old (omega arith)) (ShowsLines-rows_after columns (length all) old below i h) in
     (ShowsLines-lines columns n lines (rows_after columns (length all) below) blanks, omega arith, omega arith)
 
--- signs that end change nothing where the cursor's row is blank
+-- signs that end a frame change nothing if the cursor's row is blank
 pub ending_at : (signs : List Sign) (columns height : ℕ) (above below : List (List ℕ)) → AllByRecursion IsEnding signs
     → page_after signs (at columns height above (blank columns ∷ below)) ≡ at columns height above (blank columns ∷ below)
 ending_at [] columns height above below h = refl
@@ -85,7 +85,7 @@ ending_at (EraseLine ∷ ss) columns height above below h =
     ∙ ending_at ss columns height above below h.1
 ending_at (_ ∷ ss) columns height above below h = absurd h.0
 
--- nor where no line is on screen
+-- nor if no line is on screen
 pub ending_shows : (signs : List Sign) (columns height : ℕ) (above below : List (List ℕ)) → AllByRecursion IsEnding signs → ShowsLines columns [] below → 0 < length below
     → page_after signs (at columns height above below) ≡ at columns height above below
 ending_shows signs columns height above [] h s i = absurd (omega arith)

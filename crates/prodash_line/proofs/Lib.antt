@@ -19,6 +19,6 @@ pub mod Renderings
 pub mod ProperFrames
 pub mod RowParts
 pub mod Sequences
-pub mod SignFronts
+pub mod SignPrefixes
 pub mod WorkedFrames
 pub mod WorkedPages

@@ -1,5 +1,5 @@
 -- Frames whose first and last signs change nothing on a page, as those of a renderer do.
-use Rattle.std.proofs.Common.{ℕ, Bool, true, false, cond, List, [], ◌∷◌, ◌++◌, Some, None, Result, Ok, Err}
+use Rattle.std.proofs.Common.{Bool, true, false, cond, List, [], ◌∷◌, ◌++◌, Some, None, Result, Ok, Err}
 use Rattle.std.specs.Prelude.{⊤}
 use Rattle.std.specs.List.{AllByRecursion}
 use Rattle.prodash_base.specs.declared.refusal.Refusal.{Refusal}

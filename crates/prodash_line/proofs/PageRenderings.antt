@@ -1,5 +1,5 @@
 -- What a page shows of the inputs to one renderer.
-use Rattle.std.proofs.Common.{◌≡◌, ℕ, zero, suc, ◌^◌, ◌<◌, Bool, true, false, List, [], ◌∷◌, ◌++◌, take, drop, refl, sym, ap, subst, ◌∙◌, append_assoc, Result, Ok, Err, Option, Some, None, ⊎_elim, ◌⊎◌}
+use Rattle.std.proofs.Common.{◌≡◌, ℕ, zero, suc, ◌^◌, ◌<◌, Bool, true, false, List, [], ◌∷◌, ◌++◌, take, drop, refl, sym, ap, subst, ◌∙◌, append_assoc, Result, Ok, Err, Option, Some, None, ⊎_elim}
 use Rattle.std.specs.Prelude.{MatchBool}
 use Rattle.std.specs.List.{AllByRecursion}
 use Rattle.std.proofs.lemmas.Grind.{flat_map-append}
@@ -11,7 +11,7 @@ use Rattle.prodash_line.specs.Signs.{spelling_of, spelling}
 use Rattle.prodash_line.specs.Lines.{Line}
 use Rattle.prodash_line.specs.Frames.{Body, Unchanged, Draws, Closes, Frame, frame_signs, lines_after, widths_of, signs_of, all_lines_after}
 use Rattle.prodash_line.specs.Page.{Canvas}
-use Rattle.prodash_line.specs.Renderer.{Renderer, Renders, frame_at, next, ended_after}
+use Rattle.prodash_line.specs.Renderer.{Renderer, Renders, frame_at, ended_after}
 use Rattle.prodash_line.specs.Screens.{ScreenState}
 use Rattle.prodash_line.specs.Renderings.{Rendering, after_result, renderer_after, RendersAll, Attempt, attempt_of, attempts_of, frames_of, drawn_frames, bytes_over, WritesAttempts, FitsPage, ShowsFrames}
 use Rattle.prodash_line.proofs.OrderlyFrames.{orderly_frames}

@@ -1,7 +1,7 @@
 -- After each prefix of a list of frames that fit, a page shows the messages printed so far, then the lines on screen, then blank rows.
 use Rattle.std.proofs.Common.{ℕ, ◌^◌, ◌<◌, List, [], ◌++◌, map, take}
 use Rattle.std.specs.List.{AllByRecursion}
-use Rattle.prodash_line.specs.Frames.{Frame, all_lines_after, printed_lines, signs_of}
+use Rattle.prodash_line.specs.Frames.{all_lines_after, printed_lines, signs_of}
 use Rattle.prodash_line.specs.Page.{Canvas, page_after}
 use Rattle.prodash_line.specs.Shows.{Shows, cells_of}
 use Rattle.prodash_line.specs.Fits.{FrameFits}

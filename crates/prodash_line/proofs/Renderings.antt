@@ -1,6 +1,6 @@
 -- What a list of inputs to one renderer writes.
-use Rattle.std.proofs.Common.{◌≡◌, ℕ, Bool, true, false, cond, List, [], ◌∷◌, ◌++◌, length, take, refl, sym, ap, subst, ◌∙◌, append_assoc, append-nil, Result, Ok, Err, Option, Some, None, ⊎_elim, ◌⊎◌, inl, inr, arith}
-use Rattle.std.specs.Prelude.{⊤, IsTrue, MatchBool, drop, map}
+use Rattle.std.proofs.Common.{◌≡◌, ℕ, Bool, true, false, cond, List, [], ◌∷◌, ◌++◌, length, take, refl, sym, ap, subst, ◌∙◌, append_assoc, append-nil, Result, Ok, Err, Option, Some, None, ⊎_elim, inl, inr, arith}
+use Rattle.std.specs.Prelude.{⊤, IsTrue, drop}
 use Rattle.std.proofs.lemmas.List.{drop-map, nil_from_length}
 use Rattle.std.proofs.lemmas.Bool.{false_from_ne_true}
 use Rattle.std.proofs.lemmas.Bool.Decides.{nat_tests}
@@ -11,9 +11,9 @@ use Rattle.prodash_line.specs.declared.render.line.draw.input.Answer.{Answer}
 use Rattle.prodash_line.specs.Signs.{spelling}
 use Rattle.prodash_line.specs.Lines.{Line, columns_of}
 use Rattle.prodash_line.specs.Frames.{Body, Unchanged, Draws, Closes, Frame, frame_signs, lines_after, body_lines, widths_after, body_widths, widths_of}
-use Rattle.prodash_line.specs.Renderer.{Renderer, Renders, Accepts, RunsOutOfMemory, Refuses, Breaks, frame_at, frame_bytes, next, ended_after}
-use Rattle.prodash_line.specs.Screens.{ScreenState, WritesFrame, BreaksDuring, has_bytes}
-use Rattle.prodash_line.specs.Renderings.{Rendering, after_result, renderer_after, RendersEach, RendersAll, BreaksExactly, FlushesFrame, Attempt, attempt_of, attempts_of, bytes_over, AllBroken, WritesAttempts}
+use Rattle.prodash_line.specs.Renderer.{Renderer, Renders, frame_at, frame_bytes}
+use Rattle.prodash_line.specs.Screens.{ScreenState, WritesFrame, has_bytes}
+use Rattle.prodash_line.specs.Renderings.{Rendering, after_result, renderer_after, RendersEach, RendersAll, BreaksExactly, FlushesFrame, attempt_of, attempts_of, bytes_over, AllBroken, WritesAttempts}
 
 -- what holds of each rendering by itself holds of each in a list
 each : (P : Renderer → ScreenState → Rendering → ScreenState → Type 0)

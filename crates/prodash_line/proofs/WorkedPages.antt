@@ -1,5 +1,5 @@
 -- The definitions of a page and of what it shows, computed.
-use Rattle.std.proofs.Common.{◌≡◌, ℕ, List, [], ◌∷◌, ap, refl, arith}
+use Rattle.std.proofs.Common.{◌≡◌, List, [], ◌∷◌, ap, refl, arith}
 use Rattle.unicode_width.specs.Width.{str_width, step, past_emoji}
 use Rattle.prodash_line.specs.declared.render.line.page.sign.Sign.TheVariants.{Char, LineFeed, Up, EraseLine}
 use Rattle.prodash_line.specs.Lines.{Line, piece}
