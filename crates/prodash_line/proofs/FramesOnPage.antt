@@ -22,7 +22,7 @@ cursor_up_at columns height above [] below h i w = ap (λ (a : List (List ℕ)).
 cursor_up_at columns height above (x ∷ xs) below h i w =
     let rows : (above ++ x ∷ xs) ++ below ≡ above ++ ((x ∷ xs) ++ below) = append_assoc above (x ∷ xs) below in
     let size : length (above ++ ((x ∷ xs) ++ below)) ≡ length above + (length (x ∷ xs) + length below) = length-append above ((x ∷ xs) ++ below) ∙ ap (λ (n : ℕ). length above + n) (length-append (x ∷ xs) below) in
-    let front : length (above ++ x ∷ xs) ≡ length above + length (x ∷ xs) = length-append above (x ∷ xs) in
+    let size_above : length (above ++ x ∷ xs) ≡ length above + length (x ∷ xs) = length-append above (x ∷ xs) in
     ap (λ (rs : List (List ℕ)). record { columns = columns; height = height; rows = rs; row = max (length rs - height) (length (above ++ x ∷ xs) - min (length (x ∷ xs)) 65535); column = 0 }) rows
     ∙ ap (λ (n : ℕ). record { columns = columns; height = height; rows = above ++ ((x ∷ xs) ++ below); row = n; column = 0 })
     (let e : max (length (above ++ ((x ∷ xs) ++ below)) - height) (length (above ++ x ∷ xs) - min (length (x ∷ xs)) 65535) ≡ length above = omega arith in e)

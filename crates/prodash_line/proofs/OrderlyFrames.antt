@@ -15,12 +15,12 @@ use Rattle.prodash_line.specs.ProgressRows.{row_lines}
 use Rattle.prodash_line.specs.Renderer.{Renderer, is_drawn, frame_at}
 use Rattle.prodash_line.specs.Renderings.{Rendering, renderer_after, Attempt, attempt_of, attempts_of, frames_of, drawn_frames}
 
--- a sign that changes nothing where the cursor is at the beginning of a row
+-- a sign that changes nothing if the cursor is at the beginning of a row
 abbrev pub IsOpening : Sign → Type 0
 IsOpening CarriageReturn = ⊤
 IsOpening _ = ⊥
 
--- a sign that changes nothing where the cursor is at the beginning of a blank row
+-- a sign that changes nothing if the cursor is at the beginning of a blank row
 abbrev pub IsEnding : Sign → Type 0
 IsEnding CarriageReturn = ⊤
 IsEnding EraseLine = ⊤

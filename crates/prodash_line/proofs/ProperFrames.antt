@@ -28,9 +28,9 @@ pub spaces_proper : (n : ℕ) → AreProper (piece_signs (spaces n))
 spaces_proper n = chars_proper (replicate n 32) (AllByRecursion-replicate (λ c. IsProper (Char c)) n 32 (refl, refl))
 
 -- of a line over another one
-pub overwrite_line_proper : (columns stood : ℕ) (line : Line) → LineFits columns line → AreProper (overwrite_line stood line)
-overwrite_line_proper columns stood line h = AllByRecursion-append IsProper (line_signs line) _ (line_proper line h.plain.pieces)
-    (AllByRecursion-append IsProper (piece_signs (spaces (stood - columns_of line))) (LineFeed ∷ []) (spaces_proper (stood - columns_of line)) (tt, tt))
+pub overwrite_line_proper : (columns width : ℕ) (line : Line) → LineFits columns line → AreProper (overwrite_line width line)
+overwrite_line_proper columns width line h = AllByRecursion-append IsProper (line_signs line) _ (line_proper line h.plain.pieces)
+    (AllByRecursion-append IsProper (piece_signs (spaces (width - columns_of line))) (LineFeed ∷ []) (spaces_proper (width - columns_of line)) (tt, tt))
 
 -- of lines
 pub overwrite_proper : (columns : ℕ) (widths : List ℕ) (lines : List Line) → LinesFit columns lines → AreProper (overwrite widths lines)

@@ -53,9 +53,9 @@ pub none_made : (bytes : List ℕ) (len : ℕ) → len ≡ prefix_len is_paramet
 none_made bytes len l none s rest p e =
     let there = begins_sequence s bytes rest p e in
     let size : length there.parameters ≡ len = sym there.len ∙ sym l in
-    let front : take len bytes ≡ there.parameters = ap (take len) there.whole ∙ take_at there.parameters (there.final_byte ∷ rest) len size in
+    let prefix : take len bytes ≡ there.parameters = ap (take len) there.whole ∙ take_at there.parameters (there.final_byte ∷ rest) len size in
     let last : get_or bytes len 0 ≡ there.final_byte = ap (λ (t : List ℕ). get_or t len 0) there.whole ∙ get_or_at there.parameters there.final_byte rest 0 len size in
-    none s p (there.is ∙ ap (λ (t : List ℕ). sequence t there.final_byte) (sym front) ∙ ap (sequence (take len bytes)) (sym last))
+    none s p (there.is ∙ ap (λ (t : List ℕ). sequence t there.final_byte) (sym prefix) ∙ ap (sequence (take len bytes)) (sym last))
 
 -- no sign, if the bytes begin with no line feed, no carriage return, no sequence and only a control character
 pub no_sign : (bytes : List ℕ) → get_or bytes 0 0 ≢ 10 → get_or bytes 0 0 ≢ 13 → (get_or bytes 0 0 ≡ 27 → get_or bytes 1 0 ≢ 91)
@@ -83,8 +83,8 @@ no_bracket (b ∷ c ∷ bytes) h some first second = both_ways (pointwise nat_eq
 
 -- nor does another control character
 pub no_control : (bytes rest : List ℕ) (c : ℕ) → get_or bytes 0 0 ≢ 10 → get_or bytes 0 0 ≢ 13 → get_or bytes 0 0 ≢ 27 → bytes ≡ encode_utf8 c ++ rest → is_control c ≡ true → NoSignAt bytes
-no_control bytes rest c feed return escape stands control = no_sign bytes feed return (λ e. absurd (escape e)) (λ d others scalar plain e.
-    both_ways (is_control d) plain (ap is_control (encode_same d c others rest (sym e ∙ stands)).0 ∙ control))
+no_control bytes rest c feed return escape spelled control = no_sign bytes feed return (λ e. absurd (escape e)) (λ d others scalar plain e.
+    both_ways (is_control d) plain (ap is_control (encode_same d c others rest (sym e ∙ spelled)).0 ∙ control))
 
 -- after a sign fewer bytes are left
 pub shorter : (bytes rest : List ℕ) (s : Sign) → bytes ≡ spelling_of s ++ rest → length rest < length bytes
@@ -92,16 +92,16 @@ shorter bytes rest s e = omega (arith, ap length e, length-append (spelling_of s
 
 -- signs spell the longest prefix if the rest begins with no sign
 pub longest_is : (bytes rest : List ℕ) (signs : List Sign) → AreProper signs → bytes ≡ spelling signs ++ rest → 0 < length rest → NoSignAt rest → IsLongestPrefix bytes (length bytes - length rest)
-longest_is bytes rest signs proper stands some none =
-    let size : length bytes ≡ length (spelling signs) + length rest = ap length stands ∙ length-append (spelling signs) rest in
+longest_is bytes rest signs proper spelled some none =
+    let size : length bytes ≡ length (spelling signs) + length rest = ap length spelled ∙ length-append (spelling signs) rest in
     let n : length (spelling signs) ≡ length bytes - length rest = omega arith in
     record {
       signs = signs;
       proper = proper;
-      spells = sym (ap (take (length bytes - length rest)) stands ∙ take_at (spelling signs) rest (length bytes - length rest) n);
+      spells = sym (ap (take (length bytes - length rest)) spelled ∙ take_at (spelling signs) rest (length bytes - length rest) n);
       short = omega arith;
       longest = λ others m p fits e.
-          let whole : spelling signs ++ rest ≡ spelling others ++ drop m bytes = sym stands ∙ sym (take-append-drop m bytes) ∙ ap (λ (t : List ℕ). t ++ drop m bytes) (sym e) in
+          let whole : spelling signs ++ rest ≡ spelling others ++ drop m bytes = sym spelled ∙ sym (take-append-drop m bytes) ∙ ap (λ (t : List ℕ). t ++ drop m bytes) (sym e) in
           let less : length (spelling others) ≤ length (spelling signs) = longest_prefix signs others rest (drop m bytes) proper p none whole in
           let taken : length (take m bytes) ≡ m = length-take-le m bytes fits in
           omega (arith, ap length e);
@@ -109,11 +109,11 @@ longest_is bytes rest signs proper stands some none =
 
 -- then no proper signs spell all bytes
 pub none_whole : (bytes rest : List ℕ) (signs others : List Sign) → AreProper signs → bytes ≡ spelling signs ++ rest → 0 < length rest → NoSignAt rest → AreProper others → spelling others ≡ bytes → ⊥
-none_whole bytes rest signs others proper stands some none p e =
-    let less : length (spelling others) ≤ length (spelling signs) = longest_prefix signs others rest [] proper p none (sym stands ∙ sym e ∙ sym (append-nil (spelling others))) in
-    omega (arith, ap length e, ap length stands, length-append (spelling signs) rest)
+none_whole bytes rest signs others proper spelled some none p e =
+    let less : length (spelling others) ≤ length (spelling signs) = longest_prefix signs others rest [] proper p none (sym spelled ∙ sym e ∙ sym (append-nil (spelling others))) in
+    omega (arith, ap length e, ap length spelled, length-append (spelling signs) rest)
 
 -- and if no rest is left, they are the only ones that spell the bytes
 pub all_read : (bytes rest : List ℕ) (signs others : List Sign) → AreProper signs → bytes ≡ spelling signs ++ rest → length rest ≡ 0 → AreProper others → spelling others ≡ bytes → signs ≡ others
-all_read bytes rest signs others proper stands none p e = one_spelling signs others proper p
-    (sym (append-nil (spelling signs)) ∙ ap (λ (t : List ℕ). spelling signs ++ t) (sym (nil_from_length rest none)) ∙ sym stands ∙ sym e)
+all_read bytes rest signs others proper spelled none p e = one_spelling signs others proper p
+    (sym (append-nil (spelling signs)) ∙ ap (λ (t : List ℕ). spelling signs ++ t) (sym (nil_from_length rest none)) ∙ sym spelled ∙ sym e)

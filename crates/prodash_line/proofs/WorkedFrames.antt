@@ -31,7 +31,7 @@ signs_at r input = frame_signs r.widths (frame_at r input)
 abbrev terminal : Renderer
 terminal = new_renderer (record { terminal_dimensions = (40, 4) })
 
--- its name behind a space, a line feed, and up by one row
+-- its name after a space, a line feed, and up by one row
 pub drawn : signs_at terminal (tick 0 true (row (codes "task") ∷ []) []) ≡ map Char (codes " task") ++ LineFeed ∷ Up 1 ∷ []
 unfolding chars str_width step past_emoji
 drawn = refl

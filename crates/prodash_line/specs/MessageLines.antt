@@ -7,7 +7,7 @@ use Rattle.prodash_line.specs.Lines.{Line, piece, spaces, columns_of}
 abbrev pub origin_width : List ℕ → ℕ
 origin_width origin = columns_of (piece (chars origin) ∷ [])
 
--- an origin behind spaces that bring it to this width
+-- an origin after spaces that bring it to this width
 abbrev pub aligned_origin : ℕ → List ℕ → List ℕ
 aligned_origin width origin = replicate (width - origin_width origin) 32 ++ chars origin
 

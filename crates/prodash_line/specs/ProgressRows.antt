@@ -17,7 +17,7 @@ values_of p = piece (fraction_of p.counter p.bound) ∷ []
 abbrev pub filled_cells : ℕ → ℕ → ℕ → ℕ
 filled_cells cells step bound = if bound == 0 then cells else cells * min step bound / bound
 
--- a bar of n cells, of which these are filled: brackets around the cells, an arrow behind the filled ones
+-- a bar of n cells, of which these are filled: brackets around the cells, an arrow after the filled ones
 abbrev pub bar_with : ℕ → ℕ → Line
 bar_with cells filled = piece (codes " [") ∷ piece (replicate filled 61) ∷ piece (codes ">") ∷ piece (replicate (cells - filled) 45) ∷ piece (codes "]") ∷ []
 
