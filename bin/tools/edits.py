@@ -1,0 +1,102 @@
+"""Edits of a crate, and how they are put together to rounds."""
+import os
+import re
+
+from functions import checker_name, functions_of, may_call
+
+
+class Edit:
+    """A wrong change of a crate, read from a file of `must-fail/` or `edits/`."""
+
+    def __init__(self, rt, crate, file):
+        self.label = f"{crate.name}/{os.path.basename(file)[: -len('.edit')]}"
+        # The changed files by their paths, or why `rt` can't apply the edit.
+        self.texts, self.fault = rt.read_edit(file, crate.folder)
+        self.steps = list(steps_in(file)) if not self.fault else []
+        # The changed functions with their new bodies, by the checker's names; empty if something else changes too.
+        self.changed = {}
+
+    def applied(self, texts, read):
+        """Returns the texts with this edit made too, or None if an `old:` text no longer stands there once."""
+        texts = dict(texts)
+        for path, old, new in self.steps:
+            text = texts[path] if path in texts else read(path)
+            if text.count(old) != 1:
+                return None
+            texts[path] = text.replace(old, new)
+        return texts
+
+    def find_functions(self, crate, read, printed):
+        """Finds the functions that the edit changes."""
+        texts, changed = {}, {}
+        for path, old, new in self.steps:
+            text = texts[path] if path in texts else read(path)
+            function = enclosing(text, old, new) if path.endswith(".rt") else None
+            name = function and checker_name(crate.name, path, function, printed)
+            if not name:
+                return
+            texts[path] = text.replace(old, new)
+            changed[name] = function, new_body(texts[path], function)
+        self.changed = changed
+
+    def clashes(self, other):
+        """Returns whether both change one function, or one changes what the other may call."""
+        for name, (function, body) in self.changed.items():
+            for its_name, (its_function, its_body) in other.changed.items():
+                if name == its_name or may_call(body, its_function) or may_call(its_body, function):
+                    return True
+        return False
+
+
+def steps_in(file):
+    """Yields path, old and new text of each replacement of an edit."""
+    path, old = "", ""
+    with open(file, encoding="utf-8") as it:
+        for line in it.read().split("\n"):
+            if line.startswith("file: "):
+                path = line[len("file: ") :].strip()
+            elif line.startswith("old: "):
+                old = line[len("old: ") :]
+            elif line.startswith("new:"):
+                yield path, old, re.sub(r"\A ", "", line[len("new:") :])
+
+
+def enclosing(text, old, new):
+    """Returns the innermost function whose body holds all that differs between the old and the new text."""
+    before = len(os.path.commonprefix([old, new]))
+    after = len(os.path.commonprefix([old[::-1], new[::-1]]))
+    start = text.find(old) + before
+    end = start + max(len(old) - before - after, 0)
+    around = [it for it in functions_of(text) if it.start < start and end < it.end]
+    return min(around, key=lambda it: it.end - it.start, default=None)
+
+
+def new_body(text, function):
+    """Returns the body of a function of the unedited text in the edited one."""
+    same = (it for it in functions_of(text) if it[:5] == function[:5])
+    return next((text[it.start : it.end] for it in same), "")
+
+
+def rounds_of(edits, most):
+    """Puts edits that don't clash together, at most `most` of them, first those whose function has most edits."""
+
+    def rivals(edit):
+        return max(sum(name in it.changed for it in edits) for name in edit.changed)
+
+    rounds = []
+    for edit in sorted(edits, key=rivals, reverse=True):
+        free = (it for it in rounds if len(it) < most and not any(map(edit.clashes, it)))
+        found = next(free, None)
+        if found is None:
+            rounds.append([edit])
+        else:
+            found.append(edit)
+    return rounds
+
+
+def edit_files(crate):
+    """Yields the files of the edits of a crate."""
+    for part in ("must-fail", "edits"):
+        folder = f"{crate.folder}/{part}"
+        names = sorted(os.listdir(folder)) if os.path.isdir(folder) else []
+        yield from (f"{folder}/{it}" for it in names if it.endswith(".edit"))

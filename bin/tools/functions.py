@@ -1,0 +1,125 @@
+"""Finds the functions of a Rattle source file, and how the checker names them."""
+import re
+from collections import namedtuple
+
+# `type` is the type of the impl or the trait that the function stands in, and `block` how the checker names that impl;
+# both are None for a free function. The body lies from `start` to `end`.
+Function = namedtuple("Function", "modules type block name start end")
+
+# Comments, and literals of texts and characters: what braces mean nothing in.
+NOT_CODE = re.compile(
+    r"//[^\n]*|/\*.*?\*/|\bb?r(#*)\".*?\"\1|\"(?:\\.|[^\"\\])*\"|'(?:\\[^']+|[^\\'\n])'", re.S
+)
+# What stands before the brace of a clause.
+CLAUSE = re.compile(r"\b(?:requires|ensures|ghost)\b[^(){};]*$")
+
+
+def functions_of(text):
+    """Returns each function of a text that has a body; of nested ones the inner comes first."""
+    return Scanner(text).functions()
+
+
+class Scanner:
+    """Walks over the brackets of a text."""
+
+    def __init__(self, text):
+        self.text = NOT_CODE.sub(lambda it: re.sub(r"[^\n]", " ", it[0]), text)
+        self.found, self.open = [], []
+        # Where the words before the next brace begin, and how many brackets are open there.
+        self.head, self.depth = 0, 0
+        # The function whose body is still to come, after its clauses.
+        self.pending = None
+
+    def functions(self):
+        for mark in re.finditer(r"[{}()\[\];]", self.text):
+            if mark[0] in "([":
+                self.depth += 1
+            elif mark[0] in ")]":
+                self.depth -= 1
+            elif mark[0] == ";" and not self.depth:
+                self.head, self.pending = mark.end(), None
+            elif mark[0] == "{":
+                self.enter(mark)
+            elif mark[0] == "}" and self.open:
+                self.leave(mark)
+        return self.found if not self.open else []
+
+    def enter(self, mark):
+        words = self.text[self.head : mark.start()]
+        named = re.search(r"\bfn\s+(\w+)", words)
+        self.pending = named[1] if named else self.pending
+        if CLAUSE.search(words):
+            block = "clause", None
+        elif self.pending:
+            block, self.pending = ("fn", self.pending), None
+        elif re.search(r"\bimpl\b", words):
+            block = "impl", impl_names(words)
+        else:
+            other = re.search(r"\b(trait|mod)\s+(\w+)", words)
+            block = other.groups() if other else ("other", None)
+        self.open.append((block, mark.start(), self.depth, self.pending))
+        self.head, self.depth = mark.end(), 0
+
+    def leave(self, mark):
+        (kind, name), start, self.depth, self.pending = self.open.pop()
+        self.head = mark.end()
+        if kind != "fn":
+            return
+        above = [block for block, *_ in self.open]
+        owners = [(it, it) if kind == "trait" else it for kind, it in above if kind in ("impl", "trait")]
+        type_name, block = owners[-1] if owners else (None, None)
+        modules = tuple(it for kind, it in above if kind == "mod")
+        self.found.append(Function(modules, type_name, block, name, start, mark.end()))
+
+
+def split_parameters(text):
+    """Splits `<A, B> rest` into `<A, B>` and `rest`."""
+    depth = 0
+    for at, letter in enumerate(text):
+        depth += (letter == "<") - (letter == ">" and text[at - 1] != "-")
+        if not depth:
+            return text[: at + 1], text[at + 1 :]
+    return "", text
+
+
+def names_in(text):
+    """Returns the names in a type, each the last of its path, with a capital."""
+    return [it[:1].upper() + it[1:] for it in re.findall(r"(?<!')\b[A-Za-z_]\w*\b(?!\s*::)", text)]
+
+
+def impl_names(head):
+    """Returns an impl's type and the checker's name of the impl: `Key`, `KeyIndexLevel` for `impl Index<Level> for Key`."""
+    rest = head[re.search(r"\bimpl\b", head).end() :].strip()
+    parameters, rest = split_parameters(rest) if rest.startswith("<") else ("", rest)
+    trait, is_for, target = re.sub(r"\bwhere\b.*", "", rest, flags=re.S).partition(" for ")
+    type_name = (names_in(target if is_for else trait) or ["?"])[0]
+    if not is_for:
+        return type_name, type_name
+    generic = names_in(parameters)
+    return type_name, type_name + "".join(it for it in names_in(trait) if it not in generic)
+
+
+def checker_name(crate, path, function, printed):
+    """Returns the checker's name of a function of the file `path`, one of those `printed`, or None if it can't be told."""
+    parts = [it for it in path[len("src/") : -len(".rt")].split("/") if it != "mod"]
+    parts = [] if parts in (["lib"], ["main"]) else parts
+    module = "::".join([crate, *parts, *function.modules])
+    name = "::".join([module, *([function.block] if function.block else []), function.name])
+    if name in printed:
+        return name
+    if not function.block or function.block == function.type:
+        return None
+    pattern = re.escape(f"{module}::{function.type}") + r"\w+::" + re.escape(function.name)
+    alike = [it for it in printed if re.fullmatch(pattern, it)]
+    return alike[0] if len(alike) == 1 else None
+
+
+def may_call(body, function):
+    """Returns whether a body may call the function, judged by names alone."""
+    name = re.escape(function.name)
+    if function.type is None:
+        return bool(re.search(rf"(?<![.\w]){name}\b", body))
+    if function.name == "from" and "?" in body:
+        return True
+    path = rf"\b(?:Self|{re.escape(function.type)})\s*(?:::\s*<[^;]*>)?\s*::\s*{name}\b"
+    return bool(re.search(rf"\.\s*{name}\b|{path}", body))

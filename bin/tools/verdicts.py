@@ -1,0 +1,61 @@
+"""Reads what a check says of a crate's functions."""
+import re
+
+GOALS = re.compile(r"`search` did not prove ((?:`[^`]+`(?:, | and )?)+)")
+ERROR = re.compile(r"(?m)^(?:\./)?(proofs/\S+?\.antt):\d+:\d+: error: (?:`([^`]+)`: )?(.*)")
+# Errors that follow from another one.
+FOLLOWS = re.compile(r"declarations? that depends? on|was not admitted")
+# Errors of a proof file that names what is no longer there.
+LOST = re.compile(r"has no field|is not in scope|has no `|is no name")
+
+
+class Verdict:
+    """What one check of a crate said."""
+
+    def __init__(self, ran):
+        self.status, self.text = ran.returncode, ran.stdout
+        self.lines = self.text.rstrip("\n").split("\n")
+        self.functions = dict(re.findall(r"(?m)^fn (\S+): (.*)$", self.text))
+
+    def is_proved(self):
+        return self.status == 0
+
+    def is_refused(self):
+        """Returns whether the check came to its end, and did not prove the crate."""
+        return self.status == 1 and self.lines[-1].startswith("logic=not-proved")
+
+    def judges(self):
+        """Returns whether the check came to the functions at all."""
+        return bool(self.functions) and any(it.startswith("logic=") for it in self.lines)
+
+    def compiles(self):
+        """Returns whether a check that was asked for no proof found nothing wrong."""
+        return any(it.startswith("only=") for it in self.lines)
+
+    def errors(self):
+        """Returns file, goal and text of each error in a proof file that follows from no other one."""
+        return [it for it in ERROR.findall(self.text) if not FOLLOWS.search(it[2])]
+
+    def goals_of(self, name):
+        """Returns the goals of this function that are not proved. That a callee isn't proved is none."""
+        names = self.with_closures(name)
+        if all(self.functions[it] == "proved" for it in names):
+            return []
+        goals = []
+        for it in names:
+            found = GOALS.search(self.functions[it])
+            goals += re.findall(r"`([^`]+)`", found[1]) if found else []
+        folders = tuple("proofs/" + "/".join(it.split("::")[1:]) + "/" for it in names)
+        ours = [it for it in self.errors() if it[0].startswith(folders)]
+        return goals + [goal or file for file, goal, why in ours if not is_lost_name(why)]
+
+    def with_closures(self, name):
+        """Returns the function and its closures, whose lines stand below `fn::NAME`."""
+        module, _, last = name.rpartition("::")
+        inside = f"{module}::fn::{last}::"
+        return [it for it in self.functions if it == name or it.startswith(inside)]
+
+
+def is_lost_name(why):
+    """Returns whether an error only says that a name is gone."""
+    return bool(LOST.search(re.sub(r"(?<!has no )`[^`]*`", "", why)))
