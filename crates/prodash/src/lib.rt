@@ -1,0 +1,39 @@
+//! Progress of many tasks, drawn on a terminal: the crate that users name.
+//!
+//! Begin at [`tree::run`]. It takes what happens to the tasks as a list of [`tree::Event`]s, and a
+//! [`render::line::draw::Screen`] to write to. Each event gets a [`tree::Reply`]. Each `Tick` draws
+//! a row for each task, below the messages that the tasks sent. To apply events one at a time, make
+//! a [`tree::Session`].
+//!
+//! ```
+//! use prodash::Text;
+//! use prodash::progress::UNKNOWN;
+//! use prodash::render::line::draw::{self, MemoryScreen};
+//! use prodash::tree::{Event, RootOptions, SessionOptions, run};
+//!
+//! let events = vec![in alloc;
+//!     Event::AddChild { parent: 0, name: Text::from_str(alloc, "task")?, id: UNKNOWN },
+//!     Event::Init { item: 1, max: Some(10) },
+//!     Event::Set { item: 1, step: 3 },
+//!     Event::Tick { at: 0, show: true },
+//! ]?;
+//! let options = SessionOptions {
+//!     root: RootOptions::default(),
+//!     draw: draw::Options { terminal_dimensions: (40, 20) },
+//! };
+//! let mut screen = MemoryScreen::new(alloc, 0)?;
+//! let replies = run(alloc, &options, &events, &mut screen)?;
+//! // screen.bytes() is " task 3/10 [=======>-------------------]", a line feed, and ESC [1A
+//! ```
+//!
+//! Then see [`progress`] for what a task shows, [`messages`] for what tasks say, [`tree`] for the
+//! tasks without a screen, and [`render::line`] for the screen without a tree.
+#![tactic(auto)]
+
+pub mod messages;
+pub mod progress;
+pub mod render;
+pub mod time;
+pub mod tree;
+
+pub use prodash_base::{Refusal, Text};

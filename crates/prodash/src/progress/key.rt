@@ -1,0 +1,2 @@
+//! Keys, the places of tasks in the tree.
+pub use prodash_base::progress::key::{Key, Level};

@@ -1,0 +1,2 @@
+//! Moments.
+pub use prodash_base::time::Moment;

@@ -1,0 +1,38 @@
+//! The caller that README.md shows.
+ghost use Rattle.std.specs.Prelude.{◌≡◌, ℕ, List, ◌++◌, IfOk, IfErr};
+
+use prodash::progress::UNKNOWN;
+use prodash::render::line::draw::{self, Screen};
+use prodash::tree::{Event, RootOptions, SessionOptions, run};
+use prodash::{Refusal, Text};
+use std::alloc::Global;
+
+/// Draws a task at 3 of 10. Returns an error if there is not enough memory to begin.
+pub fn show_task<S: Screen>(alloc: Global, screen: &mut S) -> Result<(), Refusal>
+    ensures ok { IfOk result (λ _. (bytes : List ℕ)
+        × ((S.taken screen.new).bytes ≡ (S.taken screen.old).bytes ++ bytes)) }
+    ensures err { IfErr result (λ e. (e ≡ Refusal.Memory)
+        × (S.taken screen.new ≡ S.taken screen.old)) }
+{
+    let events = vec![in alloc;
+        Event::AddChild {
+            parent: 0,
+            name: Text::from_str(alloc, "task")?,
+            id: UNKNOWN
+        },
+        Event::Init {
+            item: 1,
+            max: Some(10)
+        },
+        Event::Set { item: 1, step: 3 },
+        Event::Tick { at: 0, show: true },
+    ]?;
+    let options = SessionOptions {
+        root: RootOptions::default(),
+        draw: draw::Options {
+            terminal_dimensions: (40, 20),
+        },
+    };
+    run(alloc, &options, &events, screen)?;
+    Ok(())
+}

@@ -1,0 +1,125 @@
+use crate::fixtures::Ask::{Hide, Print, Quit, Rootless, Show};
+use crate::fixtures::{
+    Ask, Drawing, MESSAGE_FRAME, Progress, TASK_FRAME, Task, assert_draws, draw, renderer,
+};
+use prodash::Refusal;
+use prodash::messages::MessageCopyState;
+use prodash::render::line::draw::MemoryScreen;
+use std::test::Fail;
+
+const THREE_OF_TEN: Progress = Some((3, Some(10)));
+
+const FOUR_OF_TEN: Progress = Some((4, Some(10)));
+
+const TEN_OF_TEN: Progress = Some((10, Some(10)));
+
+const TASK: Task = ("task", THREE_OF_TEN);
+
+const CLOSED: Result<&str, Refusal> = Err(Refusal::Closed);
+
+/// The line of `task` is cleared, and the renderer closes.
+const TASK_CLOSED: &str = "                                        \n\x1b[1A\x1b[2K\r";
+
+/// `a` and `long` on 30 columns, and `a` a step further.
+const LONG_FRAME: &str = " a 3/10 [=====>--------------]\n long 10/10 [===============>]\n\x1b[2A";
+
+const ALIGNED_FRAME: &str =
+    " a     4/10 [======>---------]\n long 10/10 [===============>]\n\x1b[2A";
+
+/// `task` and `next` on 40 columns, and `next` is gone.
+const NEXT_FRAME: &str = " task 3/10 [=======>-------------------]\n \
+next 3/10 [=======>-------------------]\n\x1b[2A";
+
+const NEXT_GONE_FRAME: &str =
+    " task 3/10 [=======>-------------------]\n                                        \n\x1b[2A";
+
+#[rattlefmt::skip]
+const FRAMES: [Drawing; 15] = [
+    // rows that were on screen before are not drawn again
+    Drawing((40, 24), &[(Show(&[TASK]), Ok(TASK_FRAME)), (Show(&[TASK]), Ok(""))]),
+    // nor are rows that were hidden, until they change
+    Drawing((40, 24), &[
+        (Hide(&[("task", Some((0, Some(10))))]), Ok("")),
+        (Show(&[("task", Some((0, Some(10))))]), Ok("")),
+        (Show(&[TASK]), Ok(TASK_FRAME)),
+    ]),
+    // no rows
+    Drawing((40, 24), &[(Show(&[]), Ok(""))]),
+    // a bound of zero fills the bar
+    Drawing((20, 24), &[(Show(&[("t", Some((0, Some(0))))]), Ok(" t 0/0 [==========>]\n\x1b[1A"))]),
+    // a bar with one column left, and no bar with none
+    Drawing((8, 24), &[(Show(&[("t", THREE_OF_TEN)]), Ok(" t 3/10 [>]\n\x1b[1A"))]),
+    Drawing((7, 24), &[(Show(&[("t", THREE_OF_TEN)]), Ok(" t 3/10\n\x1b[1A"))]),
+    // no bound, no bar
+    Drawing((40, 24), &[(Show(&[("t", Some((3, None)))]), Ok(" t 3\n\x1b[1A"))]),
+    // two characters of two columns each, then a narrower line
+    Drawing((40, 24), &[
+        (Show(&[("日本", None)]), Ok(" 日本\n\x1b[1A")),
+        (Show(&[("a", None)]), Ok(" a   \n\x1b[1A")),
+    ]),
+    // a row goes, and then the last one
+    Drawing((40, 24), &[
+        (Show(&[("a", None), ("b", None)]), Ok(" a\n b\n\x1b[2A")),
+        (Show(&[("a", None)]), Ok(" a\n  \n\x1b[2A")),
+        (Show(&[]), Ok("  \n\x1b[1A")),
+    ]),
+    // values are aligned to the greatest midpoint of the frame before
+    Drawing((30, 24), &[
+        (Show(&[("a", THREE_OF_TEN), ("long", TEN_OF_TEN)]), Ok(LONG_FRAME)),
+        (Show(&[("a", FOUR_OF_TEN), ("long", TEN_OF_TEN)]), Ok(ALIGNED_FRAME)),
+    ]),
+    // a message takes the place of the row, which is drawn below it
+    Drawing((40, 20), &[
+        (Show(&[TASK]), Ok(TASK_FRAME)),
+        (Print(&[("task", "one")], &[("task", FOUR_OF_TEN)]), Ok(MESSAGE_FRAME)),
+    ]),
+    // a closing frame with no row on screen, and inputs after it
+    Drawing((40, 20), &[
+        (Print(&[("test", "one")], &[]), Ok(" test one\n")),
+        (Quit, Ok("\x1b[2K\r")),
+        (Print(&[("test", "two")], &[TASK]), CLOSED),
+        (Quit, CLOSED),
+    ]),
+    // closing frames clear the rows on screen, shown or hidden
+    Drawing((40, 20), &[
+        (Show(&[TASK, ("next", THREE_OF_TEN)]), Ok(NEXT_FRAME)),
+        (Show(&[TASK]), Ok(NEXT_GONE_FRAME)),
+        (Hide(&[TASK]), Ok("")),
+        (Quit, Ok(TASK_CLOSED)),
+        (Show(&[TASK]), CLOSED),
+    ]),
+    Drawing((40, 20), &[
+        (Show(&[TASK]), Ok(TASK_FRAME)),
+        (Rootless(false), Ok(TASK_CLOSED)),
+        (Rootless(true), CLOSED),
+    ]),
+    Drawing((40, 20), &[(Show(&[TASK]), Ok(TASK_FRAME)), (Rootless(true), Ok(TASK_CLOSED))]),
+];
+
+#[test]
+fn frames_have_exact_bytes(rt: HostRuntime) -> Result<(), Fail> {
+    assert_draws(&rt, rt.alloc(), &FRAMES)
+}
+
+/// Inputs, how many messages were seen after each, and why the renderer has ended.
+#[rattlefmt::skip]
+const SEEN: [(Ask, u64, Option<Refusal>); 4] = [
+    (Print(&[("a", "one"), ("a", "two")], &[TASK]), 2, None),
+    (Print(&[("a", "three")], &[]), 1, None),
+    (Quit, 1, Some(Refusal::Closed)),
+    (Show(&[TASK]), 1, Some(Refusal::Closed)),
+];
+
+#[test]
+fn says_what_it_saw_and_why_it_ended(rt: HostRuntime) -> Result<(), Fail> {
+    let mut screen = MemoryScreen::new(rt.alloc(), 200)?;
+    let mut state = renderer(rt.alloc(), (40, 20));
+    assert_eq!(rt; state.seen(), None);
+    assert_eq!(rt; state.ended(), None);
+    for (ask, seen, ended) in SEEN {
+        let _ = draw(rt.alloc(), &mut screen, &mut state, ask);
+        assert_eq!(rt; state.seen(), Some(MessageCopyState::new(seen)));
+        assert_eq!(rt; state.ended(), ended);
+    }
+    Ok(())
+}

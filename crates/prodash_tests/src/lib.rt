@@ -1,0 +1,27 @@
+//! Tests of the libraries, which call them through `prodash` as a user does. Nothing uses this
+//! crate.
+#![tactic(auto)]
+
+pub mod caller;
+#[cfg(test)]
+mod fixtures;
+#[cfg(test)]
+mod frames;
+#[cfg(test)]
+mod keys;
+#[cfg(test)]
+mod message_lines;
+#[cfg(test)]
+mod messages;
+#[cfg(test)]
+mod pages;
+#[cfg(test)]
+mod paths;
+#[cfg(test)]
+mod runs;
+#[cfg(test)]
+mod screens;
+#[cfg(test)]
+mod tables;
+#[cfg(test)]
+mod values;

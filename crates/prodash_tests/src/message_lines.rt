@@ -1,0 +1,34 @@
+use crate::fixtures::Ask::{Print, Show};
+use crate::fixtures::{Drawing, assert_draws};
+use std::test::Fail;
+
+#[rattlefmt::skip]
+const LINES: [Drawing; 4] = [
+    // each origin is aligned to the widest up to its own
+    Drawing((40, 20), &[
+        (Print(&[("ab", "x"), ("task", "y"), ("c", "z")], &[]), Ok(" ab x\n task y\n    c z\n")),
+        (Print(&[], &[]), Ok("")),
+    ]),
+    // with one row, the width of the last origin counts alone; with none, no width does
+    Drawing((40, 1), &[
+        (Print(&[("task", "x")], &[]), Ok(" task x\n")),
+        (Print(&[("ab", "y")], &[]), Ok("   ab y\n")),
+        (Print(&[("c", "z")], &[]), Ok("  c z\n")),
+    ]),
+    Drawing((40, 0), &[
+        (Print(&[("task", "x")], &[]), Ok(" task x\n")),
+        (Print(&[("ab", "y")], &[]), Ok(" ab y\n")),
+    ]),
+    // an origin two columns wide, and a text that begins with a combining accent: six columns, and
+    // four spaces over the row of ten columns
+    Drawing((40, 20), &[
+        (Print(&[("abc", "x")], &[("abcdefghi", None)]), Ok(" abc x\n abcdefghi\n\x1b[1A")),
+        (Print(&[("工", "\u{301}!")], &[("abcdefghi", None)]), Ok("  工 \u{301}!    \n")),
+        (Show(&[]), Ok("")),
+    ]),
+];
+
+#[test]
+fn messages_are_printed_in_lines(rt: HostRuntime) -> Result<(), Fail> {
+    assert_draws(&rt, rt.alloc(), &LINES)
+}

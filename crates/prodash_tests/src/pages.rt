@@ -1,0 +1,95 @@
+use crate::fixtures::{MESSAGE_FRAME, TASK_FRAME};
+use prodash::render::line::page::{Fault, Page, Sign, read, spell};
+use std::test::Fail;
+
+/// The columns and rows of a page, what is written to it, and its rows without the blanks at their
+/// ends, its top and its cursor after that.
+type Written = (
+    (u16, u16),
+    &'static [&'static str],
+    &'static [&'static str],
+    usize,
+    (usize, u16),
+);
+
+const AT_THREE: &str = " task 3/10 [=======>-------------------]";
+
+const AT_FOUR: &str = " task 4/10 [==========>----------------]";
+
+#[rattlefmt::skip]
+const WRITTEN: [Written; 7] = [
+    // a page of one cell
+    ((1, 1), &["ab\n\x1b[5A"], &["a", "b", ""], 2, (2, 0)),
+    // a line as wide as the page, in the last row of the window
+    ((40, 3), &["\n\n", TASK_FRAME], &["", "", AT_THREE, ""], 1, (2, 0)),
+    // a message in the place of a row, and the row below it
+    ((40, 3), &["\n\n", TASK_FRAME, MESSAGE_FRAME], &["", "", " task one", AT_FOUR, ""], 2, (3, 0)),
+    // the cursor stays behind the last column until the next character, or a line feed
+    ((3, 2), &["abc"], &["abc", ""], 0, (0, 3)),
+    ((3, 2), &["abc\nd"], &["abc", "d"], 0, (1, 1)),
+    // erasing a row leaves the cursor
+    ((3, 2), &["ab\x1b[2Kc"], &["  c", ""], 0, (0, 3)),
+    // a carriage return clears nothing
+    ((3, 2), &["ab\rc"], &["cb", ""], 0, (0, 1)),
+];
+
+#[test]
+fn pages_show_what_is_written(rt: HostRuntime) -> Result<(), Fail> {
+    for ((columns, height), parts, rows, top, cursor) in WRITTEN {
+        assert!(rt; columns > 0 && height > 0);
+        let mut page = Page::new(rt.alloc(), columns, height)?;
+        for part in parts {
+            for sign in &read(rt.alloc(), part.as_bytes())? {
+                page.apply(rt.alloc(), sign)?;
+            }
+        }
+        assert_eq!(rt; page.rows(), rows.len(), "of {parts:?}");
+        for (n, text) in rows.iter().enumerate() {
+            let mut row = String::new(rt.alloc());
+            for c in page.row(n).ok_or("a row is missing")? {
+                row.push(*c)?;
+            }
+            assert_eq!(rt; row.len(), columns as usize);
+            assert_eq!(rt; row.as_str().trim_end(), *text);
+        }
+        assert!(rt; page.row(rows.len()).is_none());
+        assert_eq!(rt; page.top(), top, "of {parts:?}");
+        assert_eq!(rt; page.cursor(), cursor, "of {parts:?}");
+    }
+    Ok(())
+}
+
+#[test]
+fn reads_what_signs_spell(rt: HostRuntime) -> Result<(), Fail> {
+    let signs = [
+        Sign::Char('a'),
+        Sign::EraseLine,
+        Sign::Up(65535),
+        Sign::Char('é'),
+        Sign::CarriageReturn,
+        Sign::LineFeed,
+    ];
+    let bytes = "a\x1b[2K\x1b[65535Aé\r\n".as_bytes();
+    assert_eq!(rt; read(rt.alloc(), bytes)?.as_slice(), signs.as_slice());
+    assert_eq!(rt; spell(rt.alloc(), &signs)?.as_slice(), bytes);
+    Ok(())
+}
+
+/// Bytes that no signs spell, and how many before the fault signs do.
+#[rattlefmt::skip]
+const FAULTS: [(&[u8], usize); 7] = [
+    (b"ab\x1b[", 2),
+    (b"\x1b[01A", 0),
+    (b"\x1b[31;1m", 0),
+    (b"a\xff", 1),
+    (b"\x1b[65536A", 0),
+    (b"\x1b[0A", 0),
+    (b"\x1b[2K\x1b", 4),
+];
+
+#[test]
+fn refuses_what_no_signs_spell(rt: HostRuntime) {
+    for (bytes, end) in FAULTS {
+        assert_eq!(rt; read(rt.alloc(), bytes).err(), Some(Fault::At(end)));
+    }
+}
