@@ -1,7 +1,7 @@
 -- The ring of a run is that of all messages that were said.
 use Rattle.std.proofs.Common.{◌≡◌, ◌∙◌, ap, sym, ℕ, zero, suc, take, ◌++◌, ◌∷◌, [], List, refl, append_assoc, append-nil, Bool, true, false, cond, subst, Result, Ok, Err, Option, Some, None}
 use Rattle.prodash_base.specs.Rows.{Entry}
-use Rattle.prodash_base.specs.Rings.{empty_ring, push, ring_of, counts_no_more}
+use Rattle.prodash_base.specs.Rings.{new_ring, push, ring_of, is_push_limit_reached}
 use Rattle.prodash_base.specs.declared.refusal.Refusal.{Refusal}
 use Rattle.prodash_base.specs.declared.refusal.Refusal.TheVariants as refusals
 use Rattle.prodash_base.specs.declared.messages.Message.{Message as Said}
@@ -59,7 +59,7 @@ played_said c all t (events.AddChild parent name id) h = played_silently c all t
 played_said c all t (events.Drop n) h = played_silently c all t (events.Drop n) h refl (handle_keeps t (item t n) _ (λ _. refl))
 played_said c all t (events.Init n max) h = played_silently c all t (events.Init n max) h refl (handle_keeps t (item t n) _ (λ x. init_keeps t n x max _))
 played_said c all t (events.Set n step) h = played_silently c all t (events.Set n step) h refl (handle_keeps t (item t n) _ (λ _. refl))
-played_said c all t (events.Message n at level text) h = said_by c all t n at level text h (item t n) (counts_no_more t.ring) refl
+played_said c all t (events.Message n at level text) h = said_by c all t n at level text h (item t n) (is_push_limit_reached t.ring) refl
 played_said c all t events.Snapshot h = played_silently c all t events.Snapshot h refl (handle_keeps t (living t 0) _ (λ _. refl))
 played_said c all t events.CopyMessages h = played_silently c all t events.CopyMessages h refl (handle_keeps t (living t 0) _ (λ _. refl))
 played_said c all t (events.CopyNew previous) h = played_silently c all t (events.CopyNew previous) h refl (handle_keeps t (living t 0) _ (λ _. refl))
@@ -161,7 +161,7 @@ front_runs (suc j) (e ∷ es) (r ∷ rs) w s w' s' h =
     (more.0, more.1, (h.0, h.1, h.2, more.2))
 
 -- after each front of a run the ring is that of all that was said in it
-pub rings_of_fronts : (c : ℕ) (es : List Event) (rs : List Reply) (w : SessionState) (s : Taken) (w' : SessionState) (s' : Taken) → Run w s es rs w' s' → w.tree.ring ≡ empty_ring c
+pub rings_of_fronts : (c : ℕ) (es : List Event) (rs : List Reply) (w : SessionState) (s : Taken) (w' : SessionState) (s' : Taken) → Run w s es rs w' s' → w.tree.ring ≡ new_ring c
     → (j : ℕ) → (after w (take j es) (take j rs)).tree.ring ≡ ring_of c (all_said w (take j es) (take j rs))
 rings_of_fronts c es rs w s w' s' h empty j =
     let front = front_runs j es rs w s w' s' h in

@@ -4,7 +4,7 @@ use Rattle.std.specs.FinMap as finite
 use Rattle.prodash_base.specs.Path.{Path, child}
 use Rattle.prodash_base.specs.Rows.{Entry, Progress, Running, PathRow}
 use Rattle.prodash_base.specs.Messages.{message_of}
-use Rattle.prodash_base.specs.Rings.{Ring, empty_ring, push, copied, counts_no_more}
+use Rattle.prodash_base.specs.Rings.{Ring, new_ring, push, copied, is_push_limit_reached}
 use Rattle.prodash_base.specs.declared.messages.Message.{Message as Said}
 use Rattle.prodash_base.specs.declared.messages.MessageLevel.{MessageLevel}
 use Rattle.prodash_base.specs.declared.refusal.Refusal.{Refusal}
@@ -36,7 +36,7 @@ new_handle path = record { path = path; counter = 0; children = 0; lives = true 
 
 -- nothing but the root, and a ring of this capacity
 abbrev pub opening_tree : ℕ → Tree
-opening_tree capacity = record { table = finite.empty; handles = new_handle [] ∷ []; ring = empty_ring capacity }
+opening_tree capacity = record { table = finite.empty; handles = new_handle [] ∷ []; ring = new_ring capacity }
 
 -- the handle with a number, where it lives
 abbrev pub if_lives : Option Handle → Option Handle
@@ -108,7 +108,7 @@ words_of t h at level text = message_of at level (name_of (finite.get t.table h.
 
 -- the message is pushed; refused where no more can be counted
 abbrev pub say : Tree → Said → Result (Tree × Reply) Refusal
-say t m = if counts_no_more t.ring then Err refusals.TooManyMessages else Ok (record t { ring = push t.ring m }, replies.Done)
+say t m = if is_push_limit_reached t.ring then Err refusals.TooManyMessages else Ok (record t { ring = push t.ring m }, replies.Done)
 
 -- the tree whose root, the handle h, lives no more
 abbrev pub drop_root : Tree → Handle → Tree

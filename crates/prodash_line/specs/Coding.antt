@@ -14,5 +14,5 @@ abbrev pub coded_renderer : Coded Renderer
 coded_renderer =
     code_by (Options × (List ℕ × (ℕ × (Option (List PathRow) × (List ℕ × (Option ℕ × Option Refusal))))))
     (coded× coded_options (coded× (coded_list coded_ℕ) (coded× coded_ℕ (coded× (coded_option coded_rows) (coded× (coded_list coded_ℕ) (coded× (coded_option coded_ℕ) (coded_option coded_refusal)))))))
-    (λ r. (r.options, (r.standing, (r.midpoint, (r.remembered, (r.origins, (r.seen, r.ended)))))))
-    (λ q. record { options = q.0; standing = q.1.0; midpoint = q.1.1.0; remembered = q.1.1.1.0; origins = q.1.1.1.1.0; seen = q.1.1.1.1.1.0; ended = q.1.1.1.1.1.1 }) (λ _. refl)
+    (λ r. (r.options, (r.widths, (r.midpoint, (r.last_rows, (r.origin_widths, (r.seen, r.ended)))))))
+    (λ q. record { options = q.0; widths = q.1.0; midpoint = q.1.1.0; last_rows = q.1.1.1.0; origin_widths = q.1.1.1.1.0; seen = q.1.1.1.1.1.0; ended = q.1.1.1.1.1.1 }) (λ _. refl)

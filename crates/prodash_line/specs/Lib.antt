@@ -6,7 +6,8 @@ pub mod MessageLines
 pub mod Screens
 pub mod Endings
 pub mod Renderer
-pub mod Joined
+pub mod Writing
+pub mod OverwriteBytes
 pub mod Coding
 pub mod Page
 pub mod Cells
@@ -14,3 +15,4 @@ pub mod PageInside
 pub mod Reading
 pub mod Shows
 pub mod Fits
+pub mod Renderings

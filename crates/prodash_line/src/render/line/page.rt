@@ -15,6 +15,7 @@ pub use reading::{Fault, one_spelling, read};
 pub use sign::Sign;
 use std::alloc::{AllocError, Global};
 use std::marker::Model;
+pub(crate) use writing::push_sign;
 pub use writing::spell;
 
 /// All rows ever, of which the last are the window, and a cursor.
