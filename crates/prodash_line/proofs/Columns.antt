@@ -1,6 +1,5 @@
 -- The widths of lines, and of printable ASCII characters.
 use Rattle.std.proofs.Common.{◌≡◌, ℕ, zero, suc, ◌^◌, ◌+◌, ◌%◌, ◌<◌, ◌≤◌, Bool, true, false, cond, not, ◌&&◌, List, [], ◌∷◌, ◌++◌, length, replicate, chars, refl, sym, ap, ◌∙◌, arith}
-use Rattle.std.specs.List.{list_all}
 use Rattle.std.specs.Int.{is_in_range}
 use Rattle.std.specs.Fmt.{decimal}
 use Rattle.std.specs.Str.{IsUtf8, IsAscii}
@@ -15,8 +14,8 @@ use Rattle.unicode_width.proofs.Computing.{unicode_width}
 use Rattle.unicode_width.specs.declared.state.State.{State}
 use Rattle.unicode_width.specs.Width.{plain, step, read_before, str_width}
 use Rattle.unicode_width.proofs.Rules.{str_width-printable}
-use Rattle.prodash_line.specs.Lines.{Piece, Line, piece, capped, width_of, columns_of}
-use Rattle.prodash_line.specs.Writing.{is_printable}
+use Rattle.prodash_line.specs.Lines.{Piece, Line, capped, width_of, columns_of}
+use Rattle.prodash_line.specs.plumbing.Writing.{is_printable}
 
 pub columns_of-append : (a b : Line) → columns_of (a ++ b) ≡ capped (columns_of a + columns_of b)
 columns_of-append a b = omega (arith, sum_by-append width_of a b)

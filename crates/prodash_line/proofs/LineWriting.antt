@@ -1,18 +1,18 @@
 -- What a line writer has written, piece by piece.
-use Rattle.std.proofs.Common.{◌≡◌, ℕ, ◌+◌, ◌-◌, ◌≤◌, false, true, List, [], ◌∷◌, ◌++◌, length, replicate, chars, refl, sym, ap, subst, ◌∙◌, append_assoc, append-nil, arith, length-append}
+use Rattle.std.proofs.Common.{◌≡◌, ℕ, ◌+◌, ◌≤◌, false, true, List, [], ◌∷◌, ◌++◌, length, replicate, chars, sym, ap, subst, ◌∙◌, append_assoc, append-nil, arith, length-append}
 use Rattle.std.specs.Str.{IsUtf8}
 use Rattle.std.proofs.lemmas.List.Sums.{sum_by-append}
 use Rattle.unicode_width.specs.Width.{str_width}
 use Rattle.prodash_line.specs.declared.render.line.draw.line.LineWriter.{LineWriter}
 use Rattle.prodash_line.specs.Lines.{Piece, Line, piece, capped, width_of, columns_of}
-use Rattle.prodash_line.specs.Writing.{is_printable, line_bytes, Writes, Appends, Begun}
+use Rattle.prodash_line.specs.plumbing.Writing.{is_printable, line_bytes, Writes, Appends, Begun}
 use Rattle.prodash_line.proofs.Written.{line_bytes-nil, line_bytes-append, line_bytes-text, line_bytes-printable, line_bytes-joined}
 use Rattle.prodash_line.proofs.Columns.{columns_of-last, printable-append, printable-repeated, printable-spaces, width-printable, width-repeated, width-indented}
 
 -- ---- one call
 
 -- one piece more
-pub appends_piece : (old new : LineWriter) (p : Piece) → new.bytes.items ≡ old.bytes.items ++ line_bytes (p ∷ []) → new.width ≡ capped (old.width + width_of p) → Appends old (p ∷ []) new
+appends_piece : (old new : LineWriter) (p : Piece) → new.bytes.items ≡ old.bytes.items ++ line_bytes (p ∷ []) → new.width ≡ capped (old.width + width_of p) → Appends old (p ∷ []) new
 appends_piece old new p b w = record {
   writes = λ before line h. record {
     bytes = b ∙ ap (λ bs. bs ++ line_bytes (p ∷ [])) h.bytes ∙ append_assoc before (line_bytes line) (line_bytes (p ∷ []))
@@ -52,9 +52,6 @@ appends_indented old new n width text spaced u fits own s b w =
     (omega arith)
 
 -- ---- one call after another
-
-pub appends_none : (w : LineWriter) → Appends w [] w
-appends_none w = record { writes = λ before line h. subst (λ (l : Line). Writes before l w) (sym (append-nil line)) h }
 
 pub appends_then : {a b c : LineWriter} {xs ys : Line} → Appends a xs b → Appends b ys c → Appends a (xs ++ ys) c
 appends_then {a} {b} {c} {xs} {ys} h i = record {

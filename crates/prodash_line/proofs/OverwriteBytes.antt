@@ -1,21 +1,19 @@
 -- Lines over those on screen: their bytes are the spelling of a frame's signs.
-use Rattle.std.proofs.Common.{◌≡◌, ℕ, suc, ◌+◌, ◌-◌, ◌<◌, ◌≤◌, Bool, true, false, cond, List, [], ◌∷◌, ◌++◌, map, length, drop, replicate, refl, sym, ap, ◌∙◌, append_assoc, append-nil, arith, ⊎_elim, get_or, drop-cons, length-drop}
+use Rattle.std.proofs.Common.{◌≡◌, ℕ, suc, ◌+◌, ◌-◌, ◌<◌, ◌≤◌, Bool, true, false, cond, List, [], ◌∷◌, ◌++◌, length, drop, replicate, refl, sym, ap, ◌∙◌, append_assoc, append-nil, arith, ⊎_elim, get_or, drop-cons, length-drop}
 use Rattle.std.specs.Prelude.{min, max}
 use Rattle.std.proofs.lemmas.Bool.{cases_lt}
-use Rattle.std.proofs.lemmas.List.{drop-drop, drop_all, take_at}
+use Rattle.std.proofs.lemmas.List.{drop-drop, drop_all}
 use Rattle.prodash_base.specs.Rows.{PathRow}
 use Rattle.prodash_base.specs.declared.messages.Message.{Message}
-use Rattle.prodash_line.specs.declared.render.line.page.sign.Sign.{Sign}
-use Rattle.prodash_line.specs.declared.render.line.page.sign.Sign.TheVariants.{Char, LineFeed}
-use Rattle.prodash_line.specs.declared.render.line.draw.line.LineWriter.{LineWriter}
+use Rattle.prodash_line.specs.declared.render.line.page.sign.Sign.TheVariants.{LineFeed}
 use Rattle.prodash_line.specs.Signs.{spelling}
-use Rattle.prodash_line.specs.Lines.{Line, spaces, piece, columns_of}
+use Rattle.prodash_line.specs.Lines.{Line, spaces, columns_of}
 use Rattle.prodash_line.specs.Frames.{Body, Unchanged, Draws, Frame, line_signs, piece_signs, overwrite_line, first_width, overwrite, cursor_up, redraw, body_signs, frame_signs, widths_of, widths_after}
 use Rattle.prodash_line.specs.ProgressRows.{row_lines}
 use Rattle.prodash_line.specs.MessageLines.{message_line, message_lines, origin_width, widths_of_origins, greatest_width}
 use Rattle.prodash_line.specs.Renderer.{Renderer, is_drawn, tick_frame}
-use Rattle.prodash_line.specs.Writing.{line_bytes, Begun}
-use Rattle.prodash_line.specs.OverwriteBytes.{row_end, overwrite_line_bytes, overwrite_bytes, blank_bytes, Overwrites}
+use Rattle.prodash_line.specs.plumbing.Writing.{line_bytes}
+use Rattle.prodash_line.specs.plumbing.OverwriteBytes.{row_end, overwrite_line_bytes, overwrite_bytes, blank_bytes}
 use Rattle.prodash_line.proofs.Columns.{printable-spaces}
 use Rattle.prodash_line.proofs.MessageLines.{greatest_width-append}
 use Rattle.prodash_line.proofs.Written.{spelling-append, line_bytes-printable}
@@ -36,7 +34,7 @@ spelling-overwrite_line width line =
 
 -- ---- lines
 
-pub overwritten : (widths : List ℕ) (lines : List Line) → overwrite_bytes widths lines ≡ spelling (overwrite widths lines)
+overwritten : (widths : List ℕ) (lines : List Line) → overwrite_bytes widths lines ≡ spelling (overwrite widths lines)
 overwritten widths [] = refl
 overwritten widths (line ∷ lines) =
     ap (λ t. t ++ overwrite_bytes (drop 1 widths) lines) (sym (spelling-overwrite_line (first_width widths) line))
@@ -114,7 +112,7 @@ origin_more kept new_kept total m messages left own o k f e =
     ap (λ t. t ++ widths_of_origins messages) (k ∙ ap (λ n. kept ++ n ∷ []) o) ∙ append_assoc kept (origin_width m.origin ∷ []) (widths_of_origins messages)
     ∙ ap (λ ms. kept ++ widths_of_origins ms) (sym f) ∙ e
 
-pub length-message_lines : (widths : List ℕ) (messages : List Message) → length (message_lines widths messages) ≡ length messages
+length-message_lines : (widths : List ℕ) (messages : List Message) → length (message_lines widths messages) ≡ length messages
 length-message_lines widths [] = refl
 length-message_lines widths (m ∷ messages) = ap suc (length-message_lines (widths ++ origin_width m.origin ∷ []) messages)
 
@@ -150,10 +148,6 @@ unchanged_bytes r at show rows messages a h e =
     sym (append-nil a)
     ∙ with_body r.widths (drop (length messages) r.widths) a (message_lines r.origin_widths messages) (length messages) Unchanged e refl (sym (length-message_lines r.origin_widths messages))
     ∙ ap (λ b. spelling (frame_signs r.widths (frame_if r rows messages b))) (sym h)
-
-pub drawn_widths : (r : Renderer) (at : ℕ) (show : Bool) (rows : List PathRow) (messages : List Message) (widths : List ℕ) → is_drawn r show rows ≡ true
-    → widths ≡ widths_of (lines_at r rows) → widths ≡ widths_after r.widths (tick_frame r at show rows messages)
-drawn_widths r at show rows messages widths h w = w ∙ ap (λ b. widths_after r.widths (frame_if r rows messages b)) (sym h)
 
 pub unchanged_widths : (r : Renderer) (at : ℕ) (show : Bool) (rows : List PathRow) (messages : List Message) (widths : List ℕ) → is_drawn r show rows ≡ false
     → widths ≡ drop (length messages) r.widths → widths ≡ widths_after r.widths (tick_frame r at show rows messages)

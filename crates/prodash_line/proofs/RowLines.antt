@@ -1,12 +1,11 @@
 -- The line of a row, from what was appended to it.
 use Rattle.std.proofs.Common.{◌≡◌, ℕ, ◌+◌, ◌-◌, false, true, List, [], ◌∷◌, ◌++◌, Some, length, replicate, ap, sym, ◌∙◌, arith, length-append}
-use Rattle.std.proofs.lemmas.List.Sums.{sum_by-append}
 use Rattle.unicode_width.specs.Width.{str_width}
 use Rattle.prodash_base.specs.Rows.{PathRow, Progress}
 use Rattle.prodash_line.specs.declared.render.line.draw.line.LineWriter.{LineWriter}
 use Rattle.prodash_line.specs.Lines.{Line, piece, spaces, capped, columns_of}
 use Rattle.prodash_line.specs.ProgressRows.{fraction_of, head_of, padded, bar, midpoint_with, row_line_with}
-use Rattle.prodash_line.specs.Writing.{is_printable, Appends, Begun}
+use Rattle.prodash_line.specs.plumbing.Writing.{is_printable, Appends, Begun}
 use Rattle.prodash_line.proofs.Columns.{columns_of-append, printable-append, width-printable, width-repeated}
 use Rattle.prodash_line.proofs.LineWriting.{appends_as, appends_then, appends_joined, begun_then, begun_as}
 

@@ -7,21 +7,21 @@ mod bar;
 mod frame;
 mod input;
 mod line;
+mod memory_screen;
 mod message;
 mod row;
 mod screen;
 mod state;
-#[cfg(test)]
-mod tests;
 
 use frame::{compose, compose_closing};
 pub use input::{Answer, Input, Options};
+pub use memory_screen::MemoryScreen;
 use prodash_base::Refusal;
 use prodash_base::messages::{MessageCopyState, Messages};
 use prodash_base::progress::Rows;
 use prodash_base::time::Moment;
+pub use screen::Screen;
 use screen::write_frame;
-pub use screen::{MemoryScreen, Screen};
 pub use state::State;
 use state::Past;
 use std::alloc::Global;
@@ -106,11 +106,14 @@ fn tick<S: Screen>(
 fn close<S: Screen>(screen: &mut S, state: &mut State) -> Result<Answer, Refusal>
     requires { state.old.ended ≡ None }
     ensures quit {
-        (at : ℕ) → Renders state.old (Input.Quit at) (S.state screen.old) result state.new (S.state screen.new)
+        (at : ℕ)
+        → Renders state.old (Input.Quit at) (S.state screen.old) result state.new
+        (S.state screen.new)
     }
     ensures without_root {
         (at : ℕ) (show : Bool)
-        → Renders state.old (Input.Tick at show None) (S.state screen.old) result state.new (S.state screen.new)
+        → Renders state.old (Input.Tick at show None) (S.state screen.old) result state.new
+        (S.state screen.new)
     }
 {
     compose_closing(&mut state.frame, &state.past.widths)?;
@@ -122,7 +125,8 @@ fn close<S: Screen>(screen: &mut S, state: &mut State) -> Result<Answer, Refusal
 /// Writes the bytes of a frame to the screen. If the screen breaks, so does the renderer.
 fn send<S: Screen>(screen: &mut S, past: &mut Past, frame: &[u8]) -> Result<(), Refusal>
     ensures ok {
-        OnOk result ((past.new ≡ past.old) × WritesFrame frame.now (S.state screen.old) (S.state screen.new))
+        OnOk result
+        ((past.new ≡ past.old) × WritesFrame frame.now (S.state screen.old) (S.state screen.new))
     }
     ensures err {
         OnErr result

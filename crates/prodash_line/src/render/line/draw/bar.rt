@@ -1,7 +1,7 @@
 //! The bar of a progress.
 ghost use Rattle.std.specs.Prelude.{◌≡◌, ◌≤◌, OnOk};
 ghost use Rattle.prodash_line.specs.ProgressRows as rows;
-ghost use Rattle.prodash_line.specs.Writing.{Appends};
+ghost use Rattle.prodash_line.specs.plumbing.Writing.{Appends};
 
 use crate::render::line::draw::line::LineWriter;
 use prodash_base::progress::Step;

@@ -8,7 +8,7 @@ ghost use Rattle.prodash_line.specs.Frames.{first_width, redraw, cursor_up, widt
 ghost use Rattle.prodash_line.specs.ProgressRows.{row_lines, greatest_midpoint};
 ghost use Rattle.prodash_line.specs.MessageLines.{message_lines, widths_of_origins, last_of, latest_origin_widths};
 ghost use Rattle.prodash_line.specs.Renderer.{tick_frame, closing_frame, next};
-ghost use Rattle.prodash_line.specs.OverwriteBytes.{overwrite_bytes, blank_bytes};
+ghost use Rattle.prodash_line.specs.plumbing.OverwriteBytes.{overwrite_bytes, blank_bytes};
 
 use crate::render::line::draw::line::{LineWriter, text_width};
 use crate::render::line::draw::message::{greatest_of, push_message};
@@ -33,19 +33,25 @@ pub(crate) fn compose(
 ) -> Result<Composed, AllocError>
     ensures bytes {
         OnOk result
-        (out.new.bytes.items ≡ spelling (frame_signs past.now.widths (tick_frame past.now at show rows.now messages.now)))
+        (let frame = tick_frame past.now at show rows.now messages.now in
+        out.new.bytes.items ≡ spelling (frame_signs past.now.widths frame))
     }
     ensures widths {
         IfOk result
-        (λ frame. (seen : ℕ) → frame.widths.items ≡ (next past.now (inputs.Tick at show (Some (rows.now, messages.now, seen)))).widths)
+        (λ frame. (pushed : ℕ) →
+        let input = inputs.Tick at show (Some (rows.now, messages.now, pushed)) in
+        frame.widths.items ≡ (next past.now input).widths)
     }
     ensures midpoint {
         IfOk result
-        (λ frame. (seen : ℕ) → frame.midpoint ≡ (next past.now (inputs.Tick at show (Some (rows.now, messages.now, seen)))).midpoint)
+        (λ frame. (pushed : ℕ) →
+        let input = inputs.Tick at show (Some (rows.now, messages.now, pushed)) in
+        frame.midpoint ≡ (next past.now input).midpoint)
     }
     ensures origin_widths {
         IfOk result
-        (λ frame. frame.origin_widths.items ≡ latest_origin_widths past.now.options.terminal_dimensions.1 past.now.origin_widths messages.now)
+        (λ frame. let height = past.now.options.terminal_dimensions.1 in
+        frame.origin_widths.items ≡ latest_origin_widths height past.now.origin_widths messages.now)
     }
 {
     let (width, height) = past.options.terminal_dimensions;
@@ -101,10 +107,12 @@ fn write_messages(
 ) -> Result<(), AllocError>
     ensures bytes {
         OnOk result
-        (out.new.bytes.items ≡ out.old.bytes.items ++ overwrite_bytes widths.now (message_lines origin_widths.old.items messages.now))
+        (let lines = message_lines origin_widths.old.items messages.now in
+        out.new.bytes.items ≡ out.old.bytes.items ++ overwrite_bytes widths.now lines)
     }
     ensures origins {
-        OnOk result (origin_widths.new.items ≡ origin_widths.old.items ++ widths_of_origins messages.now)
+        OnOk result
+        (origin_widths.new.items ≡ origin_widths.old.items ++ widths_of_origins messages.now)
     }
 {
     let mut left = widths;
@@ -142,11 +150,13 @@ fn redraw_rows(
 ) -> Result<u16, AllocError>
     ensures bytes {
         OnOk result
-        (out.new.bytes.items ≡ out.old.bytes.items ++ spelling (redraw widths.now (row_lines width midpoint (rows_of rows.now))))
+        (let lines = row_lines width midpoint (rows_of rows.now) in
+        out.new.bytes.items ≡ out.old.bytes.items ++ spelling (redraw widths.now lines))
     }
     ensures widths {
         OnOk result
-        (new_widths.new.items ≡ new_widths.old.items ++ widths_of (row_lines width midpoint (rows_of rows.now)))
+        (let lines = row_lines width midpoint (rows_of rows.now) in
+        new_widths.new.items ≡ new_widths.old.items ++ widths_of lines)
     }
     ensures midpoint { IfOk result (λ n. n ≡ greatest_midpoint (rows_of rows.now)) }
 {
@@ -167,11 +177,13 @@ fn write_rows(
 ) -> Result<u16, AllocError>
     ensures bytes {
         OnOk result
-        (out.new.bytes.items ≡ out.old.bytes.items ++ overwrite_bytes widths.now (row_lines width midpoint (rows_of rows.now)))
+        (let lines = row_lines width midpoint (rows_of rows.now) in
+        out.new.bytes.items ≡ out.old.bytes.items ++ overwrite_bytes widths.now lines)
     }
     ensures widths {
         OnOk result
-        (new_widths.new.items ≡ new_widths.old.items ++ widths_of (row_lines width midpoint (rows_of rows.now)))
+        (let lines = row_lines width midpoint (rows_of rows.now) in
+        new_widths.new.items ≡ new_widths.old.items ++ widths_of lines)
     }
     ensures midpoint { IfOk result (λ n. n ≡ greatest_midpoint (rows_of rows.now)) }
 {
@@ -190,8 +202,9 @@ fn write_rows(
 /// from below all rows to the first.
 fn finish_redraw(out: &mut LineWriter, widths: &[u16], drawn: usize) -> Result<(), AllocError>
     ensures {
-        OnOk result ((before : List ℕ) (lines : List Line)
-        → length lines ≡ drawn → out.old.bytes.items ≡ before ++ overwrite_bytes widths.now lines
+        OnOk result
+        ((before : List ℕ) (lines : List Line) → length lines ≡ drawn
+        → out.old.bytes.items ≡ before ++ overwrite_bytes widths.now lines
         → out.new.bytes.items ≡ before ++ spelling (redraw widths.now lines))
     }
 {
@@ -216,7 +229,7 @@ fn push_up(out: &mut LineWriter, rows: usize) -> Result<(), AllocError>
     ensures { OnOk result (out.new.bytes.items ≡ out.old.bytes.items ++ spelling (cursor_up rows)) }
 {
     if rows > 0 {
-        out.push_sign(Sign::Up(rows.min(65535) as u16))?;
+        out.push_sign(Sign::Up(rows.min(usize::from(u16::MAX)) as u16))?;
     }
     Ok(())
 }

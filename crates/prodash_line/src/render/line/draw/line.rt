@@ -3,8 +3,8 @@ ghost use Rattle.std.specs.Prelude.{◌≡◌, ℕ, List, ◌∷◌, [], ◌++�
 ghost use Rattle.unicode_width.specs.Width.{str_width};
 ghost use Rattle.prodash_line.specs.Signs.{spelling_of};
 ghost use Rattle.prodash_line.specs.Lines.{Line, piece, spaces, columns_of};
-ghost use Rattle.prodash_line.specs.Writing.{is_printable, Appends, Begun};
-ghost use Rattle.prodash_line.specs.OverwriteBytes.{Overwrites};
+ghost use Rattle.prodash_line.specs.plumbing.Writing.{is_printable, Appends, Begun};
+ghost use Rattle.prodash_line.specs.plumbing.OverwriteBytes.{Overwrites};
 
 use crate::render::line::page::{Sign, push_sign};
 use std::alloc::{AllocError, Global};
@@ -71,7 +71,10 @@ impl LineWriter {
         width: u16,
     ) -> Result<(), AllocError>
         requires { width ≡ columns_of (piece (chars text.now) ∷ []) }
-        ensures { OnOk result (Appends self.old (piece (replicate padding 32 ++ chars text.now) ∷ []) self.new) }
+        ensures {
+            OnOk result
+            (Appends self.old (piece (replicate padding 32 ++ chars text.now) ∷ []) self.new)
+        }
     {
         push_copies(&mut self.bytes, b' ', padding)?;
         self.bytes.extend_from_slice(text.as_bytes())?;
@@ -112,8 +115,16 @@ impl LineWriter {
     /// as that one reached, then a line feed. Returns the width of the line. It fails if it is out
     /// of memory.
     pub(crate) fn end_over(&mut self, width: u16) -> Result<u16, AllocError>
-        ensures bytes { OnOk result ((before : LineWriter) (line : Line) → Begun before line self.old → Overwrites before width line self.new) }
-        ensures width { IfOk result (λ n. (before : LineWriter) (line : Line) → Begun before line self.old → n ≡ columns_of line) }
+        ensures bytes {
+            OnOk result
+            ((before : LineWriter) (line : Line) → Begun before line self.old
+            → Overwrites before width line self.new)
+        }
+        ensures width {
+            IfOk result
+            (λ n. (before : LineWriter) (line : Line) → Begun before line self.old
+            → n ≡ columns_of line)
+        }
     {
         push_copies(&mut self.bytes, b' ', width.saturating_sub(self.width))?;
         self.bytes.push(b'\n')?;

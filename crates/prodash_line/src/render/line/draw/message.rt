@@ -1,7 +1,7 @@
 //! The line of a message: its origin, aligned with those of other messages, and its text.
 ghost use Rattle.std.specs.Prelude.{◌≡◌, OnOk};
 ghost use Rattle.prodash_line.specs.MessageLines.{origin_width, message_line, greatest_width};
-ghost use Rattle.prodash_line.specs.Writing.{Begun};
+ghost use Rattle.prodash_line.specs.plumbing.Writing.{Begun};
 
 use crate::render::line::draw::line::LineWriter;
 use prodash_base::messages::Message;

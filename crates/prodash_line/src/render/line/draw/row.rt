@@ -3,7 +3,7 @@ ghost use Rattle.std.specs.Prelude.{◌≡◌, ◌≤◌, ◌+◌, ℕ, ◌++◌
 ghost use Rattle.std.specs.Fmt.{decimal};
 ghost use Rattle.prodash_base.specs.Rows.{row_of};
 ghost use Rattle.prodash_line.specs.ProgressRows.{fraction_of, head_of, row_line, midpoint_of};
-ghost use Rattle.prodash_line.specs.Writing.{is_printable, Appends, Begun};
+ghost use Rattle.prodash_line.specs.plumbing.Writing.{is_printable, Appends, Begun};
 
 use crate::render::line::draw::bar::push_bar;
 use crate::render::line::draw::line::LineWriter;
@@ -45,7 +45,9 @@ pub(crate) fn push_row(
 
 /// Returns what follows the digits of a step: a slash and the digits of the bound, if there is one.
 fn format_bound(digits: &mut Buffer, done_at: Option<Step>) -> (&'static str, &str)
-    ensures text { (step : ℕ) → fraction_of step done_at ≡ decimal step ++ (result.0.now ++ result.1.now) }
+    ensures text {
+        (step : ℕ) → fraction_of step done_at ≡ decimal step ++ (result.0.now ++ result.1.now)
+    }
     ensures slash { is_printable result.0.now ≡ true }
     ensures bound { is_printable result.1.now ≡ true }
     ensures short { length result.0.now + length result.1.now ≤ 41 }

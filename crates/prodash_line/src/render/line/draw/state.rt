@@ -70,7 +70,7 @@ pub(crate) struct Composed {
 }
 
 impl Ending {
-    ghost use Rattle.prodash_line.specs.Endings.{refusal_of};
+    ghost use Rattle.prodash_line.specs.plumbing.Endings.{refusal_of};
 
     /// Returns the refusal of every further frame.
     fn refusal(self) -> Refusal
@@ -86,12 +86,9 @@ impl Ending {
 impl Model for Past {
     ghost use Rattle.std.specs.Option.{option_map};
     ghost use Rattle.prodash_line.specs.Renderer.{Renderer};
-    ghost use Rattle.prodash_line.specs.Endings.{refusal_of};
-    ghost use Rattle.prodash_line.specs.Coding.{coded_renderer};
+    ghost use Rattle.prodash_line.specs.plumbing.Endings.{refusal_of};
 
     ghost Value = { Renderer };
-
-    ghost coded = { coded_renderer };
 
     ghost view = { λ p. record {
       options = p.options;
@@ -106,11 +103,8 @@ impl Model for Past {
 
 impl Model for State {
     ghost use Rattle.prodash_line.specs.Renderer.{Renderer};
-    ghost use Rattle.prodash_line.specs.Coding.{coded_renderer};
 
     ghost Value = { Renderer };
-
-    ghost coded = { coded_renderer };
 
     ghost view = { λ s. s.past };
 }
@@ -138,7 +132,9 @@ impl State {
     /// the screen broke during a frame; or none if the next frame is drawn.
     pub fn ended(&self) -> Option<Refusal>
         ensures value { result ≡ self.now.ended }
-        ensures reason { IfSome result (λ refusal. (refusal ≡ Refusal.Closed) ⊎ (refusal ≡ Refusal.Broken)) }
+        ensures reason {
+            IfSome result (λ refusal. (refusal ≡ Refusal.Closed) ⊎ (refusal ≡ Refusal.Broken))
+        }
     {
         self.past.ended()
     }
@@ -163,9 +159,11 @@ impl Past {
     /// Returns the refusal of every further frame, if there is one.
     fn ended(&self) -> Option<Refusal>
         ensures value { result ≡ self.now.ended }
-        ensures reason { IfSome result (λ refusal. (refusal ≡ Refusal.Closed) ⊎ (refusal ≡ Refusal.Broken)) }
+        ensures reason {
+            IfSome result (λ refusal. (refusal ≡ Refusal.Closed) ⊎ (refusal ≡ Refusal.Broken))
+        }
     {
-        Some(self.ending?.refusal())
+        self.ending.map(Ending::refusal)
     }
 
     /// Whether a tick draws these rows: they are shown, and the latest accepted tick with a root

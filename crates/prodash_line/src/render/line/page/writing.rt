@@ -1,4 +1,4 @@
-//! Signs are written as bytes.
+//! Spells signs as bytes.
 ghost use Rattle.std.specs.Prelude.{◌≡◌, ◌++◌, IfErr, IfOk, OnOk};
 ghost use Rattle.prodash_base.specs.declared.refusal.Refusal.TheVariants.{Memory};
 ghost use Rattle.prodash_line.specs.Signs.{sequence, spelling, spelling_of};
@@ -8,6 +8,7 @@ use itoa::Buffer;
 use prodash_base::Refusal;
 use std::alloc::{AllocError, Global};
 
+/// Appends a control sequence. It fails if it is out of memory.
 fn push_sequence(out: &mut Vec<u8>, parameters: &[u8], final_byte: u8) -> Result<(), AllocError>
     ensures { OnOk result (out.new.items ≡ out.old.items ++ sequence parameters.now final_byte) }
 {
@@ -36,7 +37,9 @@ pub(crate) fn push_sign(out: &mut Vec<u8>, sign: Sign) -> Result<(), AllocError>
     }
 }
 
-/// Returns the bytes that spell the signs. `Memory`: it is out of memory.
+/// Returns the bytes that spell the signs.
+///
+/// `Memory`: it is out of memory.
 pub fn spell(alloc: Global, signs: &[Sign]) -> Result<Vec<u8>, Refusal>
     ensures bytes { IfOk result (λ bytes. bytes.items ≡ spelling signs.now) }
     ensures refusal { IfErr result (λ e. e ≡ Memory) }

@@ -1,4 +1,4 @@
-use Rattle.std.proofs.Common.{◌≡◌, ◌++◌, rules, length, refl, ap, sym, ◌∙◌}
+use Rattle.std.proofs.Common.{◌++◌, rules, length, ap, sym, ◌∙◌}
 use Rattle.prodash_line.specs.Signs.{spelling}
 use Rattle.prodash_line.specs.Frames.{redraw}
 use Rattle.prodash_line.specs.ProgressRows.{row_lines}

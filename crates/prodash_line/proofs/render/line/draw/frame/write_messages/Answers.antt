@@ -1,4 +1,4 @@
-use Rattle.std.proofs.Common.{◌≡◌, ◌∷◌, [], ◌++◌, ◌+◌, drop, ap, sym, ◌∙◌, arith, chars}
+use Rattle.std.proofs.Common.{◌≡◌, ◌∷◌, ◌+◌, drop, ap, sym, ◌∙◌, arith}
 use Rattle.std.specs.Prelude.{max}
 use Rattle.prodash_line.specs.MessageLines.{message_line, origin_width, greatest_width}
 use Rattle.prodash_line.proofs.MessageLines.{greatest_width-append}

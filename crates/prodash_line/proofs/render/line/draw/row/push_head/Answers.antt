@@ -1,4 +1,4 @@
-use Rattle.std.proofs.Common.{chars, [], ◌∷◌, length, ap, sym, ◌∙◌, arith}
+use Rattle.std.proofs.Common.{chars, [], ◌∷◌, ap, ◌∙◌}
 use Rattle.prodash_line.specs.Lines.{piece, spaces}
 use Rattle.prodash_line.proofs.LineWriting.{appends_then, appends_as}
 use Rattle.prodash_line.proofs.render.line.draw.row.push_head.Goals as goal

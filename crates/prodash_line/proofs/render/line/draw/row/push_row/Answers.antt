@@ -2,7 +2,7 @@ use Rattle.std.proofs.Common.{◌≡◌, ◌+◌, ◌-◌, length, true, ◌++�
 use Rattle.std.specs.Option.{option_map}
 use Rattle.prodash_base.specs.Rows.{row_of, progress_of}
 use Rattle.prodash_line.specs.ProgressRows.{fraction_of, row_line_with, midpoint_with}
-use Rattle.prodash_line.specs.Writing.{is_printable}
+use Rattle.prodash_line.specs.plumbing.Writing.{is_printable}
 use Rattle.prodash_line.proofs.Columns.{printable-decimal}
 use Rattle.prodash_line.proofs.LineWriting.{begun_then, begun_as}
 use Rattle.prodash_line.proofs.RowLines.{values_append, own_midpoint, padded_begun, row_begun}
