@@ -1,5 +1,5 @@
 ghost use Rattle.std.specs.Prelude.{◌≡◌, ℕ, ◌+◌, ◌<◌, ◌≤◌, [], ◌++◌, false, length, take, is_err, IsTrue, IfOk, IfErr, OnOk, OnErr};
-ghost use Rattle.prodash_line.specs.Screens.{Taken, TakesFront, TakesFrame, BreaksUnder};
+ghost use Rattle.prodash_line.specs.Screens.{ScreenState, TakesPrefix, WritesFrame, BreaksDuring};
 
 use prodash_base::Refusal;
 use std::alloc::Global;
@@ -8,36 +8,36 @@ use std::marker::Model;
 /// Takes the bytes of frames, until it breaks. Once broken it stays so and takes nothing.
 pub trait Screen {
     /// The bytes taken so far, those sent on so far, and whether it is broken.
-    ghost taken: { Self → Taken };
+    ghost state: { Self → ScreenState };
 
     /// Takes a front of the bytes, at least one where there is one, and answers how many; or
     /// breaks, with a front of them taken.
     fn put(&mut self, bytes: &[u8]) -> Result<usize, Refusal>
-        ensures ok { IfOk result (λ n. (n ≤ length bytes.now) × ((taken self.new).bytes ≡ (taken self.old).bytes ++ take n bytes.now)) }
+        ensures ok { IfOk result (λ n. (n ≤ length bytes.now) × ((state self.new).bytes ≡ (state self.old).bytes ++ take n bytes.now)) }
         ensures some { IfOk result (λ n. 0 < length bytes.now → 0 < n) }
-        ensures err { OnErr result (TakesFront bytes.now (taken self.old).bytes (taken self.new).bytes) }
+        ensures err { OnErr result (TakesPrefix bytes.now (state self.old).bytes (state self.new).bytes) }
         ensures reason { IfErr result (λ e. e ≡ Refusal.Broken) }
-        ensures exact { is_err result ≡ (taken self.new).broken }
-        ensures stays { IsTrue (taken self.old).broken → IsTrue (taken self.new).broken × ((taken self.new).bytes ≡ (taken self.old).bytes) };
+        ensures exact { is_err result ≡ (state self.new).broken }
+        ensures stays { IsTrue (state self.old).broken → IsTrue (state self.new).broken × ((state self.new).bytes ≡ (state self.old).bytes) };
 
     /// Sends on what was taken, or breaks.
     fn flush(&mut self) -> Result<(), Refusal>
-        ensures same { (taken self.new).bytes ≡ (taken self.old).bytes }
-        ensures sent { OnOk result ((taken self.new).sent ≡ (taken self.new).bytes) }
+        ensures same { (state self.new).bytes ≡ (state self.old).bytes }
+        ensures flushed { OnOk result ((state self.new).flushed ≡ (state self.new).bytes) }
         ensures reason { IfErr result (λ e. e ≡ Refusal.Broken) }
-        ensures exact { is_err result ≡ (taken self.new).broken }
-        ensures stays { IsTrue (taken self.old).broken → IsTrue (taken self.new).broken };
+        ensures exact { is_err result ≡ (state self.new).broken }
+        ensures stays { IsTrue (state self.old).broken → IsTrue (state self.new).broken };
 
     /// Whether it is broken.
     fn is_broken(&self) -> bool
-        ensures { result ≡ (taken self.now).broken };
+        ensures { result ≡ (state self.now).broken };
 }
 
 /// Writes the whole frame and flushes it, or breaks the screen with a beginning of it written. A
 /// frame without bytes asks nothing of the screen.
 pub(crate) fn write_frame<S: Screen>(screen: &mut S, frame: &[u8]) -> Result<(), Refusal>
-    ensures ok { OnOk result (TakesFrame frame.now (S.taken screen.old) (S.taken screen.new)) }
-    ensures err { OnErr result (BreaksUnder frame.now (S.taken screen.old) (S.taken screen.new)) }
+    ensures ok { OnOk result (WritesFrame frame.now (S.state screen.old) (S.state screen.new)) }
+    ensures err { OnErr result (BreaksDuring frame.now (S.state screen.old) (S.state screen.new)) }
     ensures reason { IfErr result (λ e. e ≡ Refusal.Broken) }
 {
     if frame.is_empty() {
@@ -61,9 +61,9 @@ pub struct MemoryScreen {
 
 impl Model for MemoryScreen {
     ghost use Rattle.std.specs.Prelude.{◌≤◌, vec_capacity};
-    ghost use Rattle.prodash_line.specs.Screens.{Collected};
+    ghost use Rattle.prodash_line.specs.Screens.{MemoryScreenState};
 
-    ghost Value = { Collected };
+    ghost Value = { MemoryScreenState };
 
     ghost view = { λ s. record { bytes = s.bytes.items; room = s.room; broken = s.broken } };
 
@@ -92,12 +92,12 @@ impl MemoryScreen {
 }
 
 impl Screen for MemoryScreen {
-    ghost taken = { λ s. record { bytes = s.bytes; sent = s.bytes; broken = s.broken } };
+    ghost state = { λ s. record { bytes = s.bytes; flushed = s.bytes; broken = s.broken } };
 
     fn put(&mut self, bytes: &[u8]) -> Result<usize, Refusal>
         ensures ok { IfOk result (λ n. (n ≤ length bytes.now) × (self.new.bytes ≡ self.old.bytes ++ take n bytes.now)) }
         ensures some { IfOk result (λ n. 0 < length bytes.now → 0 < n) }
-        ensures err { OnErr result (TakesFront bytes.now self.old.bytes self.new.bytes) }
+        ensures err { OnErr result (TakesPrefix bytes.now self.old.bytes self.new.bytes) }
         ensures reason { IfErr result (λ e. e ≡ Refusal.Broken) }
         ensures exact { is_err result ≡ self.new.broken }
         ensures stays { IsTrue self.old.broken → IsTrue self.new.broken × (self.new.bytes ≡ self.old.bytes) }

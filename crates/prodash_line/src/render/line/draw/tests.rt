@@ -248,9 +248,9 @@ impl FakeScreen {
 }
 
 impl Screen for FakeScreen {
-    ghost taken = { λ s. record {
+    ghost state = { λ s. record {
       bytes = s.bytes.items;
-      sent = take s.sent s.bytes.items;
+      flushed = take s.sent s.bytes.items;
       broken = s.broken;
     } };
 
