@@ -14,7 +14,7 @@ use Rattle.prodash_line.proofs.FramesOnPage.{Home-Shows, Shows-Home, Home-frames
 pub shows_each_prefix : (r : Renderer) (xs : List Rendering) (page : Canvas) (above : List (List ℕ)) (j : ℕ) → page.height < 2 ^ 16
     → Shows above [] page → AllByRecursion (FrameFits page.columns page.height) (drawn_frames r xs)
     → Shows (above ++ map (cells_of page.columns) (printed_lines (take j (drawn_frames r xs)))) (all_lines_after [] (take j (drawn_frames r xs)))
-      (page_after (signs_of [] (take j (drawn_frames r xs))) page)
+    (page_after (signs_of [] (take j (drawn_frames r xs))) page)
 shows_each_prefix r xs page above j w shows fits =
     let frames = drawn_frames r xs in
     Shows-Home page.columns page.height _ _ _
