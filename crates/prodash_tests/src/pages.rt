@@ -1,5 +1,7 @@
 use crate::fixtures::{MESSAGE_FRAME, TASK_FRAME};
 use prodash::render::line::page::{Fault, Page, Sign, read, spell};
+use std::alloc::Global;
+use std::process::Abort;
 use std::test::Fail;
 
 /// The columns and rows of a page, what is written to it, and its rows without the blanks at their
@@ -33,28 +35,46 @@ const WRITTEN: [Written; 7] = [
     ((3, 2), &["ab\rc"], &["cb", ""], 0, (0, 1)),
 ];
 
+/// A page of this many columns and rows, with the signs of all parts written to it.
+fn page_after(
+    rt: &impl Abort,
+    alloc: Global,
+    columns: u16,
+    height: u16,
+    parts: &[&str],
+) -> Result<Page, Fail> {
+    assert!(rt; columns > 0 && height > 0);
+    let mut page = Page::new(alloc, columns, height)?;
+    for part in parts {
+        for sign in &read(alloc, part.as_bytes())? {
+            page.apply(alloc, sign)?;
+        }
+    }
+    Ok(page)
+}
+
+/// The characters of a row.
+fn row_text(alloc: Global, page: &Page, n: usize) -> Result<String, Fail> {
+    let mut text = String::new(alloc);
+    for c in page.row(n).ok_or("a row is missing")? {
+        text.push(*c)?;
+    }
+    Ok(text)
+}
+
 #[test]
 fn pages_show_what_is_written(rt: HostRuntime) -> Result<(), Fail> {
-    for ((columns, height), parts, rows, top, cursor) in WRITTEN {
-        assert!(rt; columns > 0 && height > 0);
-        let mut page = Page::new(rt.alloc(), columns, height)?;
-        for part in parts {
-            for sign in &read(rt.alloc(), part.as_bytes())? {
-                page.apply(rt.alloc(), sign)?;
-            }
-        }
+    for ((columns, height), parts, rows, top, cursor) in &WRITTEN {
+        let page = page_after(&rt, rt.alloc(), *columns, *height, parts)?;
         assert_eq!(rt; page.rows(), rows.len(), "of {parts:?}");
-        for (n, text) in rows.iter().enumerate() {
-            let mut row = String::new(rt.alloc());
-            for c in page.row(n).ok_or("a row is missing")? {
-                row.push(*c)?;
-            }
-            assert_eq!(rt; row.len(), columns as usize);
-            assert_eq!(rt; row.as_str().trim_end(), *text);
+        for (n, want) in rows.iter().enumerate() {
+            let text = row_text(rt.alloc(), &page, n)?;
+            assert_eq!(rt; text.len(), *columns as usize);
+            assert_eq!(rt; text.as_str().trim_end(), *want);
         }
         assert!(rt; page.row(rows.len()).is_none());
-        assert_eq!(rt; page.top(), top, "of {parts:?}");
-        assert_eq!(rt; page.cursor(), cursor, "of {parts:?}");
+        assert_eq!(rt; page.top(), *top, "of {parts:?}");
+        assert_eq!(rt; page.cursor(), *cursor, "of {parts:?}");
     }
     Ok(())
 }

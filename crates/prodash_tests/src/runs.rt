@@ -1,3 +1,4 @@
+use crate::caller::show_task;
 use crate::fixtures::ShortEvent::{
     Add, CopyMessages, CopyNew, Drop, DropRoot, Hide, Init, Quit, Say, Set, Show, Snapshot,
 };
@@ -196,6 +197,14 @@ fn assert_runs(
     let mut screen = MemoryScreen::new(alloc, 0)?;
     assert_eq!(rt; run(alloc, options, &events, &mut screen)?, replies);
     assert_eq!(rt; screen.bytes(), bytes.as_slice());
+    Ok(())
+}
+
+#[test]
+fn the_caller_shows_a_task(rt: HostRuntime) -> Result<(), Fail> {
+    let mut screen = MemoryScreen::new(rt.alloc(), 0)?;
+    show_task(rt.alloc(), &mut screen)?;
+    assert_eq!(rt; screen.bytes(), TASK_FRAME.as_bytes());
     Ok(())
 }
 

@@ -1,4 +1,3 @@
-use crate::caller::show_task;
 use crate::fixtures::Ask::{Quit, Show};
 use crate::fixtures::{Ask, FakeScreen, TASK_FRAME, draw, renderer};
 use prodash::Refusal;
@@ -19,14 +18,6 @@ fn memory_screen_takes_all_bytes(rt: HostRuntime) -> Result<(), Fail> {
     }
     let endless = MemoryScreen::new(rt.alloc(), usize::MAX);
     assert_eq!(rt; endless.err(), Some(Refusal::Memory));
-    Ok(())
-}
-
-#[test]
-fn shows_a_task(rt: HostRuntime) -> Result<(), Fail> {
-    let mut screen = MemoryScreen::new(rt.alloc(), 0)?;
-    show_task(rt.alloc(), &mut screen)?;
-    assert_eq!(rt; screen.bytes(), TASK_FRAME.as_bytes());
     Ok(())
 }
 

@@ -1,5 +1,6 @@
 use crate::fixtures::{
-    Progress, ShortReply, assert_ascending, assert_distinct, key_at, message, reply, row, rows,
+    Progress, ShortReply, assert_ascending, assert_distinct, key_at, message, messages, reply, row,
+    rows,
 };
 use prodash::messages::{Message, MessageCopyState, MessageLevel};
 use prodash::progress::{Id, Row, State, UNKNOWN, Value};
@@ -197,7 +198,7 @@ fn texts_keep_their_bytes(rt: HostRuntime) -> Result<(), Fail> {
 }
 
 #[test]
-fn rows_keep_their_list(rt: HostRuntime) -> Result<(), Fail> {
+fn rows_and_messages_keep_their_lists(rt: HostRuntime) -> Result<(), Fail> {
     let snapshot = rows(
         rt.alloc(),
         &[(&[1], "a", Some((3, Some(10)))), (&[2], "b", None)],
@@ -207,6 +208,12 @@ fn rows_keep_their_list(rt: HostRuntime) -> Result<(), Fail> {
     assert_eq!(rt; list.len(), 2);
     assert_eq!(rt; list[0].name.as_str(), "a");
     assert_eq!(rt; list[1].name.as_str(), "b");
+    let copy = messages(rt.alloc(), &[("a", "x"), ("b", "y")])?;
+    assert_eq!(rt; copy.as_slice().len(), 2);
+    let list = copy.into_vec();
+    assert_eq!(rt; list.len(), 2);
+    assert_eq!(rt; list[0].message.as_str(), "x");
+    assert_eq!(rt; list[1].message.as_str(), "y");
     Ok(())
 }
 
