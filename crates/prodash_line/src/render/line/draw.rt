@@ -90,8 +90,8 @@ fn tick<S: Screen>(
     seen: (Rows, Messages, MessageCopyState),
 ) -> Result<Answer, Refusal>
     requires { state.old.ended ≡ None }
-    ensures { Renders state.old (Input.Tick at show (Some seen)) (S.state screen.old) result state.new
-        (S.state screen.new) }
+    ensures { Renders state.old (Input.Tick at show (Some seen)) (S.state screen.old) result
+        state.new (S.state screen.new) }
 {
     let (rows, messages, copy_state) = seen;
     let frame = compose(

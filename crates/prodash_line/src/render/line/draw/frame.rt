@@ -44,7 +44,8 @@ pub(crate) fn compose(
         frame.midpoint ≡ (next past.now input).midpoint) }
     ensures origin_widths { IfOk result
         (λ frame. let height = past.now.options.terminal_dimensions.1 in
-        frame.origin_widths.items ≡ latest_origin_widths height past.now.origin_widths messages.now) }
+        frame.origin_widths.items
+        ≡ latest_origin_widths height past.now.origin_widths messages.now) }
 {
     let (width, height) = past.options.terminal_dimensions;
     out.clear();

@@ -67,7 +67,8 @@ impl Screen for MemoryScreen {
         ensures err { OnErr result (TakesPrefix bytes.now self.old.bytes self.new.bytes) }
         ensures reason { IfErr result (λ e. e ≡ Refusal.Broken) }
         ensures exact { is_err result ≡ self.new.broken }
-        ensures stays { IsTrue self.old.broken → IsTrue self.new.broken × (self.new.bytes ≡ self.old.bytes) }
+        ensures stays { IsTrue self.old.broken
+            → IsTrue self.new.broken × (self.new.bytes ≡ self.old.bytes) }
         ensures room { self.new.room ≡ self.old.room }
 
         // It takes all bytes, unless it breaks.

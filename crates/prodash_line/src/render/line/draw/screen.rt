@@ -49,7 +49,8 @@ pub trait Screen {
             (λ n. (n ≤ length bytes.now)
             × ((state self.new).bytes ≡ (state self.old).bytes ++ take n bytes.now)) }
         ensures some { IfOk result (λ n. 0 < length bytes.now → 0 < n) }
-        ensures err { OnErr result (TakesPrefix bytes.now (state self.old).bytes (state self.new).bytes) }
+        ensures err { OnErr result
+            (TakesPrefix bytes.now (state self.old).bytes (state self.new).bytes) }
         ensures reason { IfErr result (λ e. e ≡ Refusal.Broken) }
         ensures exact { is_err result ≡ (state self.new).broken }
         ensures stays { IsTrue (state self.old).broken
