@@ -8,7 +8,7 @@ use Rattle.prodash_base.specs.declared.messages.Message.{Message}
 use Rattle.prodash_line.specs.declared.render.line.page.sign.Sign.TheVariants.{LineFeed}
 use Rattle.prodash_line.specs.Signs.{spelling}
 use Rattle.prodash_line.specs.Lines.{Line, spaces, columns_of}
-use Rattle.prodash_line.specs.Frames.{Body, Unchanged, Draws, Frame, line_signs, piece_signs, overwrite_line, first_width, overwrite, cursor_up, redraw, body_signs, frame_signs, widths_of, widths_after}
+use Rattle.prodash_line.specs.Frames.{Body, Unchanged, Draws, Frame, line_signs, piece_signs, overwrite_line, first_width, overwrite, cursor_up, redraw, body_signs, frame_signs, widths_after}
 use Rattle.prodash_line.specs.ProgressRows.{row_lines}
 use Rattle.prodash_line.specs.MessageLines.{message_line, message_lines, origin_width, widths_of_origins, greatest_width}
 use Rattle.prodash_line.specs.Renderer.{Renderer, is_drawn, tick_frame}

@@ -22,8 +22,8 @@ use prodash_base::progress::Rows;
 use prodash_base::time::Moment;
 pub use screen::Screen;
 use screen::write_frame;
-pub use state::State;
 use state::Past;
+pub use state::State;
 use std::alloc::Global;
 
 /// Draws the frame of an input: composes it, writes all its bytes to the screen and flushes them.
@@ -90,13 +90,19 @@ fn tick<S: Screen>(
     seen: (Rows, Messages, MessageCopyState),
 ) -> Result<Answer, Refusal>
     requires { state.old.ended ≡ None }
-    ensures {
-        Renders state.old (Input.Tick at show (Some seen)) (S.state screen.old) result state.new
-        (S.state screen.new)
-    }
+    ensures { Renders state.old (Input.Tick at show (Some seen)) (S.state screen.old) result
+        state.new (S.state screen.new) }
 {
     let (rows, messages, copy_state) = seen;
-    let frame = compose(alloc, &mut state.frame, &state.past, at, show, &rows, &messages)?;
+    let frame = compose(
+        alloc,
+        &mut state.frame,
+        &state.past,
+        at,
+        show,
+        &rows,
+        &messages,
+    )?;
     send(screen, &mut state.past, state.frame.bytes())?;
     state.past.remember(frame, rows, copy_state);
     Ok(Answer::Drawn)
@@ -105,16 +111,12 @@ fn tick<S: Screen>(
 /// Draws the closing frame.
 fn close<S: Screen>(screen: &mut S, state: &mut State) -> Result<Answer, Refusal>
     requires { state.old.ended ≡ None }
-    ensures quit {
-        (at : ℕ)
+    ensures quit { (at : ℕ)
         → Renders state.old (Input.Quit at) (S.state screen.old) result state.new
-        (S.state screen.new)
-    }
-    ensures without_root {
-        (at : ℕ) (show : Bool)
+        (S.state screen.new) }
+    ensures without_root { (at : ℕ) (show : Bool)
         → Renders state.old (Input.Tick at show None) (S.state screen.old) result state.new
-        (S.state screen.new)
-    }
+        (S.state screen.new) }
 {
     compose_closing(&mut state.frame, &state.past.widths)?;
     send(screen, &mut state.past, state.frame.bytes())?;
@@ -124,15 +126,11 @@ fn close<S: Screen>(screen: &mut S, state: &mut State) -> Result<Answer, Refusal
 
 /// Writes the bytes of a frame to the screen. If the screen breaks, so does the renderer.
 fn send<S: Screen>(screen: &mut S, past: &mut Past, frame: &[u8]) -> Result<(), Refusal>
-    ensures ok {
-        OnOk result
-        ((past.new ≡ past.old) × WritesFrame frame.now (S.state screen.old) (S.state screen.new))
-    }
-    ensures err {
-        OnErr result
+    ensures ok { OnOk result
+        ((past.new ≡ past.old) × WritesFrame frame.now (S.state screen.old) (S.state screen.new)) }
+    ensures err { OnErr result
         ((past.new ≡ record past.old { ended = Some Refusal.Broken })
-        × BreaksDuring frame.now (S.state screen.old) (S.state screen.new))
-    }
+        × BreaksDuring frame.now (S.state screen.old) (S.state screen.new)) }
     ensures reason { IfErr result (λ e. e ≡ Refusal.Broken) }
 {
     let written = write_frame(screen, frame);

@@ -31,28 +31,21 @@ pub(crate) fn compose(
     rows: &Rows,
     messages: &Messages,
 ) -> Result<Composed, AllocError>
-    ensures bytes {
-        OnOk result
+    ensures bytes { OnOk result
         (let frame = tick_frame past.now at show rows.now messages.now in
-        out.new.bytes.items ≡ spelling (frame_signs past.now.widths frame))
-    }
-    ensures widths {
-        IfOk result
+        out.new.bytes.items ≡ spelling (frame_signs past.now.widths frame)) }
+    ensures widths { IfOk result
         (λ frame. (pushed : ℕ) →
         let input = inputs.Tick at show (Some (rows.now, messages.now, pushed)) in
-        frame.widths.items ≡ (next past.now input).widths)
-    }
-    ensures midpoint {
-        IfOk result
+        frame.widths.items ≡ (next past.now input).widths) }
+    ensures midpoint { IfOk result
         (λ frame. (pushed : ℕ) →
         let input = inputs.Tick at show (Some (rows.now, messages.now, pushed)) in
-        frame.midpoint ≡ (next past.now input).midpoint)
-    }
-    ensures origin_widths {
-        IfOk result
+        frame.midpoint ≡ (next past.now input).midpoint) }
+    ensures origin_widths { IfOk result
         (λ frame. let height = past.now.options.terminal_dimensions.1 in
-        frame.origin_widths.items ≡ latest_origin_widths height past.now.origin_widths messages.now)
-    }
+        frame.origin_widths.items
+        ≡ latest_origin_widths height past.now.origin_widths messages.now) }
 {
     let (width, height) = past.options.terminal_dimensions;
     out.clear();
@@ -105,15 +98,11 @@ fn write_messages(
     widths: &[u16],
     messages: &[Message],
 ) -> Result<(), AllocError>
-    ensures bytes {
-        OnOk result
+    ensures bytes { OnOk result
         (let lines = message_lines origin_widths.old.items messages.now in
-        out.new.bytes.items ≡ out.old.bytes.items ++ overwrite_bytes widths.now lines)
-    }
-    ensures origins {
-        OnOk result
-        (origin_widths.new.items ≡ origin_widths.old.items ++ widths_of_origins messages.now)
-    }
+        out.new.bytes.items ≡ out.old.bytes.items ++ overwrite_bytes widths.now lines) }
+    ensures origins { OnOk result
+        (origin_widths.new.items ≡ origin_widths.old.items ++ widths_of_origins messages.now) }
 {
     let mut left = widths;
     let mut greatest = greatest_of(origin_widths);
@@ -148,16 +137,12 @@ fn redraw_rows(
     midpoint: u16,
     rows: &[Row],
 ) -> Result<u16, AllocError>
-    ensures bytes {
-        OnOk result
+    ensures bytes { OnOk result
         (let lines = row_lines width midpoint (rows_of rows.now) in
-        out.new.bytes.items ≡ out.old.bytes.items ++ spelling (redraw widths.now lines))
-    }
-    ensures widths {
-        OnOk result
+        out.new.bytes.items ≡ out.old.bytes.items ++ spelling (redraw widths.now lines)) }
+    ensures widths { OnOk result
         (let lines = row_lines width midpoint (rows_of rows.now) in
-        new_widths.new.items ≡ new_widths.old.items ++ widths_of lines)
-    }
+        new_widths.new.items ≡ new_widths.old.items ++ widths_of lines) }
     ensures midpoint { IfOk result (λ n. n ≡ greatest_midpoint (rows_of rows.now)) }
 {
     let greatest = write_rows(out, new_widths, widths, width, midpoint, rows)?;
@@ -175,16 +160,12 @@ fn write_rows(
     midpoint: u16,
     rows: &[Row],
 ) -> Result<u16, AllocError>
-    ensures bytes {
-        OnOk result
+    ensures bytes { OnOk result
         (let lines = row_lines width midpoint (rows_of rows.now) in
-        out.new.bytes.items ≡ out.old.bytes.items ++ overwrite_bytes widths.now lines)
-    }
-    ensures widths {
-        OnOk result
+        out.new.bytes.items ≡ out.old.bytes.items ++ overwrite_bytes widths.now lines) }
+    ensures widths { OnOk result
         (let lines = row_lines width midpoint (rows_of rows.now) in
-        new_widths.new.items ≡ new_widths.old.items ++ widths_of lines)
-    }
+        new_widths.new.items ≡ new_widths.old.items ++ widths_of lines) }
     ensures midpoint { IfOk result (λ n. n ≡ greatest_midpoint (rows_of rows.now)) }
 {
     let mut left = widths;
@@ -201,12 +182,10 @@ fn write_rows(
 /// Writes blanks over the lines on screen below the first `drawn` rows, and moves the cursor up
 /// from below all rows to the first.
 fn finish_redraw(out: &mut LineWriter, widths: &[u16], drawn: usize) -> Result<(), AllocError>
-    ensures {
-        OnOk result
+    ensures { OnOk result
         ((before : List ℕ) (lines : List Line) → length lines ≡ drawn
         → out.old.bytes.items ≡ before ++ overwrite_bytes widths.now lines
-        → out.new.bytes.items ≡ before ++ spelling (redraw widths.now lines))
-    }
+        → out.new.bytes.items ≡ before ++ spelling (redraw widths.now lines)) }
 {
     write_blanks(out, below(widths, drawn))?;
     push_up(out, drawn.max(widths.len()))?;

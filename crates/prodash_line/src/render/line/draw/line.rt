@@ -71,10 +71,8 @@ impl LineWriter {
         width: u16,
     ) -> Result<(), AllocError>
         requires { width ≡ columns_of (piece (chars text.now) ∷ []) }
-        ensures {
-            OnOk result
-            (Appends self.old (piece (replicate padding 32 ++ chars text.now) ∷ []) self.new)
-        }
+        ensures { OnOk result
+            (Appends self.old (piece (replicate padding 32 ++ chars text.now) ∷ []) self.new) }
     {
         push_copies(&mut self.bytes, b' ', padding)?;
         self.bytes.extend_from_slice(text.as_bytes())?;
@@ -89,7 +87,9 @@ impl LineWriter {
         ensures { OnOk result (Appends self.old (piece text.now ∷ []) self.new) }
     {
         self.bytes.extend_from_slice(text)?;
-        self.width = self.width.saturating_add(text.len().min(usize::from(u16::MAX)) as u16);
+        self.width = self
+            .width
+            .saturating_add(text.len().min(usize::from(u16::MAX)) as u16);
         Ok(())
     }
 
@@ -115,16 +115,12 @@ impl LineWriter {
     /// as that one reached, then a line feed. Returns the width of the line. It fails if it is out
     /// of memory.
     pub(crate) fn end_over(&mut self, width: u16) -> Result<u16, AllocError>
-        ensures bytes {
-            OnOk result
+        ensures bytes { OnOk result
             ((before : LineWriter) (line : Line) → Begun before line self.old
-            → Overwrites before width line self.new)
-        }
-        ensures width {
-            IfOk result
+            → Overwrites before width line self.new) }
+        ensures width { IfOk result
             (λ n. (before : LineWriter) (line : Line) → Begun before line self.old
-            → n ≡ columns_of line)
-        }
+            → n ≡ columns_of line) }
     {
         push_copies(&mut self.bytes, b' ', width.saturating_sub(self.width))?;
         self.bytes.push(b'\n')?;

@@ -61,27 +61,22 @@ impl Screen for MemoryScreen {
     ghost state = { λ s. record { bytes = s.bytes; flushed = s.bytes; broken = s.broken } };
 
     fn put(&mut self, bytes: &[u8]) -> Result<usize, Refusal>
-        ensures ok {
-            IfOk result
-            (λ n. (n ≤ length bytes.now) × (self.new.bytes ≡ self.old.bytes ++ take n bytes.now))
-        }
+        ensures ok { IfOk result
+            (λ n. (n ≤ length bytes.now) × (self.new.bytes ≡ self.old.bytes ++ take n bytes.now)) }
         ensures some { IfOk result (λ n. 0 < length bytes.now → 0 < n) }
         ensures err { OnErr result (TakesPrefix bytes.now self.old.bytes self.new.bytes) }
         ensures reason { IfErr result (λ e. e ≡ Refusal.Broken) }
         ensures exact { is_err result ≡ self.new.broken }
-        ensures stays {
-            IsTrue self.old.broken → IsTrue self.new.broken × (self.new.bytes ≡ self.old.bytes)
-        }
+        ensures stays { IsTrue self.old.broken
+            → IsTrue self.new.broken × (self.new.bytes ≡ self.old.bytes) }
         ensures room { self.new.room ≡ self.old.room }
 
         // It takes all bytes, unless it breaks.
         ensures whole { IfOk result (λ n. n ≡ length bytes.now) }
 
         // It doesn't break while the bytes fit its room.
-        ensures fits {
-            length self.old.bytes + length bytes.now ≤ self.old.room
-            → self.new.broken ≡ self.old.broken
-        }
+        ensures fits { length self.old.bytes + length bytes.now ≤ self.old.room
+            → self.new.broken ≡ self.old.broken }
     {
         if self.broken || self.bytes.extend_from_slice(bytes).is_err() {
             self.broken = true;

@@ -39,15 +39,19 @@ pub(crate) fn push_row(
     out.push_printable(step.as_bytes())?;
     out.push_printable(slash.as_bytes())?;
     out.push_printable(bound.as_bytes())?;
-    push_bar(out, width.saturating_sub(out.width()), value.step, value.done_at)?;
+    push_bar(
+        out,
+        width.saturating_sub(out.width()),
+        value.step,
+        value.done_at,
+    )?;
     Ok(own)
 }
 
 /// Returns what follows the digits of a step: a slash and the digits of the bound, if there is one.
 fn format_bound(digits: &mut Buffer, done_at: Option<Step>) -> (&'static str, &str)
-    ensures text {
-        (step : ℕ) → fraction_of step done_at ≡ decimal step ++ (result.0.now ++ result.1.now)
-    }
+    ensures text { (step : ℕ)
+        → fraction_of step done_at ≡ decimal step ++ (result.0.now ++ result.1.now) }
     ensures slash { is_printable result.0.now ≡ true }
     ensures bound { is_printable result.1.now ≡ true }
     ensures short { length result.0.now + length result.1.now ≤ 41 }

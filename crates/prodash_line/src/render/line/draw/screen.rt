@@ -45,21 +45,16 @@ pub trait Screen {
     /// `Broken`: the screen is broken. It has taken a prefix of the bytes, and none of them if it
     /// was broken before.
     fn put(&mut self, bytes: &[u8]) -> Result<usize, Refusal>
-        ensures ok {
-            IfOk result
+        ensures ok { IfOk result
             (λ n. (n ≤ length bytes.now)
-            × ((state self.new).bytes ≡ (state self.old).bytes ++ take n bytes.now))
-        }
+            × ((state self.new).bytes ≡ (state self.old).bytes ++ take n bytes.now)) }
         ensures some { IfOk result (λ n. 0 < length bytes.now → 0 < n) }
-        ensures err {
-            OnErr result (TakesPrefix bytes.now (state self.old).bytes (state self.new).bytes)
-        }
+        ensures err { OnErr result
+            (TakesPrefix bytes.now (state self.old).bytes (state self.new).bytes) }
         ensures reason { IfErr result (λ e. e ≡ Refusal.Broken) }
         ensures exact { is_err result ≡ (state self.new).broken }
-        ensures stays {
-            IsTrue (state self.old).broken
-            → IsTrue (state self.new).broken × ((state self.new).bytes ≡ (state self.old).bytes)
-        };
+        ensures stays { IsTrue (state self.old).broken
+            → IsTrue (state self.new).broken × ((state self.new).bytes ≡ (state self.old).bytes) };
 
     /// Flushes all bytes taken so far.
     ///

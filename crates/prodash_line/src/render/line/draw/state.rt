@@ -13,7 +13,7 @@ use std::marker::Model;
 /// What the renderer keeps from frame to frame. Contracts see a `Renderer`.
 ///
 /// ```rust
-/// let mut state = State::new(
+/// let state = State::new(
 ///     alloc,
 ///     Options {
 ///         terminal_dimensions: (80, 20),
@@ -132,9 +132,8 @@ impl State {
     /// the screen broke during a frame; or none if the next frame is drawn.
     pub fn ended(&self) -> Option<Refusal>
         ensures value { result ≡ self.now.ended }
-        ensures reason {
-            IfSome result (λ refusal. (refusal ≡ Refusal.Closed) ⊎ (refusal ≡ Refusal.Broken))
-        }
+        ensures reason { IfSome result
+            (λ refusal. (refusal ≡ Refusal.Closed) ⊎ (refusal ≡ Refusal.Broken)) }
     {
         self.past.ended()
     }
@@ -159,9 +158,8 @@ impl Past {
     /// Returns the refusal of every further frame, if there is one.
     fn ended(&self) -> Option<Refusal>
         ensures value { result ≡ self.now.ended }
-        ensures reason {
-            IfSome result (λ refusal. (refusal ≡ Refusal.Closed) ⊎ (refusal ≡ Refusal.Broken))
-        }
+        ensures reason { IfSome result
+            (λ refusal. (refusal ≡ Refusal.Closed) ⊎ (refusal ≡ Refusal.Broken)) }
     {
         self.ending.map(Ending::refusal)
     }
@@ -179,15 +177,13 @@ impl Past {
 
     /// Keeps what a frame has left that is written, and what its tick saw of the tree.
     pub(crate) fn remember(&mut self, frame: Composed, rows: Rows, seen: MessageCopyState)
-        ensures {
-            self.new ≡ record self.old {
-              widths = frame.widths.items;
-              midpoint = frame.midpoint;
-              last_rows = Some rows;
-              origin_widths = frame.origin_widths.items;
-              seen = Some seen;
-            }
-        }
+        ensures { self.new ≡ record self.old {
+          widths = frame.widths.items;
+          midpoint = frame.midpoint;
+          last_rows = Some rows;
+          origin_widths = frame.origin_widths.items;
+          seen = Some seen;
+        } }
     {
         self.widths = frame.widths;
         self.last_progress_midpoint = frame.midpoint;
