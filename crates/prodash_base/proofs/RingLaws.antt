@@ -4,7 +4,7 @@ use Rattle.std.specs.Prelude.{fold}
 use Rattle.std.proofs.lemmas.List.{append-nil, drop-drop, drop-append-le, drop_at}
 use Rattle.std.proofs.lemmas.Grind.{common_steps}
 use Rattle.circular_buffer.specs.Buffer.{keep_last}
-use Rattle.prodash_base.specs.Rings.{empty_ring, push, copied, kept_of, ring_of, new_since}
+use Rattle.prodash_base.specs.Rings.{new_ring, push, messages_since, latest_messages, ring_of, new_since}
 use Rattle.prodash_base.specs.declared.messages.Message.{Message}
 
 -- with a further one at the end
@@ -22,7 +22,7 @@ pub push-ring_of : (capacity : ℕ) (all : List Message) (m : Message) → push 
 push-ring_of capacity all m =
     let kept = keep_last-push capacity all m in
     let pushed : length all + 1 ≡ length (all ++ m ∷ []) = sym (length-append all (m ∷ [])) in
-    λ i. record { capacity = capacity; kept = kept i; pushed = pushed i }
+    λ i. record { capacity = capacity; messages = kept i; pushed = pushed i }
 
 -- after further pushes
 fold-push-ring_of : (capacity : ℕ) (before after : List Message) → fold push (ring_of capacity before) after ≡ ring_of capacity (before ++ after)
@@ -32,15 +32,15 @@ fold-push-ring_of capacity before (m ∷ after) =
     ∙ ap (ring_of capacity) (append_assoc before (m ∷ []) after)
 
 -- after all pushes
-pub fold-push : (capacity : ℕ) (all : List Message) → fold push (empty_ring capacity) all ≡ ring_of capacity all
+pub fold-push : (capacity : ℕ) (all : List Message) → fold push (new_ring capacity) all ≡ ring_of capacity all
 fold-push capacity [] = grind (arith, common_steps)
 fold-push capacity (m ∷ after) =
-    let first : push (empty_ring capacity) m ≡ ring_of capacity (m ∷ []) = grind (arith, common_steps) in
+    let first : push (new_ring capacity) m ≡ ring_of capacity (m ∷ []) = grind (arith, common_steps) in
     ap (λ r. fold push r after) first ∙ fold-push-ring_of capacity (m ∷ []) after
 
 -- the last ones of those that are kept, as many as came later, are what is kept of the later ones
 pub copied-append : (capacity : ℕ) (before after : List Message)
-    → copied (ring_of capacity (before ++ after)) (Some (ring_of capacity before).pushed) ≡ kept_of capacity after
+    → messages_since (ring_of capacity (before ++ after)) (Some (ring_of capacity before).pushed) ≡ latest_messages capacity after
 copied-append capacity before after =
     let all = before ++ after in
     let kept = keep_last capacity all in
@@ -53,7 +53,7 @@ copied-append capacity before after =
     ∙ ap (drop (length after - capacity)) (drop_at before after (length before) refl)
 
 -- so are the last ones of all
-pub new_since-append : (capacity : ℕ) (before after : List Message) → new_since capacity (before ++ after) (length before) ≡ kept_of capacity after
+pub new_since-append : (capacity : ℕ) (before after : List Message) → new_since capacity (before ++ after) (length before) ≡ latest_messages capacity after
 new_since-append capacity before after =
     let all = before ++ after in
     let whole : length all ≡ length before + length after = length-append before after in

@@ -103,5 +103,5 @@ coded_messages = coded_list coded_message
 
 abbrev pub coded_ring : Coded Ring
 coded_ring =
-    code_by (ℕ × (List Message × ℕ)) (coded× coded_ℕ (coded× coded_messages coded_ℕ)) (λ r. (r.capacity, (r.kept, r.pushed)))
-    (λ q. record { capacity = q.0; kept = q.1.0; pushed = q.1.1 }) (λ _. refl)
+    code_by (ℕ × (List Message × ℕ)) (coded× coded_ℕ (coded× coded_messages coded_ℕ)) (λ r. (r.capacity, (r.messages, r.pushed)))
+    (λ q. record { capacity = q.0; messages = q.1.0; pushed = q.1.1 }) (λ _. refl)

@@ -8,6 +8,10 @@ use Rattle.std.specs.Cmp.Lexicographic.{slice_cmp}
 abbrev pub Path : Type 0
 Path = List ℕ
 
+-- how many numbers a child can have
+abbrev pub child_limit : ℕ
+child_limit = 65536
+
 -- as lists are ordered: a proper front first
 abbrev pub path_cmp : Path → Path → Ordering
 path_cmp = slice_cmp nat_cmp
@@ -17,5 +21,5 @@ abbrev pub child : Path → ℕ → Path
 child p n = if nat_lt (length p) 6 then p ++ n ∷ [] else take 5 p ++ n ∷ []
 
 -- both have at least n numbers, and the first n agree
-abbrev pub SharesFront : ℕ → Path → Path → Type 0
-SharesFront n p q = (n ≤ length p) × (n ≤ length q) × (take n p ≡ take n q)
+abbrev pub SharesPrefix : ℕ → Path → Path → Type 0
+SharesPrefix n p q = (n ≤ length p) × (n ≤ length q) × (take n p ≡ take n q)

@@ -6,35 +6,35 @@ use Rattle.prodash_base.specs.declared.messages.Message.{Message}
 -- how many messages a ring keeps at most, those that it keeps, the oldest first, and how many were ever pushed
 pub record Ring : Type 0 where
   pub capacity : ℕ
-  pub kept : List Message
+  pub messages : List Message
   pub pushed : ℕ
 
 -- nothing was pushed yet
-abbrev pub empty_ring : ℕ → Ring
-empty_ring capacity = record { capacity = capacity; kept = []; pushed = 0 }
+abbrev pub new_ring : ℕ → Ring
+new_ring capacity = record { capacity = capacity; messages = []; pushed = 0 }
 
 -- were as many pushed as can be counted?
-abbrev pub counts_no_more : Ring → Bool
-counts_no_more r = nat_eq r.pushed (2 ^ 64 - 1)
+abbrev pub is_push_limit_reached : Ring → Bool
+is_push_limit_reached r = nat_eq r.pushed (2 ^ 64 - 1)
 
 -- the message is the latest, and is counted; the oldest is let go where there is no place left
 abbrev pub push : Ring → Message → Ring
-push r m = record { capacity = r.capacity; kept = keep_last r.capacity (r.kept ++ m ∷ []); pushed = r.pushed + 1 }
+push r m = record { capacity = r.capacity; messages = keep_last r.capacity (r.messages ++ m ∷ []); pushed = r.pushed + 1 }
 
 -- What a copy gives: without a state all that is kept; with one, which is how many pushes were seen, what is kept of the later ones.
 -- That is nothing where none is later.
-abbrev pub copied : Ring → Option ℕ → List Message
-copied r None = r.kept
-copied r (Some seen) = keep_last (r.pushed - seen) r.kept
+abbrev pub messages_since : Ring → Option ℕ → List Message
+messages_since r None = r.messages
+messages_since r (Some seen) = keep_last (r.pushed - seen) r.messages
 
 -- The same of the list of all messages that were ever pushed, the first one first. Kept are the last ones, at most as many as there
 -- are places.
-abbrev pub kept_of : ℕ → List Message → List Message
-kept_of capacity all = keep_last capacity all
+abbrev pub latest_messages : ℕ → List Message → List Message
+latest_messages capacity all = keep_last capacity all
 
 -- the ring after these pushes
 abbrev pub ring_of : ℕ → List Message → Ring
-ring_of capacity all = record { capacity = capacity; kept = kept_of capacity all; pushed = length all }
+ring_of capacity all = record { capacity = capacity; messages = latest_messages capacity all; pushed = length all }
 
 -- The last ones, at most as many as there are places, and at most as many as were pushed after those that were seen. That is nothing
 -- where none was pushed after them.

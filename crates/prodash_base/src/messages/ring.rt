@@ -1,7 +1,7 @@
 ghost use Rattle.std.specs.Prelude.{◌≡◌, ℕ, ◌+◌, ◌^◌, ◌<◌, ◌⊎◌, ◌↔◌, min, List, [], ◌∷◌, ◌++◌, length, drop, fold, Some, OnOk, OnErr, IfOk, IfErr};
 ghost use Rattle.prodash_base.specs.declared.messages.Message.{Message};
 ghost use Rattle.prodash_base.specs.Messages.{message_of};
-ghost use Rattle.prodash_base.specs.Rings.{empty_ring, push, copied, kept_of, ring_of, new_since};
+ghost use Rattle.prodash_base.specs.Rings.{new_ring, push, messages_since, latest_messages, ring_of, new_since};
 
 use crate::messages::{Message, MessageLevel};
 use crate::refusal::Refusal;
@@ -61,7 +61,7 @@ impl Model for MessageRingBuffer {
 
     ghost coded = { coded_ring };
 
-    ghost view = { λ b. record { capacity = b.ring.capacity; kept = b.ring.items; pushed = b.pushed } };
+    ghost view = { λ b. record { capacity = b.ring.capacity; messages = b.ring.items; pushed = b.pushed } };
 
     ghost invariant = { λ b. length b.ring.items ≡ min b.ring.capacity b.pushed };
 }
@@ -69,7 +69,7 @@ impl Model for MessageRingBuffer {
 impl MessageRingBuffer {
     /// An empty ring of this capacity.
     pub fn with_capacity(alloc: Global, capacity: usize) -> Result<MessageRingBuffer, Refusal>
-        ensures ok { IfOk result (λ ring. ring ≡ empty_ring capacity) }
+        ensures ok { IfOk result (λ ring. ring ≡ new_ring capacity) }
         ensures err { IfErr result (λ e. e ≡ Refusal.Memory) }
     {
         let ring = HeapCircularBuffer::with_capacity(alloc, capacity)?;
@@ -87,7 +87,7 @@ impl MessageRingBuffer {
     /// How many messages were pushed, kept or not.
     pub fn pushed(&self) -> u64
         ensures value { result ≡ self.now.pushed }
-        ensures kept { length self.now.kept ≡ min self.now.capacity result }
+        ensures kept { length self.now.messages ≡ min self.now.capacity result }
     {
         self.pushed
     }
@@ -123,7 +123,7 @@ impl MessageRingBuffer {
 
     /// Replaces the list by all messages that are kept, the oldest first.
     pub fn copy_all(&self, alloc: Global, out: &mut Vec<Message>) -> Result<(), Refusal>
-        ensures ok { OnOk result (out.new.items ≡ self.now.kept) }
+        ensures ok { OnOk result (out.new.items ≡ self.now.messages) }
         ensures reason { IfErr result (λ e. e ≡ Refusal.Memory) }
         ensures err { OnErr result (out.new.items ≡ out.old.items) }
     {
@@ -141,7 +141,7 @@ impl MessageRingBuffer {
         previous: Option<MessageCopyState>,
     ) -> Result<MessageCopyState, Refusal>
         ensures state { IfOk result (λ state. state ≡ self.now.pushed) }
-        ensures ok { OnOk result (out.new.items ≡ copied self.now previous) }
+        ensures ok { OnOk result (out.new.items ≡ messages_since self.now previous) }
         ensures reason { IfErr result (λ e. e ≡ Refusal.Memory) }
         ensures err { OnErr result (out.new.items ≡ out.old.items) }
     {
@@ -175,23 +175,23 @@ pub fn rings_keep_the_last()
     ensures next { (capacity : ℕ) (all : List Message) (m : Message)
         → push (ring_of capacity all) m ≡ ring_of capacity (all ++ m ∷ []) }
     ensures all { (capacity : ℕ) (all : List Message)
-        → fold push (empty_ring capacity) all ≡ ring_of capacity all }
+        → fold push (new_ring capacity) all ≡ ring_of capacity all }
 {}
 
 /// A law: a copy gives what is new since its state, as far as it is kept; that is the last of what
 /// came after the pushes that were seen.
 pub fn copies_give_what_is_new()
     ensures new { (capacity seen : ℕ) (all : List Message)
-        → copied (ring_of capacity all) (Some seen) ≡ new_since capacity all seen }
+        → messages_since (ring_of capacity all) (Some seen) ≡ new_since capacity all seen }
     ensures last { (capacity seen : ℕ) (all : List Message)
-        → new_since capacity all seen ≡ kept_of capacity (drop seen all) }
+        → new_since capacity all seen ≡ latest_messages capacity (drop seen all) }
 {}
 
 /// A law: after further pushes, a copy with the state from before them gives the last of them, and
 /// nothing that was pushed earlier.
 pub fn no_push_is_given_twice()
     ensures copies { (capacity : ℕ) (before after : List Message)
-        → copied (ring_of capacity (before ++ after)) (Some (ring_of capacity before).pushed) ≡ kept_of capacity after }
+        → messages_since (ring_of capacity (before ++ after)) (Some (ring_of capacity before).pushed) ≡ latest_messages capacity after }
     ensures pushes { (capacity : ℕ) (before after : List Message)
-        → new_since capacity (before ++ after) (length before) ≡ kept_of capacity after }
+        → new_since capacity (before ++ after) (length before) ≡ latest_messages capacity after }
 {}

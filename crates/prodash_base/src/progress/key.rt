@@ -4,7 +4,7 @@ ghost use Rattle.std.specs.Cmp.Lexicographic.{pointwise, slice_cmp, nat_list_cmp
 ghost use Rattle.std.specs.Cmp.{partial_equiv_from_equiv};
 ghost use Rattle.std.specs.Cmp.Rules.{comparing};
 ghost use Rattle.std.proofs.Common.{rules};
-ghost use Rattle.prodash_base.specs.Path.{child, SharesFront};
+ghost use Rattle.prodash_base.specs.Path.{child, SharesPrefix};
 ghost use Rattle.prodash_base.specs.KeyHash.{key_alike};
 ghost use Rattle.std.specs.Hash as fed;
 
@@ -79,7 +79,7 @@ impl Key {
 
     /// Whether both keys have at least `parent_level` numbers, and the first that many agree.
     pub fn shares_parent_with(&self, other: &Key, parent_level: Level) -> bool
-        ensures { IsTrue result ↔ SharesFront parent_level self.now other.now }
+        ensures { IsTrue result ↔ SharesPrefix parent_level self.now other.now }
     {
         let front = usize::from(parent_level);
         let (own, others) = (self.numbers(), other.numbers());
