@@ -8,13 +8,13 @@ use Rattle.prodash_base.specs.Rows.{PathRow, same_rows}
 pub below : child (1 ∷ 2 ∷ []) 7 ≡ 1 ∷ 2 ∷ 7 ∷ []
 below = refl
 
--- past the sixth number the last is replaced
-pub past_six : child (1 ∷ 2 ∷ 3 ∷ 4 ∷ 5 ∷ 6 ∷ []) 7 ≡ 1 ∷ 2 ∷ 3 ∷ 4 ∷ 5 ∷ 7 ∷ []
-past_six = refl
+-- a seventh number replaces the sixth
+pub deepest_level : child (1 ∷ 2 ∷ 3 ∷ 4 ∷ 5 ∷ 6 ∷ []) 7 ≡ 1 ∷ 2 ∷ 3 ∷ 4 ∷ 5 ∷ 7 ∷ []
+deepest_level = refl
 
--- a proper front comes first, else the first number that differs decides
-pub front_first : path_cmp (1 ∷ []) (1 ∷ 0 ∷ []) ≡ Less
-front_first = refl
+-- a proper prefix comes first, else the first number that differs decides
+pub prefix_first : path_cmp (1 ∷ []) (1 ∷ 0 ∷ []) ≡ Less
+prefix_first = refl
 
 pub number_first : path_cmp (2 ∷ []) (1 ∷ 9 ∷ []) ≡ Greater
 number_first = refl

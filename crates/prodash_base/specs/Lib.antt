@@ -1,9 +1,6 @@
 pub mod Path
 pub mod Key
-pub mod KeyHash
 pub mod Rows
 pub mod Messages
 pub mod Rings
-pub mod Coding
-pub mod SameRows
-pub mod SameMessages
+pub mod plumbing

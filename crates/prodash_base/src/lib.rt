@@ -1,11 +1,9 @@
-//! Keys, rows, texts, messages, moments and refusals: what all other crates of prodash speak of.
+//! The types that all crates of prodash share: keys, rows, messages, texts, moments and refusals.
 #![tactic(auto)]
 
 pub mod messages;
 pub mod progress;
 mod refusal;
-#[cfg(test)]
-mod tests;
 pub mod text;
 pub mod time;
 

@@ -1,4 +1,4 @@
-//! Messages of tasks, and the ring that keeps the latest.
+//! Messages of tasks, and the ring that keeps the latest of them.
 mod list;
 mod ring;
 
@@ -10,29 +10,26 @@ pub use ring::{
     rings_keep_the_last,
 };
 
-/// How grave a message is.
+/// How severe a message is.
 #[derive(Clone, Copy, Debug, PartialEq, Eq, PartialOrd, Ord)]
 pub enum MessageLevel {
-    /// Something worth knowing about a task, beside how far it has come.
+    /// Information about a task, beyond its progress.
     Info,
-    /// A task has failed. The message says why.
+    /// The task has failed. The message says why.
     Failure,
-    /// A task is done.
+    /// The task has completed.
     Success,
 }
 
-/// What a task had to say.
+/// A message of a task.
 #[derive(Clone, Debug, PartialEq, Eq, Drop)]
 pub struct Message {
-    /// When it was said.
+    /// The moment at which it was sent.
     pub time: Moment,
-    /// How grave it is.
+    /// The severity of the message.
     pub level: MessageLevel,
-    /// The name of the task.
+    /// The name of the task that sent it.
     pub origin: Text,
-    /// What was said.
+    /// The text of the message.
     pub message: Text,
 }
-
-#[cfg(test)]
-mod tests;

@@ -1,4 +1,4 @@
-//! What a task has to show: keys, states, values and rows.
+//! The contents of the tree: keys, states, values and rows.
 ghost use Rattle.std.specs.Prelude.{◌≡◌};
 ghost use Rattle.std.specs.Option.{option_map};
 
@@ -10,59 +10,59 @@ use crate::time::Moment;
 pub use key::{Key, Level};
 pub use rows::Rows;
 
-/// How far a task has come, in its own unit.
+/// The progress of a task, counted in a unit of its own.
 pub type Step = u64;
 
-/// Names an item beside its text. It stays the same from run to run.
+/// An identifier of an item, beside its name. It stays the same from run to run.
 pub type Id = [u8; 4];
 
-/// The identifier of an item that was given none.
+/// The identifier of an item that has none of its own.
 pub const UNKNOWN: Id = [0; 4];
 
-/// What a task is doing.
+/// The state of a task.
 #[derive(Clone, Copy, Debug, Default, PartialEq, Eq, PartialOrd, Ord, Hash)]
 pub enum State {
-    /// It can't go on before something else has happened. The reason, and when it may go on.
+    /// The task can't go on until something else happens. Holds the reason, and the moment at
+    /// which the task is expected to go on, if known.
     Blocked(&'static str, Option<Moment>),
-    /// It can't go on, but may be resumed. The reason, and when it may go on.
+    /// The task has stopped, but may be resumed. Holds the reason, and the moment at which the
+    /// task is expected to go on, if known.
     Halted(&'static str, Option<Moment>),
-    /// It goes on.
+    /// The task is running.
     #[default]
     Running,
 }
 
-/// A frozen progress.
+/// The progress of a task at one moment.
 #[derive(Clone, Debug, Default, PartialEq, Eq, Drop)]
 pub struct Value {
-    /// How far it had come.
+    /// The step that the task has reached.
     pub step: Step,
-    /// Where it is done, if that is known.
+    /// The step at which the task is done, if known.
     pub done_at: Option<Step>,
-    /// What the task was doing.
+    /// The state of the task.
     pub state: State,
 }
 
 impl Value {
-    /// The step and the bound, where there is a bound.
+    /// Returns the step and the step at which the task is done, or `None` if the latter is
+    /// unknown.
     pub fn fraction(&self) -> Option<(Step, Step)>
         ensures { result ≡ option_map (λ bound. (self.now.step, bound)) self.now.done_at }
     {
-        match self.done_at {
-            None => None,
-            Some(done_at) => Some((self.step, done_at)),
-        }
+        self.done_at.map(|done_at| (self.step, done_at))
     }
 }
 
-/// A frozen entry of the tree.
+/// One item of the tree at one moment.
 #[derive(Clone, Debug, PartialEq, Eq, Drop)]
 pub struct Row {
-    /// Where the item stands.
+    /// The place of the item in the tree.
     pub key: Key,
-    /// Its name.
+    /// The name of the item.
     pub name: Text,
-    /// Its identifier.
+    /// The identifier of the item.
     pub id: Id,
-    /// Its progress, if it has one.
+    /// The progress of the item, if it has any.
     pub progress: Option<Value>,
 }

@@ -4,23 +4,23 @@ ghost use Rattle.prodash_base.specs.declared.refusal.Refusal.TheVariants.{Memory
 use std::alloc::{AllocError, AllocFailed};
 use thiserror::Error;
 
-/// Why a call was refused.
+/// The reason why a call was refused.
 #[derive(Clone, Copy, Debug, PartialEq, Eq, Error)]
 pub enum Refusal {
-    /// A growth was refused. Nothing has changed.
+    /// The call ran out of memory. Nothing has changed.
     #[error("no memory")]
     Memory,
-    /// As many messages were pushed as can be counted. Nothing has changed.
+    /// As many messages as a `u64` can count were pushed already. Nothing has changed.
     #[error("too many messages")]
     TooManyMessages,
-    /// The handle that is named or needed doesn't live, or the root is named where an item is
-    /// meant. Nothing has changed.
+    /// A handle is no longer valid, or the root handle was passed in place of an item's handle.
+    /// Nothing has changed.
     #[error("no such handle")]
     Gone,
-    /// A closing frame was written before. Nothing has changed.
+    /// The renderer has already written its closing frame. Nothing has changed.
     #[error("renderer is closed")]
     Closed,
-    /// The screen is broken. The renderer answers so for good.
+    /// The screen is broken. From now on the renderer returns this for every frame.
     #[error("output is broken")]
     Broken,
 }

@@ -1,4 +1,4 @@
-//! Texts, which contracts compare by their bytes.
+//! Texts that contracts can compare.
 ghost use Rattle.std.specs.Prelude.{◌≡◌, ◌++◌, nat_eq, IfOk, OnOk, OnErr, string_bytes};
 ghost use Rattle.std.specs.Cmp.Lexicographic.{pointwise, nat_list_eq_equiv};
 ghost use Rattle.std.specs.Cmp.{partial_equiv_from_equiv};
@@ -6,7 +6,12 @@ ghost use Rattle.std.specs.Cmp.{partial_equiv_from_equiv};
 use std::alloc::{AllocError, Global};
 use std::marker::Model;
 
-/// A text that is kept. Contracts see its bytes.
+/// A text that owns its bytes. Contracts see these bytes.
+///
+/// ```rust
+/// let name = Text::from_str(alloc, "task")?;
+/// assert_eq!(rt; name.as_str(), "task");
+/// ```
 #[derive(Debug, Drop)]
 pub struct Text {
     text: String,
@@ -21,14 +26,14 @@ impl Model for Text {
 }
 
 impl Text {
-    /// The text of a string.
+    /// Returns the text of a string, without a copy.
     pub fn new(text: String) -> Text
         ensures { result ≡ string_bytes text }
     {
         Text { text }
     }
 
-    /// A copy of the text.
+    /// Returns a copy of `text`, or an `AllocError` if out of memory.
     pub fn from_str(alloc: Global, text: &str) -> Result<Text, AllocError>
         ensures { IfOk result (λ t. t ≡ text.now) }
     {
@@ -37,14 +42,14 @@ impl Text {
         })
     }
 
-    /// The text as it can be read.
+    /// Returns the text as a string slice.
     pub fn as_str(&self) -> &str
         ensures { result.now ≡ self.now }
     {
         self.text.as_str()
     }
 
-    /// The text as a string.
+    /// Returns the text as a string, without a copy.
     pub fn into_string(self) -> String
         ensures { string_bytes result ≡ self }
     {

@@ -15,7 +15,7 @@ at columns height above below = record { columns = columns; height = height; row
 abbrev pub inside : ℕ → ℕ → List (List ℕ) → List ℕ → List ℕ → List (List ℕ) → Canvas
 inside columns height above written rest below = record { columns = columns; height = height; rows = above ++ (written ++ rest) ∷ below; row = length above; column = length written }
 
--- signs behind others
+-- signs after others
 pub page_after-append : (xs ys : List Sign) (p : Canvas) → page_after (xs ++ ys) p ≡ page_after ys (page_after xs p)
 page_after-append [] ys p = refl
 page_after-append (x ∷ xs) ys p = page_after-append xs ys (after_sign x p)
@@ -33,7 +33,7 @@ put_inside columns height above written c r rest below =
     ap (λ (rows : List (List ℕ)). record { columns = columns; height = height; rows = rows; row = length above; column = length written + 1 }) e3
     ∙ ap (λ (column : ℕ). record { columns = columns; height = height; rows = above ++ ((written ++ c ∷ []) ++ rest) ∷ below; row = length above; column = column }) (sym (length_push written c))
 
--- a character where the row has room
+-- a character, if the row has room
 pub char_inside : (columns height : ℕ) (above : List (List ℕ)) (written : List ℕ) (c r : ℕ) (rest : List ℕ) (below : List (List ℕ))
     → length written < columns
     → after_sign (Char c) (inside columns height above written (r ∷ rest) below) ≡ inside columns height above (written ++ c ∷ []) rest below
@@ -53,12 +53,12 @@ text_inside columns height above written (c ∷ text) (r ∷ rest) below e fits 
     ∙ text_inside columns height above (written ++ c ∷ []) text rest below (omega (arith, length_push written c)) (omega arith)
     ∙ ap (λ (w : List ℕ). inside columns height above w (drop (length text) rest) below) (append_assoc written (c ∷ []) text)
 
--- a blank row where there is none
+-- the rows, or a blank one if there is none
 abbrev pub some_row : ℕ → List (List ℕ) → List (List ℕ)
 some_row columns [] = replicate columns 32 ∷ []
 some_row columns (row ∷ rows) = row ∷ rows
 
--- the rows with a blank one below the cursor's, where there is none
+-- the rows with one below the cursor's
 pub with_row-below : (columns : ℕ) (above below : List (List ℕ)) (row : List ℕ)
     → with_row columns (length above + 1) (above ++ row ∷ below) ≡ (above ++ row ∷ []) ++ some_row columns below
 with_row-below columns above [] row =

@@ -3,7 +3,7 @@ use Rattle.std.proofs.Common.{ℕ, zero, suc, List, [], ◌∷◌, ◌++◌, dro
 use Rattle.std.specs.Prelude.{replicate}
 use Rattle.std.specs.List.{AllByRecursion}
 
--- of two lists, one behind the other
+-- of two lists, one after the other
 pub AllByRecursion-append : {X : Type 0} (P : X → Type 0) (xs ys : List X) → AllByRecursion P xs → AllByRecursion P ys → AllByRecursion P (xs ++ ys)
 AllByRecursion-append P [] ys h i = i
 AllByRecursion-append P (x ∷ xs) ys h i = (h.0, AllByRecursion-append P xs ys h.1 i)
@@ -13,7 +13,7 @@ pub AllByRecursion-replicate : {X : Type 0} (P : X → Type 0) (n : ℕ) (x : X)
 AllByRecursion-replicate P zero x h = tt
 AllByRecursion-replicate P (suc n) x h = (h, AllByRecursion-replicate P n x h)
 
--- of the elements behind the first k
+-- of the elements after the first k
 pub AllByRecursion-drop : {X : Type 0} (P : X → Type 0) (k : ℕ) (xs : List X) → AllByRecursion P xs → AllByRecursion P (drop k xs)
 AllByRecursion-drop P zero xs h = h
 AllByRecursion-drop P (suc k) [] h = tt

@@ -19,7 +19,7 @@ use Rattle.prodash_line.specs.Reading.{is_parameter, NoSignAt, AreProper}
 abbrev pub candidate : List ℕ → ℕ → Sign
 candidate parameters final_byte = cond (final_byte == 65) (Up (digits_value 10 parameters)) EraseLine
 
--- the sign other than a character that stands at the front, if one does
+-- the sign other than a character that the bytes begin with, if they do
 abbrev pub unspell : List ℕ → Sign
 unspell [] = LineFeed
 unspell (b ∷ bytes) = cond (b == 10) LineFeed (cond (b == 13) CarriageReturn (candidate (take (prefix_len is_parameter (drop 1 bytes)) (drop 1 bytes)) (get_or (drop 1 bytes) (prefix_len is_parameter (drop 1 bytes)) 0)))
@@ -71,13 +71,13 @@ char_other c s x y p o e =
     let same : c ≡ get_or (spelling_of s ++ y) 0 0 = char_from_byte (spelling_of s ++ y) x c (sym e) first.0 first.1 in
     both_ways (is_control c) p (ap is_control same ∙ first.2)
 
--- two signs that are no characters, at the front of the same bytes, are one
+-- bytes begin with at most one sign that is no character
 others_same : (s t : Sign) (x y : List ℕ) → IsProper s → IsProper t → IsOther s → IsOther t → spelling_of s ++ x ≡ spelling_of t ++ y → (s ≡ t) × (x ≡ y)
 others_same s t x y p q o r e =
     let same : s ≡ t = sym (unspell_other s x o p) ∙ ap unspell e ∙ unspell_other t y r q in
     (same, append_cancel_left (spelling_of t) x y (ap (λ (u : Sign). spelling_of u ++ x) (sym same) ∙ e))
 
--- two proper signs at the front of the same bytes are one
+-- bytes begin with at most one proper sign
 pub one_sign : (s t : Sign) (x y : List ℕ) → IsProper s → IsProper t → spelling_of s ++ x ≡ spelling_of t ++ y → (s ≡ t) × (x ≡ y)
 one_sign (Char c) (Char d) x y p q e = let same = encode_same c d x y e in (ap (λ (b : ℕ). Char b) same.0, same.1)
 one_sign (Char c) t x y p q e = absurd (char_other c t x y p.1 tt e)
@@ -99,12 +99,12 @@ one_spelling (s ∷ ss) (t ∷ ts) p q e =
     let rest : ss ≡ ts = one_spelling ss ts p.1 q.1 same.1 in
     ap (λ (u : Sign). u ∷ ss) same.0 ∙ ap (λ (us : List Sign). t ∷ us) rest
 
--- where no sign stands behind some, no longer front is spelled
-pub longest_front : (ss ts : List Sign) (rest y : List ℕ) → AreProper ss → AreProper ts → NoSignAt rest → spelling ss ++ rest ≡ spelling ts ++ y → length (spelling ts) ≤ length (spelling ss)
-longest_front ss [] rest y p q none e = omega arith
-longest_front [] (t ∷ ts) rest y p q none e = absurd (none t (spelling ts ++ y) q.0 (e ∙ append_assoc (spelling_of t) (spelling ts) y))
-longest_front (s ∷ ss) (t ∷ ts) rest y p q none e =
+-- if the rest begins with no sign, signs spell no longer prefix
+pub longest_prefix : (ss ts : List Sign) (rest y : List ℕ) → AreProper ss → AreProper ts → NoSignAt rest → spelling ss ++ rest ≡ spelling ts ++ y → length (spelling ts) ≤ length (spelling ss)
+longest_prefix ss [] rest y p q none e = omega arith
+longest_prefix [] (t ∷ ts) rest y p q none e = absurd (none t (spelling ts ++ y) q.0 (e ∙ append_assoc (spelling_of t) (spelling ts) y))
+longest_prefix (s ∷ ss) (t ∷ ts) rest y p q none e =
     let same = one_sign s t (spelling ss ++ rest) (spelling ts ++ y) p.0 q.0 (sym (append_assoc (spelling_of s) (spelling ss) rest) ∙ e ∙ append_assoc (spelling_of t) (spelling ts) y) in
-    let less : length (spelling ts) ≤ length (spelling ss) = longest_front ss ts rest y p.1 q.1 none same.1 in
+    let less : length (spelling ts) ≤ length (spelling ss) = longest_prefix ss ts rest y p.1 q.1 none same.1 in
     let size : length (spelling_of s) ≡ length (spelling_of t) = ap (λ (u : Sign). length (spelling_of u)) same.0 in
     omega (arith, length-append (spelling_of s) (spelling ss), length-append (spelling_of t) (spelling ts))

@@ -6,10 +6,11 @@ use Rattle.prodash_line.specs.declared.render.line.page.sign.Sign.{Sign}
 use Rattle.prodash_line.specs.declared.render.line.page.sign.Sign.TheVariants.{Char, LineFeed, CarriageReturn, EraseLine}
 use Rattle.prodash_line.specs.Signs.{IsProper}
 use Rattle.prodash_line.specs.Lines.{Line, spaces, columns_of}
-use Rattle.prodash_line.specs.Frames.{piece_signs, line_signs, part, cover, first, up, redraw, widths_of, Body, Frame, body_signs, frame_signs, frame_leaves, signs_of}
+use Rattle.prodash_line.specs.Frames.{piece_signs, line_signs, overwrite_line, overwrite, first_width, cursor_up, redraw, widths_of, Body, Frame, body_signs, frame_signs, lines_after, signs_of}
 use Rattle.prodash_line.specs.Reading.{AreProper}
-use Rattle.prodash_line.specs.Fits.{IsPlainChar, IsPlainPiece, LineFits, LinesFit, IsEnding, BodyFits, FrameFits}
+use Rattle.prodash_line.specs.Fits.{IsPlainChar, IsPlainPiece, LineFits, LinesFit, BodyFits, FrameFits}
 use Rattle.prodash_line.proofs.Lists.{AllByRecursion-append, AllByRecursion-replicate, AllByRecursion-map}
+use Rattle.prodash_line.proofs.OrderlyFrames.{IsOpening, IsEnding, EndsOrderly, IsOrderly}
 use Rattle.prodash_line.proofs.FramesOnPage.{LineFits-empty}
 
 -- of proper characters
@@ -26,45 +27,51 @@ line_proper (p ∷ ps) h = AllByRecursion-append IsProper (piece_signs p) (line_
 pub spaces_proper : (n : ℕ) → AreProper (piece_signs (spaces n))
 spaces_proper n = chars_proper (replicate n 32) (AllByRecursion-replicate (λ c. IsProper (Char c)) n 32 (refl, refl))
 
--- of a line over the columns that stood in its row
-pub part_proper : (columns stood : ℕ) (line : Line) → LineFits columns line → AreProper (part stood line)
-part_proper columns stood line h = AllByRecursion-append IsProper (line_signs line) _ (line_proper line h.plain.pieces)
-    (AllByRecursion-append IsProper (piece_signs (spaces (stood - columns_of line))) (LineFeed ∷ []) (spaces_proper (stood - columns_of line)) (tt, tt))
+-- of a line over another one
+pub overwrite_line_proper : (columns width : ℕ) (line : Line) → LineFits columns line → AreProper (overwrite_line width line)
+overwrite_line_proper columns width line h = AllByRecursion-append IsProper (line_signs line) _ (line_proper line h.plain.pieces)
+    (AllByRecursion-append IsProper (piece_signs (spaces (width - columns_of line))) (LineFeed ∷ []) (spaces_proper (width - columns_of line)) (tt, tt))
 
 -- of lines
-pub cover_proper : (columns : ℕ) (widths : List ℕ) (lines : List Line) → LinesFit columns lines → AreProper (cover widths lines)
-cover_proper columns widths [] h = tt
-cover_proper columns widths (l ∷ ls) h = AllByRecursion-append IsProper (part (first widths) l) (cover (drop 1 widths) ls) (part_proper columns (first widths) l h.0) (cover_proper columns (drop 1 widths) ls h.1)
+pub overwrite_proper : (columns : ℕ) (widths : List ℕ) (lines : List Line) → LinesFit columns lines → AreProper (overwrite widths lines)
+overwrite_proper columns widths [] h = tt
+overwrite_proper columns widths (l ∷ ls) h = AllByRecursion-append IsProper (overwrite_line (first_width widths) l) (overwrite (drop 1 widths) ls) (overwrite_line_proper columns (first_width widths) l h.0) (overwrite_proper columns (drop 1 widths) ls h.1)
 
 -- of up
-pub up_proper : (n : ℕ) → AreProper (up n)
-up_proper zero = tt
-up_proper (suc n) = ((omega arith, omega arith), tt)
+pub cursor_up_proper : (n : ℕ) → AreProper (cursor_up n)
+cursor_up_proper zero = tt
+cursor_up_proper (suc n) = ((omega arith, omega arith), tt)
 
 -- of lines drawn anew
 pub redraw_proper : (columns : ℕ) (widths : List ℕ) (lines : List Line) → LinesFit columns lines → AreProper (redraw widths lines)
 redraw_proper columns widths lines h = AllByRecursion-append IsProper _ _
-    (cover_proper columns widths _ (AllByRecursion-append (LineFits columns) lines _ h (AllByRecursion-replicate (LineFits columns) (length widths - length lines) [] (LineFits-empty columns))))
-    (up_proper (max (length lines) (length widths)))
+    (overwrite_proper columns widths _ (AllByRecursion-append (LineFits columns) lines _ h (AllByRecursion-replicate (LineFits columns) (length widths - length lines) [] (LineFits-empty columns))))
+    (cursor_up_proper (max (length lines) (length widths)))
 
--- of signs that end
+-- of signs that open or end a frame
+pub opening_proper : (s : Sign) → IsOpening s → IsProper s
+opening_proper CarriageReturn h = tt
+opening_proper _ h = absurd h
+
 pub ending_proper : (s : Sign) → IsEnding s → IsProper s
 ending_proper CarriageReturn h = tt
 ending_proper EraseLine h = tt
 ending_proper _ h = absurd h
 
 -- of what a frame does after its messages
-pub body_proper : (columns height : ℕ) (widths : List ℕ) (b : Body) → BodyFits columns height b → AreProper (body_signs widths b)
-body_proper columns height widths Body.Quiet h = tt
-body_proper columns height widths (Body.Draws lines) h = redraw_proper columns widths lines h.0
-body_proper columns height widths (Body.Closes ending) h =
-    AllByRecursion-append IsProper (redraw widths []) ending (redraw_proper columns widths [] tt) (AllByRecursion-map IsEnding IsProper ending ending_proper h)
+pub body_proper : (columns height : ℕ) (widths : List ℕ) (b : Body) → BodyFits columns height b → EndsOrderly b → AreProper (body_signs widths b)
+body_proper columns height widths Body.Unchanged h o = tt
+body_proper columns height widths (Body.Draws lines) h o = redraw_proper columns widths lines h.0
+body_proper columns height widths (Body.Closes ending) h o =
+    AllByRecursion-append IsProper (redraw widths []) ending (redraw_proper columns widths [] tt) (AllByRecursion-map IsEnding IsProper ending ending_proper o)
 
 -- of a frame
-pub frame_proper : (columns height : ℕ) (widths : List ℕ) (f : Frame) → FrameFits columns height f → AreProper (frame_signs widths f)
-frame_proper columns height widths f h = AllByRecursion-append IsProper (cover widths f.messages) _ (cover_proper columns widths f.messages h.messages) (body_proper columns height (drop (length f.messages) widths) f.body h.body)
+pub frame_proper : (columns height : ℕ) (widths : List ℕ) (f : Frame) → FrameFits columns height f → IsOrderly f → AreProper (frame_signs widths f)
+frame_proper columns height widths f h o = AllByRecursion-append IsProper f.opening _ (AllByRecursion-map IsOpening IsProper f.opening opening_proper o.opening)
+    (AllByRecursion-append IsProper (overwrite widths f.messages) _ (overwrite_proper columns widths f.messages h.messages) (body_proper columns height (drop (length f.messages) widths) f.body h.body o.body))
 
 -- of a list of frames
-pub frames_proper : (columns height : ℕ) (standing : List Line) (fs : List Frame) → AllByRecursion (FrameFits columns height) fs → AreProper (signs_of standing fs)
-frames_proper columns height standing [] h = tt
-frames_proper columns height standing (f ∷ fs) h = AllByRecursion-append IsProper (frame_signs (widths_of standing) f) _ (frame_proper columns height (widths_of standing) f h.0) (frames_proper columns height (frame_leaves standing f) fs h.1)
+pub frames_proper : (columns height : ℕ) (lines : List Line) (fs : List Frame) → AllByRecursion (FrameFits columns height) fs → AllByRecursion IsOrderly fs → AreProper (signs_of lines fs)
+frames_proper columns height lines [] h o = tt
+frames_proper columns height lines (f ∷ fs) h o =
+    AllByRecursion-append IsProper (frame_signs (widths_of lines) f) _ (frame_proper columns height (widths_of lines) f h.0 o.0) (frames_proper columns height (lines_after lines f) fs h.1 o.1)

@@ -1,12 +1,12 @@
--- One row part on a page: a line over the line that stood in its row.
+-- One line on a page, over the line on screen in its row.
 use Rattle.std.proofs.Common.{◌≡◌, ℕ, ◌+◌, ◌-◌, ◌≤◌, List, [], ◌∷◌, ◌++◌, length, drop, map, sym, ap, ◌∙◌, append_assoc, length-append, length-drop, arith}
 use Rattle.std.specs.Prelude.{replicate}
 use Rattle.std.proofs.lemmas.List.{append-nil, drop-drop, drop-replicate, replicate-append-replicate, length-replicate}
 use Rattle.prodash_line.specs.declared.render.line.page.sign.Sign.TheVariants.{Char, LineFeed}
 use Rattle.prodash_line.specs.Lines.{Line, columns_of, line_text}
-use Rattle.prodash_line.specs.Frames.{piece_signs, line_signs, part}
+use Rattle.prodash_line.specs.Frames.{piece_signs, line_signs, overwrite_line}
 use Rattle.prodash_line.specs.Page.{after_sign, page_after}
-use Rattle.prodash_line.specs.Shows.{shown}
+use Rattle.prodash_line.specs.Shows.{cells_of}
 use Rattle.prodash_line.specs.Fits.{LineFits}
 use Rattle.prodash_line.proofs.CursorRow.{at, inside, page_after-append, text_inside, some_row, feed_inside}
 
@@ -38,7 +38,7 @@ BlankFrom-later columns old new row h le =
     ∙ drop-replicate (new - old) (columns - old) 32
     ∙ ap (λ (n : ℕ). replicate n 32) (let e : (columns - old) - (new - old) ≡ columns - new = omega arith in e)
 
--- the text, spaces up to the old columns and what was past them are the text and blanks
+-- the text, spaces as far as the old line reached and what is past it are the text and blanks
 pub padded : (columns old : ℕ) (row text : List ℕ) → BlankFrom columns old row → length row ≡ columns → old ≤ columns → length text ≤ columns
     → (text ++ replicate (old - length text) 32) ++ drop (old - length text) (drop (length text) row) ≡ text ++ replicate (columns - length text) 32
 padded columns old row text h e l t =
@@ -47,11 +47,11 @@ padded columns old row text h e l t =
     ∙ ap (λ (r : List ℕ). text ++ r) (replicate-append-replicate (old - length text) (columns - (length text + (old - length text))) 32)
     ∙ ap (λ (n : ℕ). text ++ replicate n 32) (let e : (old - length text) + (columns - (length text + (old - length text))) ≡ columns - length text = omega arith in e)
 
--- one row part over a row that is blank past the columns that stood there
-pub part_at : (columns height old : ℕ) (above : List (List ℕ)) (row : List ℕ) (below : List (List ℕ)) (l : Line)
+-- a line over a row that is blank past the old line
+pub overwrite_line_at : (columns height old : ℕ) (above : List (List ℕ)) (row : List ℕ) (below : List (List ℕ)) (l : Line)
     → LineFits columns l → old ≤ columns → length row ≡ columns → BlankFrom columns old row
-    → page_after (part old l) (at columns height above (row ∷ below)) ≡ at columns height (above ++ shown columns l ∷ []) (some_row columns below)
-part_at columns height old above row below l fit o e h =
+    → page_after (overwrite_line old l) (at columns height above (row ∷ below)) ≡ at columns height (above ++ cells_of columns l ∷ []) (some_row columns below)
+overwrite_line_at columns height old above row below l fit o e h =
     let text = line_text l in
     let n = old - length text in
     let each : columns_of l ≡ length text = fit.plain.columns in

@@ -23,7 +23,7 @@ pub record Refuses (parameters : List ℕ) (final_byte : ℕ) : Type 0 where
   pub up : final_byte ≡ 65 → (n : ℕ) → 0 < n → n < 2 ^ 16 → decimal n ≡ parameters → ⊥
   pub erase : final_byte ≡ 75 → parameters ≡ 50 ∷ [] → ⊥
 
--- where no kind has them, no proper sign's sequence does
+-- if no kind has them, no proper sign's sequence does
 pub makes_none : (parameters : List ℕ) (final_byte : ℕ) → Refuses parameters final_byte → MakesNone parameters final_byte
 makes_none parameters final_byte h (Char c) p e =
     let same : c ≡ 27 = char_from_byte (sequence parameters final_byte) [] c (sym e ∙ sym (append-nil (encode_utf8 c))) (omega arith) (omega arith) in

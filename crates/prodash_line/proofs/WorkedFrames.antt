@@ -12,7 +12,7 @@ use Rattle.prodash_line.specs.declared.render.line.page.sign.Sign.TheVariants.{C
 use Rattle.prodash_line.specs.declared.render.line.draw.input.Input.{Input}
 use Rattle.prodash_line.specs.declared.render.line.draw.input.Input.TheVariants.{Tick, Quit}
 use Rattle.prodash_line.specs.Frames.{frame_signs}
-use Rattle.prodash_line.specs.Renderer.{Renderer, fresh, frame_at, next}
+use Rattle.prodash_line.specs.Renderer.{Renderer, new_renderer, frame_at, next}
 use Rattle.prodash_line.specs.Fits.{FrameFits}
 use Rattle.prodash_line.specs.Lines.{line_text}
 use Rattle.prodash_line.specs.ProgressRows.{bar}
@@ -26,17 +26,17 @@ abbrev tick : ℕ → Bool → List PathRow → List Message → Input
 tick at show rows messages = Tick at show (Some (rows, messages, length messages))
 
 abbrev signs_at : Renderer → Input → List Sign
-signs_at r input = frame_signs r.standing (frame_at r input)
+signs_at r input = frame_signs r.widths (frame_at r input)
 
 abbrev terminal : Renderer
-terminal = fresh (record { terminal_dimensions = (40, 4) })
+terminal = new_renderer (record { terminal_dimensions = (40, 4) })
 
--- its name behind a space, a line feed, and up by one row
+-- its name after a space, a line feed, and up by one row
 pub drawn : signs_at terminal (tick 0 true (row (codes "task") ∷ []) []) ≡ map Char (codes " task") ++ LineFeed ∷ Up 1 ∷ []
 unfolding chars str_width step past_emoji
 drawn = refl
 
--- a shorter name, and blanks up to the columns that stood there
+-- a shorter name, and spaces as far as the old one reached
 pub drawn_over : signs_at (next terminal (tick 0 true (row (codes "task") ∷ []) [])) (tick 1 true (row (codes "a") ∷ []) []) ≡ map Char (codes " a   ") ++ LineFeed ∷ Up 1 ∷ []
 unfolding chars str_width step past_emoji
 drawn_over = refl
@@ -47,14 +47,14 @@ pub message_over : signs_at (next terminal (tick 0 true (row (codes "task") ∷ 
 unfolding chars str_width step past_emoji
 message_over = refl
 
--- blanks over the row, up to it, and that row erased
+-- spaces over the row, up to it, and that row erased
 pub closing_over : signs_at (next terminal (tick 0 true (row (codes "task") ∷ []) [])) (Quit 1) ≡ map Char (codes "     ") ++ LineFeed ∷ Up 1 ∷ EraseLine ∷ CarriageReturn ∷ []
 unfolding chars str_width step past_emoji
 closing_over = refl
 
--- held back, and shown again without a change
-pub held_back : signs_at terminal (tick 0 false (row (codes "task") ∷ []) []) ≡ []
-held_back = refl
+-- hidden, and shown again without a change
+pub hidden : signs_at terminal (tick 0 false (row (codes "task") ∷ []) []) ≡ []
+hidden = refl
 
 pub unchanged : signs_at (next terminal (tick 0 false (row (codes "task") ∷ []) [])) (tick 1 true (row (codes "task") ∷ []) []) ≡ []
 unchanged = refl

@@ -4,25 +4,25 @@ use Rattle.std.specs.List.{AllByRecursion}
 use Rattle.unicode_width.specs.Width.{char_width}
 use Rattle.prodash_line.specs.Signs.{IsProper}
 use Rattle.prodash_line.specs.Lines.{Piece, Line, width_of, columns_of, line_text}
-use Rattle.prodash_line.specs.Frames.{Body, Frame}
-use Rattle.prodash_line.specs.declared.render.line.page.sign.Sign.{Sign}
-use Rattle.prodash_line.specs.declared.render.line.page.sign.Sign.TheVariants.{Char, CarriageReturn, EraseLine}
+use Rattle.prodash_line.specs.Frames.{Body, Unchanged, Draws, Closes, Frame}
+use Rattle.prodash_line.specs.declared.render.line.page.sign.Sign.TheVariants.{Char}
 
--- a character that isn't a control character, one column wide
+-- no control character, and one column wide
 pub record IsPlainChar (c : ℕ) : Type 0 where
   pub proper : IsProper (Char c)
   pub width : char_width false c ≡ Some 1
 
--- plain characters, as many columns as characters
+-- plain characters, and as many columns as characters
 pub record IsPlainPiece (p : Piece) : Type 0 where
   pub each : AllByRecursion IsPlainChar p.text
   pub width : width_of p ≡ length p.text
 
+-- plain pieces, and as many columns as characters
 pub record IsPlain (line : Line) : Type 0 where
   pub pieces : AllByRecursion IsPlainPiece line
   pub columns : columns_of line ≡ length (line_text line)
 
--- a plain line of at most so many columns
+-- a plain line, no wider than the page
 pub record LineFits (columns : ℕ) (line : Line) : Type 0 where
   pub plain : IsPlain line
   pub within : columns_of line ≤ columns
@@ -30,18 +30,13 @@ pub record LineFits (columns : ℕ) (line : Line) : Type 0 where
 abbrev pub LinesFit : ℕ → List Line → Type 0
 LinesFit columns lines = AllByRecursion (LineFits columns) lines
 
--- a sign that changes nothing where the cursor is at the beginning of a blank row
-abbrev pub IsEnding : Sign → Type 0
-IsEnding CarriageReturn = ⊤
-IsEnding EraseLine = ⊤
-IsEnding _ = ⊥
-
--- lines that fit, at least one row fewer than the window has; signs that end
+-- lines that fit, at least one fewer than the window has rows
 abbrev pub BodyFits : ℕ → ℕ → Body → Type 0
-BodyFits columns height Body.Quiet = ⊤
-BodyFits columns height (Body.Draws lines) = LinesFit columns lines × (length lines < height)
-BodyFits columns height (Body.Closes ending) = AllByRecursion IsEnding ending
+BodyFits columns height Unchanged = ⊤
+BodyFits columns height (Draws lines) = LinesFit columns lines × (length lines < height)
+BodyFits columns height (Closes ending) = ⊤
 
+-- a frame whose messages and drawn lines fit
 pub record FrameFits (columns height : ℕ) (f : Frame) : Type 0 where
   pub messages : LinesFit columns f.messages
   pub body : BodyFits columns height f.body

@@ -1,4 +1,4 @@
--- Frames: messages that cover the lines that stand, then perhaps lines drawn anew.
+-- Frames: messages over the lines on screen, and then perhaps lines drawn anew.
 use Rattle.std.specs.Prelude.{ℕ, zero, suc, ◌-◌, min, max, List, [], ◌∷◌, ◌++◌, length, map, drop, replicate}
 use Rattle.std.specs.List.{flat_map}
 use Rattle.prodash_line.specs.Lines.{Piece, Line, spaces, columns_of}
@@ -11,79 +11,85 @@ piece_signs p = map Char p.text
 abbrev pub line_signs : Line → List Sign
 line_signs line = flat_map piece_signs line
 
--- one row part: a line, spaces up to the columns that stood there, a line feed
-abbrev pub part : ℕ → Line → List Sign
-part stood line = line_signs line ++ (piece_signs (spaces (stood - columns_of line)) ++ LineFeed ∷ [])
+-- a line over another one of this width: the line, spaces as far as the other one reached, a line feed
+abbrev pub overwrite_line : ℕ → Line → List Sign
+overwrite_line width line = line_signs line ++ (piece_signs (spaces (width - columns_of line)) ++ LineFeed ∷ [])
 
--- the columns that stand in the first row, of all that stand
-abbrev pub first : List ℕ → ℕ
-first [] = 0
-first (columns ∷ widths) = columns
+-- the width of the first line on screen, by the widths of all; 0 if there is none
+abbrev pub first_width : List ℕ → ℕ
+first_width [] = 0
+first_width (width ∷ widths) = width
 
--- the lines, each over the columns that stand in its row
-abbrev pub cover : List ℕ → List Line → List Sign
-cover widths [] = []
-cover widths (line ∷ lines) = part (first widths) line ++ cover (drop 1 widths) lines
+-- the lines, each over the line on screen in its row
+abbrev pub overwrite : List ℕ → List Line → List Sign
+overwrite widths [] = []
+overwrite widths (line ∷ lines) = overwrite_line (first_width widths) line ++ overwrite (drop 1 widths) lines
 
--- up by so many rows, if any
-abbrev pub up : ℕ → List Sign
-up zero = []
-up (suc n) = Up (min (suc n) 65535) ∷ []
+-- up n rows, if n isn't 0
+abbrev pub cursor_up : ℕ → List Sign
+cursor_up zero = []
+cursor_up (suc n) = Up (min (suc n) 65535) ∷ []
 
--- the lines over the columns that stand, spaces over those that are left over, and back up
+-- the lines over those on screen, spaces over the lines on screen that are left over, and back up
 abbrev pub redraw : List ℕ → List Line → List Sign
-redraw widths lines = cover widths (lines ++ replicate (length widths - length lines) []) ++ up (max (length lines) (length widths))
+redraw widths lines = overwrite widths (lines ++ replicate (length widths - length lines) []) ++ cursor_up (max (length lines) (length widths))
 
 -- what a frame does after its messages
 pub data Body : Type 0 where
-  Quiet : Body
+  -- it leaves the lines on screen
+  Unchanged : Body
+  -- it draws these lines in their place
   Draws : List Line → Body
-  -- blanks what stands, goes back up, and ends with these signs
+  -- it blanks them, goes back up, and ends with these signs
   Closes : List Sign → Body
 
+-- what it begins with, the lines of its messages, and its body
 pub record Frame : Type 0 where
+  pub opening : List Sign
   pub messages : List Line
   pub body : Body
 
 abbrev pub body_signs : List ℕ → Body → List Sign
-body_signs widths Quiet = []
+body_signs widths Unchanged = []
 body_signs widths (Draws lines) = redraw widths lines
 body_signs widths (Closes ending) = redraw widths [] ++ ending
 
--- the signs of a frame over the columns that stand before it
+-- the signs of a frame, by the widths of the lines on screen before it
 abbrev pub frame_signs : List ℕ → Frame → List Sign
-frame_signs widths f = cover widths f.messages ++ body_signs (drop (length f.messages) widths) f.body
+frame_signs widths f = f.opening ++ (overwrite widths f.messages ++ body_signs (drop (length f.messages) widths) f.body)
 
-abbrev pub body_leaves : List Line → Body → List Line
-body_leaves standing Quiet = standing
-body_leaves standing (Draws lines) = lines
-body_leaves standing (Closes ending) = []
+abbrev pub body_lines : List Line → Body → List Line
+body_lines lines Unchanged = lines
+body_lines lines (Draws drawn) = drawn
+body_lines lines (Closes ending) = []
 
--- what stands after a frame: the lines that were drawn last, those taken off that a message took the place of
-abbrev pub frame_leaves : List Line → Frame → List Line
-frame_leaves standing f = body_leaves (drop (length f.messages) standing) f.body
+-- the lines on screen after a frame: those drawn last, without as many from the first on as messages were printed over them since
+abbrev pub lines_after : List Line → Frame → List Line
+lines_after lines f = body_lines (drop (length f.messages) lines) f.body
 
--- the columns of each line
+-- the width of each line
 abbrev pub widths_of : List Line → List ℕ
 widths_of lines = map columns_of lines
 
 abbrev pub body_widths : List ℕ → Body → List ℕ
-body_widths widths Quiet = widths
-body_widths widths (Draws lines) = widths_of lines
+body_widths widths Unchanged = widths
+body_widths widths (Draws drawn) = widths_of drawn
 body_widths widths (Closes ending) = []
 
--- the columns that stand after a frame
-abbrev pub frame_widths : List ℕ → Frame → List ℕ
-frame_widths widths f = body_widths (drop (length f.messages) widths) f.body
+-- the widths of the lines on screen after a frame
+abbrev pub widths_after : List ℕ → Frame → List ℕ
+widths_after widths f = body_widths (drop (length f.messages) widths) f.body
 
--- over a list of frames: the signs, what stands after them, the messages that they printed
+-- the signs of a list of frames
 abbrev pub signs_of : List Line → List Frame → List Sign
-signs_of standing [] = []
-signs_of standing (f ∷ fs) = frame_signs (widths_of standing) f ++ signs_of (frame_leaves standing f) fs
+signs_of lines [] = []
+signs_of lines (f ∷ fs) = frame_signs (widths_of lines) f ++ signs_of (lines_after lines f) fs
 
-abbrev pub standing_after : List Line → List Frame → List Line
-standing_after standing [] = standing
-standing_after standing (f ∷ fs) = standing_after (frame_leaves standing f) fs
+-- the lines on screen after a list of frames
+abbrev pub all_lines_after : List Line → List Frame → List Line
+all_lines_after lines [] = lines
+all_lines_after lines (f ∷ fs) = all_lines_after (lines_after lines f) fs
 
-abbrev pub printed : List Frame → List Line
-printed fs = flat_map (λ f. f.messages) fs
+-- the lines of all messages that the frames print
+abbrev pub printed_lines : List Frame → List Line
+printed_lines fs = flat_map (λ f. f.messages) fs

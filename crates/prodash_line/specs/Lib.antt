@@ -4,13 +4,11 @@ pub mod Frames
 pub mod ProgressRows
 pub mod MessageLines
 pub mod Screens
-pub mod Endings
 pub mod Renderer
 pub mod Joined
-pub mod Coding
 pub mod Page
-pub mod Cells
-pub mod PageInside
 pub mod Reading
 pub mod Shows
 pub mod Fits
+pub mod Renderings
+pub mod plumbing

@@ -1,4 +1,4 @@
--- Lines, and their columns.
+-- Lines, and how many columns they take.
 use Rattle.std.specs.Prelude.{ℕ, false, List, min, replicate, sum_by}
 use Rattle.std.specs.List.{flat_map}
 use Rattle.unicode_width.specs.Width.{str_width}
@@ -13,18 +13,19 @@ Line = List Piece
 abbrev pub piece : List ℕ → Piece
 piece text = record { text = text }
 
--- so many spaces
+-- n spaces
 abbrev pub spaces : ℕ → Piece
 spaces n = piece (replicate n 32)
 
--- sums of columns stop at 65535
+-- widths are capped at 65535
 abbrev pub capped : ℕ → ℕ
 capped n = min n 65535
 
+-- the width of a piece, in columns
 abbrev pub width_of : Piece → ℕ
 width_of p = str_width false p.text
 
--- the columns of a line
+-- the width of a line, in columns
 abbrev pub columns_of : Line → ℕ
 columns_of line = capped (sum_by width_of line)
 

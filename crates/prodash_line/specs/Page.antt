@@ -3,7 +3,7 @@ use Rattle.std.specs.Prelude.{Bool, false, ◌&&◌, nat_le, ℕ, ◌+◌, ◌-�
 use Rattle.prodash_line.specs.declared.render.line.page.sign.Sign.{Sign}
 use Rattle.prodash_line.specs.declared.render.line.page.sign.Sign.TheVariants.{Char, LineFeed, CarriageReturn, Up, EraseLine}
 
--- a page by its columns, the height of its window, its rows from the first ever, and the cursor's row and column
+-- how many columns it has, the height of its window, its rows from the first ever on, and the row and column of the cursor
 pub record Canvas : Type 0 where
   pub columns : ℕ
   pub height : ℕ
@@ -19,7 +19,7 @@ blank columns = replicate columns 32
 abbrev pub blank_page : ℕ → ℕ → Canvas
 blank_page columns height = record { columns = columns; height = height; rows = replicate height (blank columns); row = 0; column = 0 }
 
--- the rows with a blank one below the last, where this row would lie past it
+-- the rows, with a blank one below the last if this row isn't there
 abbrev pub with_row : ℕ → ℕ → List (List ℕ) → List (List ℕ)
 with_row columns row rows = if nat_lt row (length rows) then rows else rows ++ blank columns ∷ []
 
@@ -27,7 +27,7 @@ with_row columns row rows = if nat_lt row (length rows) then rows else rows ++ b
 abbrev pub next_row : Canvas → Canvas
 next_row p = record p { rows = with_row p.columns (p.row + 1) p.rows; row = p.row + 1; column = 0 }
 
--- the rows with this character in a cell
+-- the rows with this character in this cell
 abbrev pub with_char : ℕ → ℕ → ℕ → List (List ℕ) → List (List ℕ)
 with_char row column c rows = slice_set rows row (slice_set (slice_index_or rows row []) column c)
 
@@ -35,7 +35,7 @@ with_char row column c rows = slice_set rows row (slice_set (slice_index_or rows
 abbrev pub put : ℕ → Canvas → Canvas
 put c p = record p { rows = with_char p.row p.column c p.rows; column = p.column + 1 }
 
--- the page after one sign: a character past the last column goes onto the next row, and up stops at the window's top
+-- the page after one sign: a character past the last column goes to the next row, and the cursor goes up no further than the window's top
 abbrev pub after_sign : Sign → Canvas → Canvas
 after_sign (Char c) p = if nat_lt p.column p.columns then put c p else put c (next_row p)
 after_sign LineFeed p = next_row p
@@ -43,7 +43,7 @@ after_sign CarriageReturn p = record p { column = 0 }
 after_sign (Up n) p = record p { row = max (length p.rows - p.height) (p.row - n) }
 after_sign EraseLine p = record p { rows = slice_set p.rows p.row (blank p.columns) }
 
--- does the sign lead onto a row below the last, which has to be added?
+-- does the sign lead to a row that isn't there yet?
 abbrev pub adds_row : Sign → Canvas → Bool
 adds_row (Char c) p = nat_le p.columns p.column && nat_le (length p.rows) (p.row + 1)
 adds_row LineFeed p = nat_le (length p.rows) (p.row + 1)
@@ -51,7 +51,7 @@ adds_row CarriageReturn p = false
 adds_row (Up n) p = false
 adds_row EraseLine p = false
 
--- the page after the signs, in order
+-- the page after these signs
 abbrev pub page_after : List Sign → Canvas → Canvas
 page_after [] p = p
 page_after (s ∷ ss) p = page_after ss (after_sign s p)

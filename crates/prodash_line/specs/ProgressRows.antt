@@ -4,59 +4,65 @@ use Rattle.std.specs.Fmt.{decimal}
 use Rattle.prodash_base.specs.Rows.{Progress, PathRow}
 use Rattle.prodash_line.specs.Lines.{Line, piece, spaces, columns_of}
 
--- `step/bound`, or the step alone
-abbrev pub values_of : ℕ → Option ℕ → List ℕ
-values_of step None = decimal step
-values_of step (Some bound) = decimal step ++ (codes "/" ++ decimal bound)
+-- `step/bound`, or the step alone if there is no bound
+abbrev pub fraction_of : ℕ → Option ℕ → List ℕ
+fraction_of step None = decimal step
+fraction_of step (Some bound) = decimal step ++ (codes "/" ++ decimal bound)
 
--- how many of the cells are filled
-abbrev pub filled : ℕ → ℕ → ℕ → ℕ
-filled cells step bound = if bound == 0 then cells else cells * min step bound / bound
+-- the values of a progress
+abbrev pub values_of : Progress ℕ → Line
+values_of p = piece (fraction_of p.counter p.bound) ∷ []
 
--- a bar with so many cells, of which so many are filled: brackets about the cells, an arrow behind those that are filled
+-- how many of a bar's cells are filled
+abbrev pub filled_cells : ℕ → ℕ → ℕ → ℕ
+filled_cells cells step bound = if bound == 0 then cells else cells * min step bound / bound
+
+-- a bar of n cells, of which these are filled: brackets around the cells, an arrow after the filled ones
 abbrev pub bar_with : ℕ → ℕ → Line
-bar_with cells full = piece (codes " [") ∷ piece (replicate full 61) ∷ piece (codes ">") ∷ piece (replicate (cells - full) 45) ∷ piece (codes "]") ∷ []
+bar_with cells filled = piece (codes " [") ∷ piece (replicate filled 61) ∷ piece (codes ">") ∷ piece (replicate (cells - filled) 45) ∷ piece (codes "]") ∷ []
 
--- the bar of a progress with a bound: the brackets and the space before them take three columns, the arrow takes one
+-- the bar of a progress with a bound: the space and the brackets take three columns, and the arrow takes one
 abbrev pub bounded_bar : ℕ → ℕ → ℕ → Line
-bounded_bar left step bound = let cells = left - 3 - 1 in bar_with cells (filled cells step bound)
+bounded_bar columns step bound = let cells = columns - 3 - 1 in bar_with cells (filled_cells cells step bound)
 
--- the bar where so many columns are left; none where none are
+-- the bar on the columns that are left; none if there is no column or no bound
 abbrev pub bar : ℕ → ℕ → Option ℕ → Line
-bar left step None = []
-bar left step (Some bound) = if left == 0 then [] else bounded_bar left step bound
+bar columns step None = []
+bar columns step (Some bound) = if columns == 0 then [] else bounded_bar columns step bound
 
--- as many spaces as the level, and the name
+-- as many spaces as the path is long, and the name
 abbrev pub head_of : PathRow → Line
 head_of row = spaces (length row.0) ∷ piece (chars row.1.name) ∷ []
 
--- up to the values
-abbrev pub measured : PathRow → Progress ℕ → Line
-measured row p = head_of row ++ (spaces 1 ∷ piece (values_of p.counter p.bound) ∷ [])
+-- a row up to its values, without padding
+abbrev pub unpadded : PathRow → Progress ℕ → Line
+unpadded row p = head_of row ++ (spaces 1 ∷ values_of p)
 
--- the columns up to the values
 abbrev pub midpoint_with : PathRow → Option (Progress ℕ) → ℕ
 midpoint_with row None = 0
-midpoint_with row (Some p) = columns_of (measured row p)
+midpoint_with row (Some p) = columns_of (unpadded row p)
 
+-- the column at which a row's values end, without padding; 0 for a row without progress
 abbrev pub midpoint_of : PathRow → ℕ
 midpoint_of row = midpoint_with row row.1.progress
 
--- the same with spaces before the values, which bring them to this midpoint
+-- the greatest midpoint of some rows
+abbrev pub greatest_midpoint : List PathRow → ℕ
+greatest_midpoint [] = 0
+greatest_midpoint (row ∷ rows) = max (midpoint_of row) (greatest_midpoint rows)
+
+-- a row up to its values, with spaces before them that bring their end to this midpoint
 abbrev pub padded : ℕ → PathRow → Progress ℕ → Line
-padded midpoint row p = head_of row ++ (spaces 1 ∷ spaces (midpoint - columns_of (measured row p)) ∷ piece (values_of p.counter p.bound) ∷ [])
+padded midpoint row p = head_of row ++ (spaces 1 ∷ spaces (midpoint - columns_of (unpadded row p)) ∷ values_of p)
 
 abbrev pub row_line_with : ℕ → ℕ → PathRow → Option (Progress ℕ) → Line
 row_line_with width midpoint row None = head_of row
 row_line_with width midpoint row (Some p) = padded midpoint row p ++ bar (width - columns_of (padded midpoint row p)) p.counter p.bound
 
--- the line of a row on this many columns, its values brought to this midpoint
+-- the line of a row on a terminal of this width: without progress its head alone, else its values, brought to this midpoint, and a bar on the
+-- columns that are left
 abbrev pub row_line : ℕ → ℕ → PathRow → Line
 row_line width midpoint row = row_line_with width midpoint row row.1.progress
 
 abbrev pub row_lines : ℕ → ℕ → List PathRow → List Line
 row_lines width midpoint rows = map (row_line width midpoint) rows
-
-abbrev pub greatest_midpoint : List PathRow → ℕ
-greatest_midpoint [] = 0
-greatest_midpoint (row ∷ rows) = max (midpoint_of row) (greatest_midpoint rows)

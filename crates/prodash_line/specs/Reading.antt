@@ -1,4 +1,4 @@
--- What signs stand at the front of bytes, and what reading bytes as signs answers.
+-- Which sign bytes begin with, and what reading bytes as signs returns.
 use Rattle.std.specs.Prelude.{◌≡◌, ℕ, Bool, ◌<◌, ◌≤◌, ⊤, List, ◌∷◌, ◌++◌, length, take, Result, Ok, Err}
 use Rattle.std.specs.Global.{Vec}
 use Rattle.std.specs.Int.{is_in_range}
@@ -9,15 +9,15 @@ use Rattle.prodash_line.specs.declared.render.line.page.reading.Fault.{Fault}
 use Rattle.prodash_line.specs.declared.render.line.page.reading.Fault.TheVariants as faults
 use Rattle.prodash_line.specs.Signs.{spelling_of, spelling, sequence, IsProper}
 
--- no character stands at the front
+-- the bytes begin with no character
 abbrev pub NoCharAt : List ℕ → Type 0
 NoCharAt bytes = (c : ℕ) (rest : List ℕ) → IsScalar c → bytes ≡ encode_utf8 c ++ rest → ⊥
 
--- a proper sign stands at the front, before these bytes
+-- the bytes begin with this sign, which is proper, and go on with the rest
 abbrev pub IsSignAt : List ℕ → Sign → List ℕ → Type 0
 IsSignAt bytes s rest = IsProper s × (bytes ≡ spelling_of s ++ rest)
 
--- no proper sign stands at the front
+-- the bytes begin with no proper sign
 abbrev pub NoSignAt : List ℕ → Type 0
 NoSignAt bytes = (s : Sign) (rest : List ℕ) → IsProper s → bytes ≡ spelling_of s ++ rest → ⊥
 
@@ -29,28 +29,29 @@ is_parameter b = is_in_range 48 63 b
 abbrev pub MakesNone : List ℕ → ℕ → Type 0
 MakesNone parameters final_byte = (s : Sign) → IsProper s → spelling_of s ≡ sequence parameters final_byte → ⊥
 
--- no proper sign's sequence stands at the front, an escape and a bracket before the bytes
+-- ESC, an opening bracket and the bytes begin with no proper sign
 abbrev pub NoSequenceAt : List ℕ → Type 0
 NoSequenceAt bytes = NoSignAt (27 ∷ 91 ∷ bytes)
 
+-- all of the signs are proper
 abbrev pub AreProper : List Sign → Type 0
 AreProper signs = AllByRecursion IsProper signs
 
--- the first n bytes are the longest front that proper signs spell, and not all bytes
-pub record IsLongestFront (bytes : List ℕ) (n : ℕ) : Type 0 where
+-- the first n bytes are the longest prefix that proper signs spell, and not all bytes
+pub record IsLongestPrefix (bytes : List ℕ) (n : ℕ) : Type 0 where
   pub signs : List Sign
   pub proper : AreProper signs
   pub spells : spelling signs ≡ take n bytes
   pub short : n < length bytes
   pub longest : (others : List Sign) (m : ℕ) → AreProper others → m ≤ length bytes → spelling others ≡ take m bytes → m ≤ n
 
--- what reading answers: proper signs that spell the bytes, the end of the longest front, or want of memory
+-- proper signs that spell the bytes; or the length of the longest prefix that proper signs spell; or out of memory
 abbrev pub Reads : List ℕ → Result (Vec Sign) Fault → Type 0
 Reads bytes (Ok signs) = AreProper signs.items × (spelling signs.items ≡ bytes)
-Reads bytes (Err (faults.At n)) = IsLongestFront bytes n
+Reads bytes (Err (faults.At n)) = IsLongestPrefix bytes n
 Reads bytes (Err faults.Memory) = ⊤
 
--- these signs, or want of memory
+-- these signs, or out of memory
 abbrev pub Gives : List Sign → Result (Vec Sign) Fault → Type 0
 Gives signs (Ok read) = read.items ≡ signs
 Gives signs (Err (faults.At n)) = ⊥

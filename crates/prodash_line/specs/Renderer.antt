@@ -11,114 +11,138 @@ use Rattle.prodash_line.specs.declared.render.line.draw.input.Answer.{Answer}
 use Rattle.prodash_line.specs.declared.render.line.draw.input.Answer.TheVariants as answers
 use Rattle.prodash_line.specs.declared.render.line.page.sign.Sign.TheVariants.{CarriageReturn, EraseLine}
 use Rattle.prodash_line.specs.Signs.{spelling}
-use Rattle.prodash_line.specs.Frames.{Body, Quiet, Draws, Closes, Frame, frame_signs, frame_widths}
+use Rattle.prodash_line.specs.Frames.{Body, Unchanged, Draws, Closes, Frame, frame_signs, widths_after}
 use Rattle.prodash_line.specs.ProgressRows.{row_lines, greatest_midpoint}
-use Rattle.prodash_line.specs.MessageLines.{message_lines, kept_after}
-use Rattle.prodash_line.specs.Screens.{Taken, TakesFrame, BreaksUnder}
+use Rattle.prodash_line.specs.MessageLines.{message_lines, latest_origin_widths}
+use Rattle.prodash_line.specs.Screens.{ScreenState, WritesFrame, BreaksDuring}
 
 pub record Renderer : Type 0 where
   pub options : Options
-  -- the columns of each line that stands
-  pub standing : List ℕ
-  -- the greatest midpoint of the last drawn frame
+  -- the width of each line on screen
+  pub widths : List ℕ
+  -- the greatest midpoint of the frame drawn last; 0 before the first
   pub midpoint : ℕ
-  -- the rows at the last accepted tick with a root; none before the first
-  pub remembered : Option (List PathRow)
-  -- the widths of the origins of the last messages, at most as many as the terminal has rows
-  pub origins : List ℕ
-  -- how many messages were pushed at the last accepted tick with a root; none before the first
+  -- the rows at the latest accepted tick with a root; none before the first
+  pub last_rows : Option (List PathRow)
+  -- the widths of the latest origins, at most as many as the terminal has rows
+  pub origin_widths : List ℕ
+  -- how many messages had been pushed at the latest accepted tick with a root; none before the first
   pub seen : Option ℕ
-  -- where every further frame is refused: with what
+  -- the refusal of every further frame, if there is one
   pub ended : Option Refusal
 
+-- what a tick sees of a tree: its rows, the new messages, and how many messages have been pushed; nothing without a root
+abbrev pub Seen : Type 0
+Seen = Option (List PathRow × List Message × ℕ)
+
 -- nothing drawn yet
-abbrev pub fresh : Options → Renderer
-fresh options = record { options = options; standing = []; midpoint = 0; remembered = None; origins = []; seen = None; ended = None }
+abbrev pub new_renderer : Options → Renderer
+new_renderer options = record { options = options; widths = []; midpoint = 0; last_rows = None; origin_widths = []; seen = None; ended = None }
 
--- no tick was accepted before, or other rows were seen at the last
-abbrev pub differs : Option (List PathRow) → List PathRow → Bool
-differs None rows = true
-differs (Some before) rows = not (same_rows before rows)
+-- no tick with a root was accepted before, or the latest saw other rows
+abbrev pub rows_changed : Option (List PathRow) → List PathRow → Bool
+rows_changed None rows = true
+rows_changed (Some before) rows = not (same_rows before rows)
 
+-- rows are drawn if they are shown and have changed
 abbrev pub is_drawn : Renderer → Bool → List PathRow → Bool
-is_drawn r show rows = show && differs r.remembered rows
+is_drawn r show rows = show && rows_changed r.last_rows rows
 
--- a shown tick draws what has changed
-abbrev pub body_at : Renderer → Bool → List PathRow → Body
-body_at r show rows = if is_drawn r show rows then Draws (row_lines r.options.terminal_dimensions.0 r.midpoint rows) else Quiet
+abbrev pub tick_body : Renderer → Bool → List PathRow → Body
+tick_body r show rows = if is_drawn r show rows then Draws (row_lines r.options.terminal_dimensions.0 r.midpoint rows) else Unchanged
 
--- the frame of a tick with a root: the new messages, then what has changed
-abbrev pub tick_frame : Renderer → Bool → List PathRow → List Message → Frame
-tick_frame r show rows messages = record { messages = message_lines r.origins messages; body = body_at r show rows }
+-- the frame of a tick with a root: the new messages, then the rows if they are drawn
+abbrev pub tick_frame : Renderer → ℕ → Bool → List PathRow → List Message → Frame
+tick_frame r at show rows messages = record { opening = []; messages = message_lines r.origin_widths messages; body = tick_body r show rows }
 
--- the frame that closes: it blanks the lines that stand, and erases the row in which the first of them stood
+-- the closing frame: it blanks the lines on screen, and erases the row in which the first of them was
 abbrev pub closing_frame : Frame
-closing_frame = record { messages = []; body = Closes (EraseLine ∷ CarriageReturn ∷ []) }
+closing_frame = record { opening = []; messages = []; body = Closes (EraseLine ∷ CarriageReturn ∷ []) }
 
 -- the frame of an input
 abbrev pub frame_at : Renderer → Input → Frame
-frame_at r (Tick at show (Some seen)) = tick_frame r show seen.0 seen.1
+frame_at r (Tick at show (Some seen)) = tick_frame r at show seen.0 seen.1
 frame_at r (Tick at show None) = closing_frame
 frame_at r (Quit at) = closing_frame
 
--- the renderer after a tick with a root
-abbrev pub ticked : Renderer → Bool → List PathRow → List Message → ℕ → Renderer
-ticked r show rows messages pushed = record r {
-  standing = frame_widths r.standing (tick_frame r show rows messages);
-  midpoint = (if is_drawn r show rows then greatest_midpoint rows else r.midpoint);
-  remembered = Some rows;
-  origins = kept_after r.options.terminal_dimensions.1 r.origins messages;
-  seen = Some pushed;
+-- what an input sees of a tree
+abbrev pub seen_by : Input → Seen
+seen_by (Tick at show seen) = seen
+seen_by (Quit at) = None
+
+-- the renderer with what it remembers of a tree: the rows, the origins of the messages, how many were pushed
+abbrev pub remember : Renderer → Seen → Renderer
+remember r None = r
+remember r (Some seen) = record r {
+  last_rows = Some seen.0;
+  origin_widths = latest_origin_widths r.options.terminal_dimensions.1 r.origin_widths seen.1;
+  seen = Some seen.2;
 }
 
--- the renderer after it closed
-abbrev pub closed : Renderer → Renderer
-closed r = record r { standing = []; ended = Some refusals.Closed }
+-- the greatest midpoint of what was seen, or this one if there is no root
+abbrev pub midpoint_in : ℕ → Seen → ℕ
+midpoint_in midpoint None = midpoint
+midpoint_in midpoint (Some seen) = greatest_midpoint seen.0
+
+-- the midpoint after a frame: that of the rows if they were drawn
+abbrev pub midpoint_after : Body → ℕ → Seen → ℕ
+midpoint_after (Draws lines) midpoint seen = midpoint_in midpoint seen
+midpoint_after _ midpoint seen = midpoint
+
+-- a closing frame is the last
+abbrev pub ended_after : Body → Option Refusal → Option Refusal
+ended_after (Closes ending) ended = Some refusals.Closed
+ended_after _ ended = ended
+
+abbrev pub answer_of : Body → Answer
+answer_of (Closes ending) = answers.Ended
+answer_of _ = answers.Drawn
+
+-- the renderer after a frame for what was seen
+abbrev pub after_frame : Renderer → Frame → Seen → Renderer
+after_frame r f seen = record (remember r seen) {
+  widths = widths_after r.widths f;
+  midpoint = midpoint_after f.body r.midpoint seen;
+  ended = ended_after f.body r.ended;
+}
 
 -- the renderer after an input
 abbrev pub next : Renderer → Input → Renderer
-next r (Tick at show (Some seen)) = ticked r show seen.0 seen.1 seen.2
-next r (Tick at show None) = closed r
-next r (Quit at) = closed r
-
-abbrev pub answer_at : Input → Answer
-answer_at (Tick at show (Some seen)) = answers.Drawn
-answer_at (Tick at show None) = answers.Ended
-answer_at (Quit at) = answers.Ended
+next r input = after_frame r (frame_at r input) (seen_by input)
 
 -- the bytes of the frame
 abbrev pub frame_bytes : Renderer → Input → List ℕ
-frame_bytes r input = spelling (frame_signs r.standing (frame_at r input))
+frame_bytes r input = spelling (frame_signs r.widths (frame_at r input))
 
 -- the whole frame is written
-pub record Accepts (r : Renderer) (input : Input) (s : Taken) (given : Answer) (r' : Renderer) (s' : Taken) : Type 0 where
+pub record Accepts (r : Renderer) (input : Input) (s : ScreenState) (answer : Answer) (r' : Renderer) (s' : ScreenState) : Type 0 where
   pub running : r.ended ≡ None
-  pub answer : given ≡ answer_at input
+  pub returned : answer ≡ answer_of (frame_at r input).body
   pub renderer : r' ≡ next r input
-  pub screen : TakesFrame (frame_bytes r input) s s'
+  pub screen : WritesFrame (frame_bytes r input) s s'
 
--- memory is wanted: nothing has changed
-pub record Starves (r : Renderer) (s : Taken) (r' : Renderer) (s' : Taken) : Type 0 where
+-- out of memory: nothing has changed
+pub record RunsOutOfMemory (r : Renderer) (s : ScreenState) (r' : Renderer) (s' : ScreenState) : Type 0 where
   pub running : r.ended ≡ None
   pub renderer : r' ≡ r
   pub screen : s' ≡ s
 
--- refused as every frame since it ended: nothing has changed
-pub record Refuses (r : Renderer) (refusal : Refusal) (s : Taken) (r' : Renderer) (s' : Taken) : Type 0 where
+-- the renderer has ended, and refuses this frame as every other: nothing has changed
+pub record Refuses (r : Renderer) (refusal : Refusal) (s : ScreenState) (r' : Renderer) (s' : ScreenState) : Type 0 where
   pub ended : r.ended ≡ Some refusal
   pub renderer : r' ≡ r
   pub screen : s' ≡ s
 
--- the screen breaks under the frame, and every further frame is refused
-pub record Breaks (r : Renderer) (input : Input) (s : Taken) (r' : Renderer) (s' : Taken) : Type 0 where
+-- the screen breaks during the frame, and the renderer refuses every further frame
+pub record Breaks (r : Renderer) (input : Input) (s : ScreenState) (r' : Renderer) (s' : ScreenState) : Type 0 where
   pub running : r.ended ≡ None
   pub renderer : r' ≡ record r { ended = Some refusals.Broken }
-  pub screen : BreaksUnder (frame_bytes r input) s s'
+  pub screen : BreaksDuring (frame_bytes r input) s s'
 
--- what an input is answered, and what it leaves of the renderer and the screen
-abbrev pub Renders : Renderer → Input → Taken → Result Answer Refusal → Renderer → Taken → Type 0
+-- what is returned for an input, and what it leaves of the renderer and the screen
+abbrev pub Renders : Renderer → Input → ScreenState → Result Answer Refusal → Renderer → ScreenState → Type 0
 Renders r input s (Ok answer) r' s' = Accepts r input s answer r' s'
-Renders r input s (Err refusals.Memory) r' s' = Starves r s r' s'
+Renders r input s (Err refusals.Memory) r' s' = RunsOutOfMemory r s r' s'
 Renders r input s (Err refusals.Closed) r' s' = Refuses r refusals.Closed s r' s'
 Renders r input s (Err refusals.Broken) r' s' = Refuses r refusals.Broken s r' s' ⊎ Breaks r input s r' s'
 Renders r input s (Err _) r' s' = ⊥

@@ -1,4 +1,4 @@
--- Signs, and the bytes that spell them: characters in UTF-8, control functions as in ECMA-48.
+-- The bytes that spell signs: characters in UTF-8, control functions as in ECMA-48.
 use Rattle.std.specs.Prelude.{◌≡◌, ℕ, ◌<◌, ◌^◌, false, ⊤, List, [], ◌∷◌, ◌++◌}
 use Rattle.std.specs.List.{flat_map}
 use Rattle.std.specs.Char.{encode_utf8, IsScalar, is_control}
@@ -6,9 +6,9 @@ use Rattle.std.specs.Fmt.{decimal}
 use Rattle.prodash_line.specs.declared.render.line.page.sign.Sign.{Sign}
 use Rattle.prodash_line.specs.declared.render.line.page.sign.Sign.TheVariants.{Char, LineFeed, CarriageReturn, Up, EraseLine}
 
--- a control sequence: ESC, an opening bracket, what is asked for, and a final letter
+-- a control sequence: ESC, an opening bracket, parameters, and a final byte
 abbrev pub sequence : List ℕ → ℕ → List ℕ
-sequence asked letter = 27 ∷ 91 ∷ asked ++ letter ∷ []
+sequence parameters final_byte = 27 ∷ 91 ∷ parameters ++ final_byte ∷ []
 
 -- the bytes of a sign
 abbrev pub spelling_of : Sign → List ℕ
@@ -22,7 +22,7 @@ spelling_of EraseLine = sequence (50 ∷ []) 75
 abbrev pub spelling : List Sign → List ℕ
 spelling signs = flat_map spelling_of signs
 
--- a character that isn't a control character, a number from 1 to 65535
+-- a sign that can be read back: its character is no control character, its number is from 1 to 65535
 abbrev pub IsProper : Sign → Type 0
 IsProper (Char c) = IsScalar c × (is_control c ≡ false)
 IsProper LineFeed = ⊤

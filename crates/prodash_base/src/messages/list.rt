@@ -1,12 +1,13 @@
 ghost use Rattle.std.specs.Prelude.{◌≡◌, ◌↔◌, IsTrue};
 ghost use Rattle.std.specs.Cmp.{partial_equiv_from_equiv};
-ghost use Rattle.prodash_base.specs.SameMessages.{same_messages_equivalence};
+ghost use Rattle.prodash_base.specs.plumbing.EqualityTests.{equivalence};
+ghost use Rattle.prodash_base.specs.plumbing.SameMessages as same;
 ghost use Rattle.prodash_base.specs.Messages.{same_messages};
 
 use crate::messages::Message;
 use std::marker::Model;
 
-/// A list of messages, as a copy answers it. Contracts see the list.
+/// Messages that were copied from a ring. Contracts see the list.
 #[derive(Debug, Drop)]
 pub struct Messages {
     messages: Vec<Message>,
@@ -15,31 +16,28 @@ pub struct Messages {
 impl Model for Messages {
     ghost use Rattle.std.specs.Prelude.{List};
     ghost use Rattle.prodash_base.specs.declared.messages.Message.{Message};
-    ghost use Rattle.prodash_base.specs.Coding.{coded_messages};
 
     ghost Value = { List Message };
-
-    ghost coded = { coded_messages };
 
     ghost view = { λ s. s.messages.items };
 }
 
 impl Messages {
-    /// The messages of a list.
+    /// Returns the messages of a list.
     pub fn new(messages: Vec<Message>) -> Messages
         ensures { result ≡ messages.items }
     {
         Messages { messages }
     }
 
-    /// The messages as they can be read.
+    /// Returns the messages as a slice.
     pub fn as_slice(&self) -> &[Message]
         ensures { result.now ≡ self.now }
     {
         &self.messages
     }
 
-    /// The messages as a list.
+    /// Returns the messages as a list.
     pub fn into_vec(self) -> Vec<Message>
         ensures { result.items ≡ self }
     {
@@ -50,9 +48,9 @@ impl Messages {
 impl PartialEq for Messages {
     ghost eq = { same_messages };
 
-    ghost laws = { partial_equiv_from_equiv same_messages_equivalence };
+    ghost laws = { partial_equiv_from_equiv (equivalence same.messages) };
 
-    /// Whether the two say the same.
+    /// Returns whether both have the same messages in the same order.
     fn eq(&self, other: &Messages) -> bool
         ensures value { result ≡ same_messages self.now other.now }
         ensures exact { IsTrue result ↔ (self.now ≡ other.now) }
@@ -62,5 +60,5 @@ impl PartialEq for Messages {
 }
 
 impl Eq for Messages {
-    ghost laws = { same_messages_equivalence };
+    ghost laws = { equivalence same.messages };
 }

@@ -11,8 +11,8 @@ use circular_buffer::HeapCircularBuffer;
 use std::alloc::{AllocError, Global};
 use std::marker::Model;
 
-/// How many pushes a copy has seen, so that the next one gives the later ones alone. Contracts see
-/// the number.
+/// The number of pushes that a copy has seen. The next copy takes it and returns later messages
+/// only. Contracts see the number.
 #[derive(Clone, Copy, Debug, PartialEq, Eq)]
 pub struct MessageCopyState {
     seen: u64,
@@ -29,14 +29,14 @@ impl Model for MessageCopyState {
 }
 
 impl MessageCopyState {
-    /// The state in which this many pushes were seen.
+    /// Returns the state of a copy that has seen `pushed` pushes.
     pub fn new(pushed: u64) -> MessageCopyState
         ensures { result ≡ pushed }
     {
         MessageCopyState { seen: pushed }
     }
 
-    /// How many pushes were seen.
+    /// Returns the number of pushes that the copy has seen.
     pub fn pushed(&self) -> u64
         ensures { result ≡ self.now }
     {
@@ -44,8 +44,19 @@ impl MessageCopyState {
     }
 }
 
-/// The latest messages, of which a new one replaces the oldest once all places are taken, and how
-/// many there ever were.
+/// A ring of the latest messages, which also counts all pushes. Once it is full, a push replaces
+/// the oldest message. Contracts see its capacity, its messages and the count.
+///
+/// ```rust
+/// let mut ring = MessageRingBuffer::with_capacity(alloc, 20)?;
+/// let mut messages = Vec::new(alloc);
+/// ring.push_overwrite(alloc, 0, MessageLevel::Info, "task", "started")?;
+/// let state = ring.copy_new(alloc, &mut messages, None)?;
+/// ring.push_overwrite(alloc, 5, MessageLevel::Success, "task", "done")?;
+/// ring.copy_new(alloc, &mut messages, Some(state))?;
+/// assert_eq!(rt; messages.len(), 1);
+/// assert_eq!(rt; messages[0].message.as_str(), "done");
+/// ```
 #[derive(Debug, Drop)]
 pub struct MessageRingBuffer {
     ring: HeapCircularBuffer<Message>,
@@ -55,19 +66,18 @@ pub struct MessageRingBuffer {
 impl Model for MessageRingBuffer {
     ghost use Rattle.std.specs.Prelude.{◌≡◌, min, length};
     ghost use Rattle.prodash_base.specs.Rings.{Ring};
-    ghost use Rattle.prodash_base.specs.Coding.{coded_ring};
 
     ghost Value = { Ring };
 
-    ghost coded = { coded_ring };
-
-    ghost view = { λ b. record { capacity = b.ring.capacity; messages = b.ring.items; pushed = b.pushed } };
+    ghost view = { λ b.
+        record { capacity = b.ring.capacity; messages = b.ring.items; pushed = b.pushed } };
 
     ghost invariant = { λ b. length b.ring.items ≡ min b.ring.capacity b.pushed };
 }
 
 impl MessageRingBuffer {
-    /// An empty ring of this capacity.
+    /// Returns an empty ring for at most `capacity` messages, or `Refusal::Memory` if out of
+    /// memory.
     pub fn with_capacity(alloc: Global, capacity: usize) -> Result<MessageRingBuffer, Refusal>
         ensures ok { IfOk result (λ ring. ring ≡ new_ring capacity) }
         ensures err { IfErr result (λ e. e ≡ Refusal.Memory) }
@@ -76,7 +86,7 @@ impl MessageRingBuffer {
         Ok(MessageRingBuffer { ring, pushed: 0 })
     }
 
-    /// How many messages the ring keeps at most.
+    /// Returns the most messages that the ring keeps.
     pub fn capacity(&self) -> usize
         ensures value { result ≡ self.now.capacity }
         ensures bound { result < 2 ^ 63 }
@@ -84,7 +94,7 @@ impl MessageRingBuffer {
         self.ring.capacity()
     }
 
-    /// How many messages were pushed, kept or not.
+    /// Returns the number of messages that were ever pushed, including those replaced since.
     pub fn pushed(&self) -> u64
         ensures value { result ≡ self.now.pushed }
         ensures kept { length self.now.messages ≡ min self.now.capacity result }
@@ -92,7 +102,9 @@ impl MessageRingBuffer {
         self.pushed
     }
 
-    /// Adds a message. A ring that can't count further says so before it asks for memory.
+    /// Adds a message, which replaces the oldest if the ring is full. Returns
+    /// `Refusal::TooManyMessages` if 2^64 - 1 messages were pushed already, and else
+    /// `Refusal::Memory` if out of memory. A refusal leaves the ring unchanged.
     pub fn push_overwrite(
         &mut self,
         alloc: Global,
@@ -101,7 +113,8 @@ impl MessageRingBuffer {
         origin: &str,
         message: &str,
     ) -> Result<(), Refusal>
-        ensures ok { OnOk result (self.new ≡ push self.old (message_of at level origin.now message.now)) }
+        ensures ok { OnOk result
+            (self.new ≡ push self.old (message_of at level origin.now message.now)) }
         ensures too_many { (result ≡ Err Refusal.TooManyMessages) ↔ (self.old.pushed ≡ u64.MAX) }
         ensures reason { IfErr result (λ e. (e ≡ Refusal.Memory) ⊎ (e ≡ Refusal.TooManyMessages)) }
         ensures err { OnErr result (self.new ≡ self.old) }
@@ -121,7 +134,8 @@ impl MessageRingBuffer {
         Ok(())
     }
 
-    /// Replaces the list by all messages that are kept, the oldest first.
+    /// Replaces the contents of `out` with all messages of the ring, the oldest first. Returns
+    /// `Refusal::Memory` if out of memory, and then leaves `out` unchanged.
     pub fn copy_all(&self, alloc: Global, out: &mut Vec<Message>) -> Result<(), Refusal>
         ensures ok { OnOk result (out.new.items ≡ self.now.messages) }
         ensures reason { IfErr result (λ e. e ≡ Refusal.Memory) }
@@ -131,9 +145,11 @@ impl MessageRingBuffer {
         Ok(())
     }
 
-    /// Replaces the list by the messages that are kept of those pushed since the state was
-    /// answered, the oldest first; without a state, by all that are kept. Answers the state for the
-    /// next copy.
+    /// Replaces the contents of `out` with the messages of the ring that were pushed since the
+    /// copy that returned `previous`, the oldest first, or with all its messages if `previous` is
+    /// `None`. Returns the state for the next copy. A state that has seen more pushes than there
+    /// were leaves `out` empty. Returns `Refusal::Memory` if out of memory, and then leaves `out`
+    /// unchanged.
     pub fn copy_new(
         &self,
         alloc: Global,
@@ -145,17 +161,16 @@ impl MessageRingBuffer {
         ensures reason { IfErr result (λ e. e ≡ Refusal.Memory) }
         ensures err { OnErr result (out.new.items ≡ out.old.items) }
     {
-        let new = match previous {
-            None => self.pushed,
-            Some(state) => self.pushed.saturating_sub(state.seen),
-        };
+        let seen = previous.map_or(0, |state| state.seen);
+        let new = self.pushed.saturating_sub(seen);
         let skipped = (self.ring.len() as u64).saturating_sub(new) as usize;
         *out = copies(alloc, &self.ring, skipped)?;
         Ok(MessageCopyState { seen: self.pushed })
     }
 }
 
-/// Copies of the messages but for the oldest so many.
+/// Returns copies of all messages but the `skipped` oldest ones, or an `AllocError` if out of
+/// memory.
 fn copies(
     alloc: Global,
     ring: &HeapCircularBuffer<Message>,
@@ -170,7 +185,8 @@ fn copies(
     Ok(list)
 }
 
-/// A law: a ring keeps the last of all messages that were ever pushed, and counts them all.
+/// A law of rings: a ring keeps the last of all messages that were ever pushed, at most as many as
+/// its capacity, and counts them all.
 pub fn rings_keep_the_last()
     ensures next { (capacity : ℕ) (all : List Message) (m : Message)
         → push (ring_of capacity all) m ≡ ring_of capacity (all ++ m ∷ []) }
@@ -178,8 +194,8 @@ pub fn rings_keep_the_last()
         → fold push (new_ring capacity) all ≡ ring_of capacity all }
 {}
 
-/// A law: a copy gives what is new since its state, as far as it is kept; that is the last of what
-/// came after the pushes that were seen.
+/// A law of copies: a copy whose state has seen the first `seen` pushes gives the last of the later
+/// ones, at most as many as the ring's capacity.
 pub fn copies_give_what_is_new()
     ensures new { (capacity seen : ℕ) (all : List Message)
         → messages_since (ring_of capacity all) (Some seen) ≡ new_since capacity all seen }
@@ -187,11 +203,14 @@ pub fn copies_give_what_is_new()
         → new_since capacity all seen ≡ latest_messages capacity (drop seen all) }
 {}
 
-/// A law: after further pushes, a copy with the state from before them gives the last of them, and
-/// nothing that was pushed earlier.
+/// A law of two copies: the second, with the state of the first, gives the last of the messages
+/// pushed between them, at most as many as the ring's capacity, and none that was pushed before
+/// the first.
 pub fn no_push_is_given_twice()
     ensures copies { (capacity : ℕ) (before after : List Message)
-        → messages_since (ring_of capacity (before ++ after)) (Some (ring_of capacity before).pushed) ≡ latest_messages capacity after }
+        → messages_since (ring_of capacity (before ++ after))
+        (Some (ring_of capacity before).pushed)
+        ≡ latest_messages capacity after }
     ensures pushes { (capacity : ℕ) (before after : List Message)
         → new_since capacity (before ++ after) (length before) ≡ latest_messages capacity after }
 {}

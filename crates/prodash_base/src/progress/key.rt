@@ -4,8 +4,8 @@ ghost use Rattle.std.specs.Cmp.Lexicographic.{pointwise, slice_cmp, nat_list_cmp
 ghost use Rattle.std.specs.Cmp.{partial_equiv_from_equiv};
 ghost use Rattle.std.specs.Cmp.Rules.{comparing};
 ghost use Rattle.std.proofs.Common.{rules};
-ghost use Rattle.prodash_base.specs.Path.{child, SharesPrefix};
-ghost use Rattle.prodash_base.specs.KeyHash.{key_alike};
+ghost use Rattle.prodash_base.specs.Path.{max_level, IsPath, child, SharesPrefix};
+ghost use Rattle.prodash_base.specs.plumbing.KeyHash.{key_alike};
 ghost use Rattle.std.specs.Hash as fed;
 
 use std::cmp::Ordering;
@@ -13,11 +13,20 @@ use std::hash::{Hash, Hasher};
 use std::marker::Model;
 use std::ops::Index;
 
-/// How deep in the hierarchy an item stands, as the count of its key's numbers.
+/// The depth of an item in the tree, from 0 at the root to 6: the count of its key's numbers.
 pub type Level = u8;
 
-/// The place of an item in the tree: at most six numbers, from the root down. Contracts see it as
-/// the list of its numbers, its path.
+/// The place of an item in the tree: at most six numbers, which name the item and its ancestors
+/// from the root down. Keys are ordered like slices of their numbers. Contracts see a key as the
+/// list of its numbers, its path.
+///
+/// ```rust
+/// let parent = Key::default().add_child(3);
+/// let key = parent.add_child(7);
+/// assert_eq!(rt; key.level(), 2);
+/// assert_eq!(rt; key[2], 7);
+/// assert!(rt; key.shares_parent_with(&parent.add_child(8), 1));
+/// ```
 #[derive(Clone, Copy, Debug)]
 pub struct Key {
     numbers: [u16; 6],
@@ -42,7 +51,7 @@ impl Model for Key {
 impl Default for Key {
     ghost is_default = { λ key. key ≡ [] };
 
-    /// The key of the root, which has no number.
+    /// Returns the key of the root, which has no numbers.
     fn default() -> Key {
         Key {
             numbers: [0; 6],
@@ -52,48 +61,45 @@ impl Default for Key {
 }
 
 impl Key {
-    /// The key of a child with this number. Past the sixth level it takes the place of a sibling.
+    /// Returns the key of the child with number `n`. A key of the deepest level has no children:
+    /// the call then returns the key of its sibling with that number.
     pub fn add_child(self, n: u16) -> Key
-        ensures { result ≡ child self n }
+        ensures value { result ≡ child self n }
+        ensures path { IsPath result }
     {
         let mut numbers = self.numbers;
-        if self.level < Key::max_level() {
-            numbers[usize::from(self.level)] = n;
-            Key {
-                numbers,
-                level: self.level + 1,
-            }
-        } else {
-            numbers[5] = n;
-            Key { numbers, level: 6 }
-        }
+        let level = (self.level + 1).min(Key::max_level());
+        numbers[usize::from(level) - 1] = n;
+        Key { numbers, level }
     }
 
-    /// How many numbers the key has.
+    /// Returns the count of the key's numbers.
     pub fn level(&self) -> Level
         ensures value { result ≡ length self.now }
-        ensures bound { result ≤ 6 }
+        ensures bound { result ≤ max_level }
+        ensures path { IsPath self.now }
     {
         self.level
     }
 
-    /// Whether both keys have at least `parent_level` numbers, and the first that many agree.
+    /// Returns whether both keys have at least `parent_level` numbers and agree on the first
+    /// `parent_level` of them.
     pub fn shares_parent_with(&self, other: &Key, parent_level: Level) -> bool
         ensures { IsTrue result ↔ SharesPrefix parent_level self.now other.now }
     {
-        let front = usize::from(parent_level);
+        let level = usize::from(parent_level);
         let (own, others) = (self.numbers(), other.numbers());
-        front <= own.len() && front <= others.len() && own[..front] == others[..front]
+        level <= own.len() && level <= others.len() && own[..level] == others[..level]
     }
 
-    /// How many numbers a key has at most.
+    /// Returns the most numbers that a key has, which is 6.
     pub const fn max_level() -> Level
-        ensures { result ≡ 6 }
+        ensures { result ≡ max_level }
     {
         6
     }
 
-    /// The numbers, from the root down.
+    /// Returns the key's numbers, from the root down.
     pub(crate) fn numbers(&self) -> &[u16]
         ensures { result.now ≡ self.now }
     {
@@ -108,7 +114,7 @@ impl Index<Level> for Key {
 
     ghost index_gives = { λ key level n. n ≡ slice_index key (level - 1) };
 
-    /// The number at a level, from 1 to the key's own.
+    /// Returns the number at a level between 1 and the key's own.
     fn index(&self, level: Level) -> &u16 {
         &self.numbers[usize::from(level) - 1]
     }

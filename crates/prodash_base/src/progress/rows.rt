@@ -1,13 +1,20 @@
 ghost use Rattle.std.specs.Prelude.{◌≡◌, ◌↔◌, IsTrue};
 ghost use Rattle.std.specs.Cmp.{partial_equiv_from_equiv};
-ghost use Rattle.prodash_base.specs.SameRows.{same_rows_equivalence};
+ghost use Rattle.prodash_base.specs.plumbing.EqualityTests.{equivalence};
+ghost use Rattle.prodash_base.specs.plumbing.SameRows as same;
 ghost use Rattle.prodash_base.specs.Rows.{rows_of, same_rows};
 
 use crate::progress::Row;
 use std::marker::Model;
 
-/// A list of rows, as a snapshot answers it. Contracts see the list of paths with what the entries
-/// there say.
+/// The rows of a snapshot. Contracts see the list of their paths and entries.
+///
+/// ```rust
+/// let mut list = Vec::new(alloc);
+/// list.push(row)?;
+/// let rows = Rows::new(list);
+/// assert_eq!(rt; rows.as_slice().len(), 1);
+/// ```
 #[derive(Debug, Drop)]
 pub struct Rows {
     rows: Vec<Row>,
@@ -16,31 +23,28 @@ pub struct Rows {
 impl Model for Rows {
     ghost use Rattle.std.specs.Prelude.{List};
     ghost use Rattle.prodash_base.specs.Rows.{PathRow, rows_of};
-    ghost use Rattle.prodash_base.specs.Coding.{coded_rows};
 
     ghost Value = { List PathRow };
-
-    ghost coded = { coded_rows };
 
     ghost view = { λ s. rows_of s.rows.items };
 }
 
 impl Rows {
-    /// The rows of a list.
+    /// Returns the rows of a list.
     pub fn new(rows: Vec<Row>) -> Rows
         ensures { result ≡ rows_of rows.items }
     {
         Rows { rows }
     }
 
-    /// The rows as they can be read.
+    /// Returns the rows as a slice.
     pub fn as_slice(&self) -> &[Row]
         ensures { rows_of result.now ≡ self.now }
     {
         self.rows.as_slice()
     }
 
-    /// The rows as a list.
+    /// Returns the rows as a list.
     pub fn into_vec(self) -> Vec<Row>
         ensures { rows_of result.items ≡ self }
     {
@@ -51,9 +55,9 @@ impl Rows {
 impl PartialEq for Rows {
     ghost eq = { same_rows };
 
-    ghost laws = { partial_equiv_from_equiv same_rows_equivalence };
+    ghost laws = { partial_equiv_from_equiv (equivalence same.rows) };
 
-    /// Whether the two say the same.
+    /// Returns whether both have the same paths and entries.
     fn eq(&self, other: &Rows) -> bool
         ensures value { result ≡ same_rows self.now other.now }
         ensures exact { IsTrue result ↔ (self.now ≡ other.now) }
@@ -63,5 +67,5 @@ impl PartialEq for Rows {
 }
 
 impl Eq for Rows {
-    ghost laws = { same_rows_equivalence };
+    ghost laws = { equivalence same.rows };
 }

@@ -50,7 +50,7 @@ enum Ending {
 }
 
 impl Ending {
-    ghost use Rattle.prodash_line.specs.Endings.{refusal_of};
+    ghost use Rattle.prodash_line.specs.plumbing.Endings.{refusal_of};
 
     /// With what frames are refused.
     fn refusal(self) -> Refusal
@@ -66,12 +66,10 @@ impl Ending {
 impl Model for State {
     ghost use Rattle.std.specs.Option.{option_map};
     ghost use Rattle.prodash_line.specs.Renderer.{Renderer};
-    ghost use Rattle.prodash_line.specs.Endings.{refusal_of};
-    ghost use Rattle.prodash_line.specs.Coding.{coded_renderer};
+    ghost use Rattle.prodash_line.specs.plumbing.Endings.{refusal_of};
 
     ghost Value = { Renderer };
 
-    ghost coded = { coded_renderer };
 
     ghost view = { λ s. record {
       options = s.options;

@@ -1,7 +1,7 @@
-//! The page: signs, the bytes that spell them, and the rows that they write.
+//! Signs, the bytes that spell them, and a page on which they are written.
 ghost use Rattle.std.specs.Prelude.{◌≡◌, ◌+◌, ◌-◌, ◌<◌, ◌≤◌, [], length, slice_index_or, slice_set, IfOk, IfErr, OnOk, OnErr, MatchOption, IsTrue};
 ghost use Rattle.prodash_base.specs.declared.refusal.Refusal.TheVariants.{Memory};
-ghost use Rattle.prodash_line.specs.Cells.{cells};
+ghost use Rattle.prodash_line.specs.plumbing.Cells.{cells};
 ghost use Rattle.prodash_line.specs.Page.{blank, blank_page, with_row, with_char, after_sign, adds_row};
 
 mod reading;
@@ -15,9 +15,22 @@ pub use reading::{Fault, one_spelling, read};
 pub use sign::Sign;
 use std::alloc::{AllocError, Global};
 use std::marker::Model;
+pub(crate) use writing::push_sign;
 pub use writing::spell;
 
-/// All rows ever, of which the last are the window, and a cursor.
+/// A page on which signs are written: all rows ever, of which the last are the window, and a
+/// cursor.
+///
+/// ```rust
+/// // 40 columns, and a window of 4 rows.
+/// let mut page = Page::new(alloc, 40, 4)?;
+/// for sign in &read(alloc, b"ab\n\x1b[1A")? {
+///     page.apply(alloc, sign)?;
+/// }
+/// // The row `ab` and 38 blanks, with the cursor back at its beginning.
+/// let row = page.row(0);
+/// let cursor = page.cursor();
+/// ```
 #[derive(Drop)]
 pub struct Page {
     columns: u16,
@@ -32,20 +45,21 @@ impl Model for Page {
 
     ghost Value = { Canvas };
 
-    ghost use Rattle.prodash_line.specs.PageInside.{canvas, IsPage};
+    ghost use Rattle.prodash_line.specs.plumbing.PageInside.{canvas, IsPage};
 
     ghost view = { canvas };
 
     ghost invariant = { IsPage };
 }
 
+/// Returns a blank row. It fails if it is out of memory.
 fn blank_row(alloc: Global, columns: u16) -> Result<Vec<char>, AllocError>
     ensures { IfOk result (λ row. row.items ≡ blank columns) }
 {
     Ok(vec![in alloc; ' '; columns as usize]?)
 }
 
-/// Adds a blank row where there is none.
+/// Adds a blank row below the last if the row isn't there. It fails if it is out of memory.
 fn add_row(
     alloc: Global,
     rows: &mut Vec<Vec<char>>,
@@ -85,7 +99,9 @@ fn erase_row(rows: &mut Vec<Vec<char>>, columns: u16, row: usize)
 }
 
 impl Page {
-    /// A page of blank rows, with the cursor at its beginning.
+    /// Returns a page of `rows` blank rows, all in the window, with the cursor at its beginning.
+    ///
+    /// `Memory`: it is out of memory.
     pub fn new(alloc: Global, columns: u16, rows: u16) -> Result<Self, Refusal>
         requires wide { 0 < columns }
         requires high { 0 < rows }
@@ -106,13 +122,15 @@ impl Page {
         })
     }
 
-    /// Writes one sign. A refusal leaves the page as it was.
+    /// Writes one sign.
+    ///
+    /// `Memory`: it is out of memory, and the page is as it was.
     pub fn apply(&mut self, alloc: Global, sign: &Sign) -> Result<(), Refusal>
         ensures ok { OnOk result (self.new ≡ after_sign sign.now self.old) }
         ensures err { OnErr result (self.new ≡ self.old) }
         ensures refusal { IfErr result (λ e. e ≡ Memory) }
 
-        // Memory is wanted for a new row alone.
+        // Only a new row needs memory.
         ensures needed { OnErr result (IsTrue (adds_row sign.now self.old)) }
     {
         match *sign {
@@ -139,7 +157,7 @@ impl Page {
         Ok(())
     }
 
-    /// The row at a place, counted from the first row ever.
+    /// Returns row `n`, counted from the first row ever, if it is there.
     pub fn row(&self, n: usize) -> Option<&[char]>
         ensures { MatchOption result (length self.now.rows ≤ n)
             (λ row. (n < length self.now.rows) × (row.now ≡ slice_index_or self.now.rows n [])) }
@@ -148,21 +166,22 @@ impl Page {
         Some(row.as_slice())
     }
 
-    /// How many rows there ever were.
+    /// Returns how many rows there have ever been.
     pub fn rows(&self) -> usize
         ensures { result ≡ length self.now.rows }
     {
         self.rows.len()
     }
 
-    /// The first row of the window.
+    /// Returns the first row of the window, counted from the first row ever.
     pub fn top(&self) -> usize
         ensures { result ≡ length self.now.rows - self.now.height }
     {
         self.rows().saturating_sub(self.height as usize)
     }
 
-    /// The cursor's row, counted from the first row ever, and its column.
+    /// Returns the cursor's row, counted from the first row ever, and its column. After a
+    /// character in the last column, the column is the number of columns.
     pub fn cursor(&self) -> (usize, u16)
         ensures { result ≡ (self.now.row, self.now.column) }
     {

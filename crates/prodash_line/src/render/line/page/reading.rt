@@ -1,4 +1,4 @@
-//! Bytes are read as signs.
+//! Reads bytes as signs.
 ghost use Rattle.std.specs.Prelude.{◌≡◌, ℕ, ◌<◌, ◌≤◌, ◌^◌, List, ◌∷◌, ◌++◌, length, take, drop, MatchOption};
 ghost use Rattle.std.specs.Char.{encode_utf8};
 ghost use Rattle.std.specs.Fmt.{decimal};
@@ -11,12 +11,12 @@ ghost use Rattle.prodash_line.specs.declared.render.line.page.sign.Sign.{Sign};
 use super::sign::Sign;
 use std::alloc::{AllocError, AllocFailed, Global};
 
-/// Why bytes were not read.
+/// Why bytes could not be read as signs.
 #[derive(Clone, Copy, Debug, PartialEq, Eq)]
 pub enum Fault {
-    /// The bytes before this place are signs, and none begins here.
+    /// The bytes before this index spell signs, and those from it on begin with none.
     At(usize),
-    /// A growth was refused.
+    /// It is out of memory.
     Memory,
 }
 
@@ -40,10 +40,11 @@ impl<T: Drop> From<AllocFailed<T>> for Fault {
     }
 }
 
-/// The longest front that is text.
-fn text_front(bytes: &[u8]) -> &str
+/// Returns the longest prefix that is text.
+fn text_prefix(bytes: &[u8]) -> &str
     ensures begins { bytes.now ≡ result.now ++ drop (length result.now) bytes.now }
-    ensures longest { (m : ℕ) → length result.now < m → m ≤ length bytes.now → IsUtf8 (take m bytes.now) → ⊥ }
+    ensures longest { (m : ℕ) → length result.now < m → m ≤ length bytes.now
+        → IsUtf8 (take m bytes.now) → ⊥ }
 {
     match str::from_utf8(bytes) {
         Ok(text) => text,
@@ -54,65 +55,56 @@ fn text_front(bytes: &[u8]) -> &str
     }
 }
 
-/// The character at the front, and the bytes behind it.
+/// Returns the character that the bytes begin with, and the bytes after it.
 fn char_at(bytes: &[u8]) -> Option<(char, &[u8])>
-    ensures { MatchOption result (NoCharAt bytes.now) (λ x. bytes.now ≡ encode_utf8 x.0 ++ x.1.now) }
+    ensures { MatchOption result (NoCharAt bytes.now)
+        (λ x. bytes.now ≡ encode_utf8 x.0 ++ x.1.now) }
 {
-    let front = &bytes[..bytes.len().min(4)];
-    match text_front(front).chars().next() {
-        Some(c) => Some((c, &bytes[c.len_utf8()..])),
-        None => None,
-    }
+    let prefix = &bytes[..bytes.len().min(4)];
+    let c = text_prefix(prefix).chars().next()?;
+    Some((c, &bytes[c.len_utf8()..]))
 }
 
-/// The number that these digits are, if it is one from 1 to 65535 without leading zeros.
-fn number_of(parameters: &[u8]) -> Option<u16>
+/// Returns the number from 1 to 65535 that the digits spell, without leading zeros.
+fn number_of(digits: &[u8]) -> Option<u16>
     ensures { MatchOption result
-        ((n : ℕ) → 0 < n → n < 2 ^ 16 → decimal n ≡ parameters.now → ⊥)
-        (λ n. (0 < n) × (decimal n ≡ parameters.now)) }
+        ((n : ℕ) → 0 < n → n < 2 ^ 16 → decimal n ≡ digits.now → ⊥)
+        (λ n. (0 < n) × (decimal n ≡ digits.now)) }
 {
-    if parameters.is_empty() || parameters[0] <= b'0' {
+    if digits.is_empty() || digits[0] <= b'0' {
         return None;
     }
-    match str::from_utf8(parameters) {
-        Ok(text) => match text.parse::<u16>() {
-            Ok(n) => Some(n),
-            Err(_) => None,
-        },
-        Err(_) => None,
-    }
+    str::from_utf8(digits).ok()?.parse::<u16>().ok()
 }
 
-/// The sign whose sequence has these parameters and this final byte.
+/// Returns the sign whose sequence has these parameters and this final byte.
 fn sign_of(parameters: &[u8], final_byte: u8) -> Option<Sign>
     ensures { MatchOption result (MakesNone parameters.now final_byte)
         (λ s. IsProper s × (spelling_of s ≡ sequence parameters.now final_byte)) }
 {
     let is_two = parameters == b"2".as_slice();
     match final_byte {
-        b'A' => match number_of(parameters) {
-            Some(n) => Some(Sign::Up(n)),
-            None => None,
-        },
+        b'A' => Some(Sign::Up(number_of(parameters)?)),
         b'K' if is_two => Some(Sign::EraseLine),
         _ => None,
     }
 }
 
-fn is_parameter(b: u8) -> bool
-    ensures { result ≡ is_parameter b }
+fn is_parameter(byte: u8) -> bool
+    ensures { result ≡ is_parameter byte }
 {
-    matches!(b, b'0'..=b'?')
+    matches!(byte, b'0'..=b'?')
 }
 
-/// How many parameter bytes stand at the front.
+/// Returns how many parameter bytes the bytes begin with.
 fn parameters_len(bytes: &[u8]) -> usize
     ensures { result ≡ prefix_len is_parameter bytes.now }
 {
     bytes.iter().take_while(|b| is_parameter(**b)).count()
 }
 
-/// The sign whose sequence goes on with these bytes behind an escape and a bracket.
+/// Returns the sign whose sequence begins with `ESC [` and goes on with these bytes, and the bytes
+/// after it.
 fn sequence_at(bytes: &[u8]) -> Option<(Sign, &[u8])>
     ensures { MatchOption result (NoSequenceAt bytes.now)
         (λ x. IsSignAt (27 ∷ 91 ∷ bytes.now) x.0 x.1.now) }
@@ -121,13 +113,11 @@ fn sequence_at(bytes: &[u8]) -> Option<(Sign, &[u8])>
     if len >= bytes.len() {
         return None;
     }
-    match sign_of(&bytes[..len], bytes[len]) {
-        Some(sign) => Some((sign, &bytes[len + 1..])),
-        None => None,
-    }
+    let sign = sign_of(&bytes[..len], bytes[len])?;
+    Some((sign, &bytes[len + 1..]))
 }
 
-/// The sign at the front, and the bytes behind it.
+/// Returns the sign that the bytes begin with, and the bytes after it.
 fn sign_at(bytes: &[u8]) -> Option<(Sign, &[u8])>
     ensures { MatchOption result (NoSignAt bytes.now) (λ x. IsSignAt bytes.now x.0 x.1.now) }
 {
@@ -137,35 +127,35 @@ fn sign_at(bytes: &[u8]) -> Option<(Sign, &[u8])>
     match bytes[0] {
         b'\n' => Some((Sign::LineFeed, &bytes[1..])),
         b'\r' => Some((Sign::CarriageReturn, &bytes[1..])),
-        0x1b => {
-            if bytes.len() < 2 {
+        0x1b => sequence_at(bytes.strip_prefix(b"\x1b[")?),
+        _ => {
+            let (c, rest) = char_at(bytes)?;
+            if c.is_control() {
                 return None;
             }
-            if bytes[1] != b'[' {
-                return None;
-            }
-            sequence_at(&bytes[2..])
+            Some((Sign::Char(c), rest))
         }
-        _ => match char_at(bytes) {
-            Some((c, rest)) => {
-                if c.is_control() {
-                    None
-                } else {
-                    Some((Sign::Char(c), rest))
-                }
-            }
-            None => None,
-        },
     }
 }
 
-/// The signs that the bytes spell, all of the bytes.
+/// Reads all of the bytes as signs.
+///
+/// ```rust
+/// // A character, a line feed, and up by one row.
+/// let signs = read(alloc, b"a\n\x1b[1A")?;
+/// // `At(1)`: a tab is no sign.
+/// let fault = read(alloc, b"a\t");
+/// ```
+///
+/// `At(n)`: the first `n` bytes are the longest prefix that signs spell. `Memory`: it is out of
+/// memory.
 pub fn read(alloc: Global, bytes: &[u8]) -> Result<Vec<Sign>, Fault>
-    // What is read are proper signs that spell the bytes, and a fault lies behind the longest
-    // front that signs spell.
+    // What is read are proper signs that spell the bytes, and a fault is at the end of the longest
+    // prefix that such signs spell.
     ensures reads { Reads bytes.now result }
-    // What proper signs spell is read, unless memory runs out.
-    ensures only { (signs : List Sign) → AreProper signs → spelling signs ≡ bytes.now → Gives signs result }
+    // If proper signs spell the bytes, they are read, unless it is out of memory.
+    ensures only { (signs : List Sign) → AreProper signs → spelling signs ≡ bytes.now
+        → Gives signs result }
 {
     let mut signs = Vec::new(alloc);
     let mut rest = bytes;
@@ -181,7 +171,8 @@ pub fn read(alloc: Global, bytes: &[u8]) -> Result<Vec<Sign>, Fault>
     Ok(signs)
 }
 
-/// No two lists of proper signs spell the same bytes.
+/// States that no two lists of proper signs spell the same bytes.
 pub fn one_spelling()
-    ensures { (ss ts : List Sign) → AreProper ss → AreProper ts → spelling ss ≡ spelling ts → ss ≡ ts }
+    ensures { (ss ts : List Sign) → AreProper ss → AreProper ts → spelling ss ≡ spelling ts
+        → ss ≡ ts }
 {}

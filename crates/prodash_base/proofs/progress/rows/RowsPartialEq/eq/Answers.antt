@@ -1,9 +1,10 @@
-use Rattle.std.proofs.Common.{rules, ◌≡◌, ◌∙◌, sym, ap, List}
+use Rattle.std.proofs.Common.{rules, ◌≡◌, ◌∙◌, sym, List}
 use Rattle.std.specs.Cmp.Lexicographic.{pointwise}
 use Rattle.std.specs.Cmp.Derive.Mapped.{pointwise-map}
 use Rattle.prodash_base.specs.declared.progress.Row.{Row}
 use Rattle.prodash_base.specs.Rows.{row_of, rows_of, same_row, same_rows}
-use Rattle.prodash_base.specs.SameRows.{exact_rows, reflexive_rows}
+use Rattle.prodash_base.specs.plumbing.EqualityTests.{exact}
+use Rattle.prodash_base.specs.plumbing.SameRows as same
 use Rattle.prodash_base.specs.contracts.progress.RowPartialEq.TheImpl as row
 use Rattle.prodash_base.proofs.progress.rows.RowsPartialEq.eq.Goals as goal
 
@@ -17,8 +18,4 @@ pub returns-clause-value : goal.returns-clause-value
 returns-clause-value c = search (rules, same_as_rows)
 
 pub returns-clause-exact : goal.returns-clause-exact
-returns-clause-exact c =
-    let test = returns-clause-value c in (
-      λ yes. exact_rows c.args.self.now c.args.other.now (sym test ∙ yes),
-      λ same. test ∙ ap (λ rows. same_rows rows c.args.other.now) same ∙ reflexive_rows c.args.other.now,
-    )
+returns-clause-exact c = exact same.rows _ c.args.self.now c.args.other.now (returns-clause-value c)

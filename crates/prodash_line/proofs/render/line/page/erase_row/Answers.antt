@@ -1,7 +1,7 @@
 use Rattle.std.proofs.Common.{◌≡◌, ℕ, List, [], set, length, replicate, ap, ◌∙◌, sym, Vec, vec_len, rules}
 use Rattle.std.specs.Global.{Global}
 use Rattle.std.proofs.lemmas.List.{map-set, get_or-map}
-use Rattle.prodash_line.specs.Cells.{cells}
+use Rattle.prodash_line.specs.plumbing.Cells.{cells}
 use Rattle.prodash_line.proofs.render.line.page.erase_row.Goals as goal
 
 pub returns : goal.returns

@@ -2,7 +2,7 @@ use Rattle.std.proofs.Common.{ℕ, List, [], set, ap, ◌∙◌, sym, Vec}
 use Rattle.std.specs.Vec.{with_item}
 use Rattle.std.specs.Global.{Global}
 use Rattle.std.proofs.lemmas.List.{map-set, get_or-map}
-use Rattle.prodash_line.specs.Cells.{cells}
+use Rattle.prodash_line.specs.plumbing.Cells.{cells}
 use Rattle.prodash_line.proofs.render.line.page.write_cell.Goals as goal
 
 pub returns : goal.returns

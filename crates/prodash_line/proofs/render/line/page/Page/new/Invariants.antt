@@ -1,5 +1,5 @@
 use Rattle.std.proofs.Common.{◌≡◌, replicate}
-use Rattle.prodash_line.specs.Cells.{cells}
+use Rattle.prodash_line.specs.plumbing.Cells.{cells}
 use Rattle.prodash_line.specs.Page.{blank}
 use Rattle.prodash_line.proofs.render.line.page.Page.new.Given as goal
 

@@ -1,6 +1,6 @@
 use Rattle.std.proofs.Common.{length, sym, arith}
 use Rattle.std.proofs.lemmas.Bool.{eqb-true, eqb-false}
-use Rattle.prodash_line.proofs.SignFronts.{shorter, longest_is, none_whole, all_read}
+use Rattle.prodash_line.proofs.SignPrefixes.{shorter, longest_is, none_whole, all_read}
 use Rattle.prodash_line.proofs.render.line.page.reading.read.Goals as goal
 
 pub loop-rest-smaller : goal.loop-rest-smaller

@@ -2,8 +2,8 @@ use Rattle.std.proofs.Common.{[], ◌∷◌, refl, arith}
 use Rattle.prodash_line.proofs.Sequences.{makes_none, differs}
 use Rattle.prodash_line.proofs.render.line.page.reading.sign_of.Goals as goal
 
-pub returns-in-None : goal.returns-in-None
-returns-in-None c = makes_none c.args.parameters.now c.args.final_byte (record { up = λ e. c.in-None.ensures; erase = λ e. absurd (omega arith) })
+pub returns-in_err-number_of-in-65 : goal.returns-in_err-number_of-in-65
+returns-in_err-number_of-in-65 c = rw c.from_residual.ensures (makes_none c.args.parameters.now c.args.final_byte (record { up = λ e. c.in_err-number_of-in-65.ensures; erase = λ e. absurd (omega arith) }))
 
 pub returns-in_default : goal.returns-in_default
 returns-in_default c = makes_none c.args.parameters.now c.args.final_byte (record {

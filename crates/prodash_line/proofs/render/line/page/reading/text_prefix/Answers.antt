@@ -1,7 +1,7 @@
 use Rattle.std.proofs.Common.{◌≡◌, length, arith, ap, ◌∙◌}
 use Rattle.std.specs.Prelude.{min}
 use Rattle.std.proofs.lemmas.List.{length-take}
-use Rattle.prodash_line.proofs.render.line.page.reading.text_front.Goals as goal
+use Rattle.prodash_line.proofs.render.line.page.reading.text_prefix.Goals as goal
 
 pub returns-in-Ok-from_utf8-clause-longest : goal.returns-in-Ok-from_utf8-clause-longest
 returns-in-Ok-from_utf8-clause-longest c m l h u =

@@ -1,4 +1,4 @@
--- Why a renderer has ended, as the refusal of every further frame.
+-- The refusal of every further frame, by why the renderer has ended.
 use Rattle.prodash_base.specs.declared.refusal.Refusal.{Refusal}
 use Rattle.prodash_base.specs.declared.refusal.Refusal.TheVariants as refusals
 use Rattle.prodash_line.specs.declared.render.line.draw.Ending.{Ending}

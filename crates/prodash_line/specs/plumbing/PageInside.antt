@@ -1,11 +1,11 @@
--- What a page keeps of its fields, and the value that contracts see of them.
+-- The fields of a page: what contracts see of them, and what always holds of them.
 use Rattle.std.specs.Prelude.{◌≡◌, ◌<◌, ◌≤◌, length}
 use Rattle.std.specs.List.{All}
-use Rattle.prodash_line.specs.Cells.{cells}
+use Rattle.prodash_line.specs.plumbing.Cells.{cells}
 use Rattle.prodash_line.specs.Page.{Canvas}
 use Rattle.prodash_line.specs.declared.render.line.page.Page.TheInside.{Inside}
 
--- the page that the fields are
+-- the page that contracts see
 abbrev pub canvas : Inside → Canvas
 canvas p = record { columns = p.columns; height = p.height; rows = cells p.rows.items; row = p.row; column = p.column }
 

@@ -1,0 +1,4 @@
+pub mod EqualityTests
+pub mod KeyHash
+pub mod SameRows
+pub mod SameMessages
