@@ -6,5 +6,4 @@ pub mod FrameSteps
 pub mod StepLaws
 pub mod RunLaws
 pub mod AllSaid
-pub mod LineLemmas
 pub mod WorkedRuns

@@ -10,7 +10,7 @@ use Rattle.std.specs.BTreeMap.{is_at}
 use Rattle.std.specs.FinMap.{find, get, entries, from_sorted, get-from_entries, get-from_sorted, entries-from_sorted, same_map, slice_cmp-IsAntisymmetric, nat_cmp-IsAntisymmetric}
 use Rattle.std.specs.FinMap.Entries.{is_sorted}
 use Rattle.prodash_base.specs.Path.{Path, path_cmp}
-use Rattle.prodash_base.specs.KeyHash.{same_path}
+use Rattle.prodash_base.specs.plumbing.KeyHash.{same_path}
 use Rattle.prodash_base.specs.Rows.{Entry, PathRow, row_of, rows_of}
 use Rattle.prodash_base.specs.declared.progress.Row.{Row}
 use Rattle.prodash_core.specs.Tables.{pair_of, RowShows, RowsShow, ListsEachOnce, paths_of}

@@ -129,20 +129,22 @@ rendered_fits = record {
       messages = tt;
       body = ((record { plain = record { pieces = (one_char 32 (refl, refl) refl refl, (one_char 97 (refl, refl) refl refl, tt)); columns = refl }; within = omega arith }, tt), omega arith);
     },
-    (record {
-      messages = (
-        record {
-          plain = record {
-            pieces = (one_char 32 (refl, refl) refl refl, (one_char 97 (refl, refl) refl refl, (one_char 32 (refl, refl) refl refl, (one_char 120 (refl, refl) refl refl, tt))));
-            columns = refl;
-          };
-          within = omega arith;
-        },
-        tt,
-      );
-      body = tt;
-    },
-    (record { messages = tt; body = tt }, tt)),
+    (
+      record {
+        messages = (
+          record {
+            plain = record {
+              pieces = (one_char 32 (refl, refl) refl refl, (one_char 97 (refl, refl) refl refl, (one_char 32 (refl, refl) refl refl, (one_char 120 (refl, refl) refl refl, tt))));
+              columns = refl;
+            };
+            within = omega arith;
+          },
+          tt,
+        );
+        body = tt;
+      },
+      (record { messages = tt; body = tt }, tt),
+    ),
   );
   unbroken = refl;
 }

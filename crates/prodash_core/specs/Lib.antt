@@ -1,5 +1,4 @@
 pub mod Tables
 pub mod Trees
-pub mod Coding
 pub mod Sessions
 pub mod Runs

@@ -35,11 +35,13 @@ pub fn run<S: Screen>(
 ) -> Result<Vec<Reply>, Refusal>
     // Each reply is that of a step from the session and the screen that those before it leave.
     ensures steps { IfOk result (λ replies.
-        RunsFromNew options.now events.now replies.items (S.state screen.old) (S.state screen.new)) }
+        RunsFromNew options.now events.now replies.items
+        (S.state screen.old) (S.state screen.new)) }
 
     // The same, for the event at any place of the list.
     ensures each { IfOk result (λ replies.
-        StepsAtEach options.now events.now replies.items (S.state screen.old) (S.state screen.new)) }
+        StepsAtEach options.now events.now replies.items
+        (S.state screen.old) (S.state screen.new)) }
 
     // The run is also that of the events that weren't out of memory.
     ensures accepted { IfOk result (λ replies.
@@ -57,7 +59,8 @@ pub fn run<S: Screen>(
 
     // Each accepted frame with bytes is flushed.
     ensures flushes { IfOk result (λ replies.
-        EachFlushes options.now events.now replies.items (S.state screen.old) (S.state screen.new)) }
+        EachFlushes options.now events.now replies.items
+        (S.state screen.old) (S.state screen.new)) }
 
     // The bytes are those of the frames, whole up to the first that breaks the screen.
     ensures bytes { IfOk result (λ replies.

@@ -27,11 +27,12 @@ pub struct Session {
 
 impl Model for Session {
     ghost use Rattle.prodash_core.specs.Sessions.{SessionState};
-    ghost use Rattle.prodash_core.specs.Coding.{coded_session};
+    ghost use Rattle.std.specs.Coded.{codes};
+    ghost use Rattle.std.specs.FinMap as finite;
 
     ghost Value = { SessionState };
 
-    ghost coded = { coded_session };
+    ghost coded = { Prim.hlevel (codes, finite.code) };
 
     ghost view = { λ s. record { tree = s.tree; renderer = s.renderer } };
 }
@@ -55,7 +56,8 @@ impl Session {
     /// Applies an event and returns the reply. A frame is written to the screen; no other event
     /// touches it. The reply to an event that is refused is `Refused`, with the reason.
     pub fn apply<S: Screen>(&mut self, alloc: Global, event: &Event, screen: &mut S) -> Reply
-        ensures { Steps self.old (S.state screen.old) event.now result self.new (S.state screen.new) }
+        ensures { Steps self.old (S.state screen.old) event.now result
+            self.new (S.state screen.new) }
     {
         match event {
             Event::Tick { at, show } => self.tick(alloc, *at, *show, screen),
@@ -66,7 +68,8 @@ impl Session {
 
     /// Draws the frame of a tick.
     fn tick<S: Screen>(&mut self, alloc: Global, at: Moment, show: bool, screen: &mut S) -> Reply
-        ensures { Steps self.old (S.state screen.old) (Event.Tick at show) result self.new (S.state screen.new) }
+        ensures { Steps self.old (S.state screen.old) (Event.Tick at show) result
+            self.new (S.state screen.new) }
     {
         if let Some(refusal) = self.renderer.ended() {
             return Reply::Refused(refusal);
@@ -82,7 +85,8 @@ impl Session {
 
     /// Draws the frame for an input.
     fn draw<S: Screen>(&mut self, alloc: Global, input: Input, screen: &mut S) -> Reply
-        ensures { RendersFrame self.old input (S.state screen.old) result self.new (S.state screen.new) }
+        ensures { RendersFrame self.old input (S.state screen.old) result
+            self.new (S.state screen.new) }
     {
         match draw::all(alloc, screen, &mut self.renderer, input) {
             Ok(Answer::Drawn) => Reply::Drawn,

@@ -25,11 +25,12 @@ pub struct TreeState {
 
 impl Model for TreeState {
     ghost use Rattle.prodash_core.specs.Trees.{Tree};
-    ghost use Rattle.prodash_core.specs.Coding.{coded_tree};
+    ghost use Rattle.std.specs.Coded.{codes};
+    ghost use Rattle.std.specs.FinMap as finite;
 
     ghost Value = { Tree };
 
-    ghost coded = { coded_tree };
+    ghost coded = { Prim.hlevel (codes, finite.code) };
 
     ghost view = { λ s. record { table = s.table; slots = s.slots; ring = s.ring } };
 }
@@ -124,7 +125,8 @@ impl TreeState {
         alloc: Global,
         previous: Option<MessageCopyState>,
     ) -> Result<(Messages, MessageCopyState), Refusal>
-        ensures ok { IfOk result (λ new. new ≡ (messages_since self.now.ring previous, self.now.ring.pushed)) }
+        ensures ok { IfOk result (λ new.
+            new ≡ (messages_since self.now.ring previous, self.now.ring.pushed)) }
         ensures err { IfErr result (λ e. e ≡ Refusal.Memory) }
     {
         let mut messages = Vec::new(alloc);

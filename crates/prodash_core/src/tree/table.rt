@@ -67,11 +67,11 @@ impl<C> Model for TreeCore<C> {
     ghost use Rattle.std.specs.FinMap as finite;
     ghost use Rattle.prodash_base.specs.Path.{path_cmp};
     ghost use Rattle.prodash_base.specs.Rows.{Entry};
-    ghost use Rattle.prodash_base.specs.Coding.{coded_path, coded_entry};
+    ghost use Rattle.std.specs.Coded.{codes};
 
     ghost Value = { finite.FinMap path_cmp (Entry C) };
 
-    ghost coded = { finite.code coded_path (coded_entry C.code) };
+    ghost coded = { Prim.hlevel (codes, finite.code, C.code) };
 
     ghost use Rattle.prodash_core.specs.Tables.{pair_of};
 
@@ -120,7 +120,8 @@ impl<C: Copy> TreeCore<C> {
         ensures removed { finite.get self.new key ≡ None }
 
         // Every other path keeps its entry, also below the key.
-        ensures others { (path : Path) → path ≢ key → finite.get self.new path ≡ finite.get self.old path }
+        ensures others { (path : Path) → path ≢ key
+            → finite.get self.new path ≡ finite.get self.old path }
     {
         self.tasks.remove(&key).is_some()
     }
@@ -142,7 +143,8 @@ impl<C: Copy> TreeCore<C> {
 
     /// Returns the name of the task at a key, if there is one.
     pub fn name(&self, key: Key) -> Option<&str>
-        ensures { option_map (λ name. name.now) result ≡ option_map (λ e. e.name) (finite.get self.now key) }
+        ensures { option_map (λ name. name.now) result
+            ≡ option_map (λ e. e.name) (finite.get self.now key) }
     {
         match self.tasks.get(&key) {
             None => None,
@@ -168,7 +170,8 @@ impl<C: Copy> TreeCore<C> {
 
 /// Returns the value of a progress.
 fn value_of<C: Copy, N: Counters<C>>(progress: &Option<Counted<C>>, counters: &N) -> Option<Value>
-    ensures { ProgressShows (N.shows counters.now) (option_map counted_of progress.now) (option_map progress_of result) }
+    ensures { ProgressShows (N.shows counters.now) (option_map counted_of progress.now)
+        (option_map progress_of result) }
 {
     match progress {
         None => None,
@@ -186,7 +189,8 @@ fn row_of_task<C: Copy, N: Counters<C>>(
     task: &Task<C>,
     counters: &N,
 ) -> Result<Row, AllocError>
-    ensures { IfOk result (λ row. RowShows (N.shows counters.now) (key, entry_of task.now) (row_of row)) }
+    ensures { IfOk result (λ row.
+        RowShows (N.shows counters.now) (key, entry_of task.now) (row_of row)) }
 {
     Ok(Row {
         key,
@@ -202,7 +206,9 @@ fn hashed_rows<C: Copy, N: Counters<C>>(
     tasks: &HashMap<Key, Task<C>>,
     counters: &N,
 ) -> Result<Vec<Row>, AllocError>
-    ensures rows { IfOk result (λ rows. AllZip (RowShows (N.shows counters.now)) (map pair_of tasks.now.entries) (rows_of rows.items)) }
+    ensures rows { IfOk result (λ rows.
+        AllZip (RowShows (N.shows counters.now)) (map pair_of tasks.now.entries)
+        (rows_of rows.items)) }
     ensures unique { IsUnique (pointwise nat_eq) tasks.now }
 {
     let mut rows = Vec::new(alloc);

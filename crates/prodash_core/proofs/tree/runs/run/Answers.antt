@@ -4,7 +4,8 @@ use Rattle.prodash_core.specs.Sessions.{new_session}
 use Rattle.prodash_core.specs.Runs.{RunsFromNew}
 use Rattle.prodash_core.proofs.RunLaws.{completes_more, completes_all, pushed_is, run_renders, steps_at, accepted_run, accepted_after}
 use Rattle.prodash_core.proofs.AllSaid.{rings_of_prefixes}
-use Rattle.prodash_core.proofs.LineLemmas.{writes_attempts, breaks_exactly, flushes_each, stays_flushed, shows_on_page}
+use Rattle.prodash_line.proofs.Renderings.{writes_attempts, breaks_exactly, flushes_each, stays_flushed}
+use Rattle.prodash_line.proofs.PageRenderings.{shows_on_page}
 use Rattle.prodash_core.proofs.tree.runs.run.Goals as goal
 
 pub loop-event-preserved : goal.loop-event-preserved
