@@ -1,34 +1,78 @@
--- The columns of lines.
-use Rattle.std.proofs.Common.{◌≡◌, ℕ, zero, suc, ◌+◌, ◌≤◌, Bool, true, false, cond, not, ◌&&◌, ◌-◌, List, [], ◌∷◌, ◌++◌, replicate, refl, ap, ◌∙◌, arith}
-use Rattle.std.specs.Prelude.{codes}
-use Rattle.std.specs.List.{list_all}
+-- The widths of lines, and of printable ASCII characters.
+use Rattle.std.proofs.Common.{◌≡◌, ℕ, zero, suc, ◌^◌, ◌+◌, ◌%◌, ◌<◌, ◌≤◌, Bool, true, false, cond, not, ◌&&◌, List, [], ◌∷◌, ◌++◌, length, replicate, chars, refl, sym, ap, ◌∙◌, arith}
 use Rattle.std.specs.Int.{is_in_range}
+use Rattle.std.specs.Fmt.{decimal}
+use Rattle.std.specs.Str.{IsUtf8, IsAscii}
+use Rattle.std.proofs.lemmas.Bool.{and_parts}
 use Rattle.std.proofs.lemmas.Bool.Decides.{nat_tests}
+use Rattle.std.proofs.lemmas.Fmt.{decimal_by_steps}
 use Rattle.std.proofs.lemmas.List.{length-replicate}
-use Rattle.std.proofs.lemmas.List.Sums.{sum_by-append}
+use Rattle.std.proofs.lemmas.List.Sums.{sum_by-append, sum_by-cons}
+use Rattle.std.proofs.lemmas.Str.{chars-IsAscii, IsUtf8-from_ascii}
+use Rattle.std.proofs.lemmas.Str.Ascii.{IsAscii-cons, IsAscii-nil}
 use Rattle.unicode_width.proofs.Computing.{unicode_width}
 use Rattle.unicode_width.specs.declared.state.State.{State}
 use Rattle.unicode_width.specs.Width.{plain, step, read_before, str_width}
 use Rattle.unicode_width.proofs.Rules.{str_width-printable}
-use Rattle.prodash_line.specs.ProgressRows.{bar_with}
-use Rattle.prodash_line.specs.Lines.{Line, piece, spaces, capped, width_of, columns_of}
+use Rattle.prodash_line.specs.Lines.{Piece, Line, capped, width_of, columns_of}
+use Rattle.prodash_line.specs.plumbing.Writing.{is_printable}
 
 pub columns_of-append : (a b : Line) → columns_of (a ++ b) ≡ capped (columns_of a + columns_of b)
 columns_of-append a b = omega (arith, sum_by-append width_of a b)
 
--- one piece
-pub columns_of-piece : (text : List ℕ) → columns_of (piece text ∷ []) ≡ capped (str_width false text)
-columns_of-piece text = omega arith
+-- one piece more
+pub columns_of-last : (line : Line) (p : Piece) → columns_of (line ++ p ∷ []) ≡ capped (columns_of line + width_of p)
+columns_of-last line p = omega (arith, sum_by-append width_of line (p ∷ []), sum_by-cons width_of p [])
 
-printable : (c : ℕ) → 32 ≤ c → c ≤ 126 → is_in_range 0x20 0x7E c ≡ true
-printable c low high = grind (arith, nat_tests)
+-- ---- printable ASCII characters
 
-all_printable : (n c : ℕ) → is_in_range 0x20 0x7E c ≡ true → list_all (is_in_range 0x20 0x7E) (replicate n c) ≡ true
-all_printable zero c h = refl
-all_printable (suc n) c h = ap (λ b. b && list_all (is_in_range 0x20 0x7E) (replicate n c)) h ∙ all_printable n c h
+pub printable-append : (xs ys : List ℕ) → is_printable xs ≡ true → is_printable ys ≡ true → is_printable (xs ++ ys) ≡ true
+printable-append [] ys h i = i
+printable-append (c ∷ cs) ys h i = let parts = and_parts (is_in_range 0x20 0x7E c) (is_printable cs) h in
+    ap (λ b. b && is_printable (cs ++ ys)) parts.0 ∙ printable-append cs ys parts.1 i
+
+in_range : (c : ℕ) → 32 ≤ c → c ≤ 126 → is_in_range 0x20 0x7E c ≡ true
+in_range c low high = grind (arith, nat_tests)
+
+printable-one : (c : ℕ) → 32 ≤ c → c ≤ 126 → is_printable (c ∷ []) ≡ true
+printable-one c low high = ap (λ b. b && true) (in_range c low high)
+
+pub printable-repeated : (n c : ℕ) → 32 ≤ c → c ≤ 126 → is_printable (replicate n c) ≡ true
+printable-repeated zero c low high = refl
+printable-repeated (suc n) c low high = ap (λ b. b && is_printable (replicate n c)) (in_range c low high) ∙ printable-repeated n c low high
+
+pub printable-spaces : (n : ℕ) → is_printable (replicate n 32) ≡ true
+printable-spaces n = printable-repeated n 32 (omega arith) (omega arith)
+
+-- digits are printable
+pub printable-decimal : (n : ℕ) → n < 2 ^ 64 → is_printable (decimal n) ≡ true
+printable-decimal n small =
+    decimal_by_steps (λ n ds. is_printable ds ≡ true) (λ n h. printable-one (48 + n) (omega arith) (omega arith))
+    (λ n ds h e. printable-append ds ((48 + n % 10) ∷ []) e (printable-one (48 + n % 10) (omega arith) (omega arith))) n small
+
+printable-ascii : (text : List ℕ) → is_printable text ≡ true → IsAscii text
+printable-ascii [] h = IsAscii-nil
+printable-ascii (c ∷ cs) h = let parts = and_parts (is_in_range 0x20 0x7E c) (is_printable cs) h in
+    IsAscii-cons c cs (let e = parts.0 in grind (arith, nat_tests, e)) (printable-ascii cs parts.1)
+
+-- they are their own characters
+pub chars-printable : (text : List ℕ) → is_printable text ≡ true → chars text ≡ text
+chars-printable text h = chars-IsAscii text (printable-ascii text h)
+
+pub utf8-printable : (text : List ℕ) → is_printable text ≡ true → IsUtf8 text
+utf8-printable text h = IsUtf8-from_ascii text (printable-ascii text h)
+
+-- their number is their width
+pub width-printable : (text : List ℕ) → is_printable text ≡ true → str_width false text ≡ length text
+width-printable text h = str_width-printable false text h
+
+pub width-ascii : (text : List ℕ) → is_printable text ≡ true → length text ≡ str_width false (chars text)
+width-ascii text h = sym (ap (str_width false) (chars-printable text h) ∙ width-printable text h)
 
 pub width-repeated : (n c : ℕ) → 32 ≤ c → c ≤ 126 → str_width false (replicate n c) ≡ n
-width-repeated n c low high = str_width-printable false (replicate n c) (all_printable n c (printable c low high)) ∙ length-replicate n c
+width-repeated n c low high = width-printable (replicate n c) (printable-repeated n c low high) ∙ length-replicate n c
+
+-- ---- spaces before a text
 
 same_cond : {A : Type 0} (b : Bool) (x : A) → cond b x x ≡ x
 same_cond true x = refl
@@ -39,7 +83,6 @@ step_space : (total : ℕ) (s : State) → step false 32 (total, s) ≡ (total +
 unfolding unicode_width
 step_space total s = same_cond (not s.emoji) (total + 1, plain)
 
--- spaces before a text
 pub width-indented : (n : ℕ) (text : List ℕ) → str_width false (replicate n 32 ++ text) ≡ n + str_width false text
 unfolding str_width
 width-indented zero text = omega arith
@@ -47,37 +90,4 @@ width-indented (suc n) text =
     let r = read_before false (replicate n 32 ++ text) (0, plain) in
     let here : (step false 32 r).0 ≡ r.0 + 1 = ap (λ q. q.0) (step_space r.0 r.1) in
     let others : r.0 ≡ n + str_width false text = width-indented n text in
-    omega arith
-
--- a printable ASCII character so many times
-pub columns_of-repeated : (n c : ℕ) → 32 ≤ c → c ≤ 126 → n ≤ 65535 → columns_of (piece (replicate n c) ∷ []) ≡ n
-columns_of-repeated n c low high fits = omega (arith, width-repeated n c low high)
-
--- a bar with so many cells
-pub columns_of-bar : (full cells : ℕ) → full ≤ cells → cells + 4 ≤ 65535
-    → columns_of (bar_with cells full) ≡ cells + 4
-columns_of-bar full cells within fits =
-    let begins : str_width false (codes " [") ≡ 2 = str_width-printable false (codes " [") refl in
-    let arrow : str_width false (codes ">") ≡ 1 = str_width-printable false (codes ">") refl in
-    let ends : str_width false (codes "]") ≡ 1 = str_width-printable false (codes "]") refl in
-    let filled : str_width false (replicate full 61) ≡ full = width-repeated full 61 (omega arith) (omega arith) in
-    let empty : str_width false (replicate (cells - full) 45) ≡ cells - full = width-repeated (cells - full) 45 (omega arith) (omega arith) in
-    omega arith
-
--- one space and a text behind a line
-pub columns_of-measured : (head : Line) (text : List ℕ) (before spaced after own : ℕ) → before ≡ columns_of head → spaced ≡ capped (before + 1) → after ≡ columns_of (piece text ∷ [])
-    → own ≡ capped (spaced + after) → own ≡ columns_of (head ++ (spaces 1 ∷ piece text ∷ []))
-columns_of-measured head text before spaced after own b s a o =
-    let one : str_width false (replicate 1 32) ≡ 1 = width-repeated 1 32 (omega arith) (omega arith) in
-    let whole : columns_of (head ++ (spaces 1 ∷ piece text ∷ [])) ≡ capped (columns_of head + columns_of (spaces 1 ∷ piece text ∷ [])) = columns_of-append head (spaces 1 ∷ piece text ∷ []) in
-    omega arith
-
--- the same with padding
-pub columns_of-padded : (head : Line) (text : List ℕ) (pad own columns : ℕ) → own ≡ columns_of (head ++ (spaces 1 ∷ piece text ∷ [])) → columns ≡ capped (own + pad)
-    → columns ≡ columns_of (head ++ (spaces 1 ∷ spaces pad ∷ piece text ∷ []))
-columns_of-padded head text pad own columns o c =
-    let padding : str_width false (replicate pad 32) ≡ pad = width-repeated pad 32 (omega arith) (omega arith) in
-    let measured : columns_of (head ++ (spaces 1 ∷ piece text ∷ [])) ≡ capped (columns_of head + columns_of (spaces 1 ∷ piece text ∷ [])) = columns_of-append head (spaces 1 ∷ piece text ∷ []) in
-    let whole : columns_of (head ++ (spaces 1 ∷ spaces pad ∷ piece text ∷ [])) ≡ capped (columns_of head + columns_of (spaces 1 ∷ spaces pad ∷ piece text ∷ [])) =
-    columns_of-append head (spaces 1 ∷ spaces pad ∷ piece text ∷ []) in
     omega arith

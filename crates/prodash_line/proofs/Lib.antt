@@ -1,9 +1,10 @@
 pub mod ScreenTaken
+pub mod LineWriting
+pub mod OverwriteBytes
+pub mod Ticks
 pub mod Written
 pub mod Columns
 pub mod RowLines
-pub mod Joining
-pub mod Composing
 pub mod MessageLines
 pub mod Chars
 pub mod Overwriting

@@ -1,49 +1,46 @@
--- The line of a row with progress, put together from what was appended.
-use Rattle.std.proofs.Common.{◌≡◌, ℕ, ◌+◌, ◌-◌, List, [], ◌∷◌, ◌++◌, Some, chars, ap, sym, ◌∙◌}
+-- The line of a row, from what was appended to it.
+use Rattle.std.proofs.Common.{◌≡◌, ℕ, ◌+◌, ◌-◌, false, true, List, [], ◌∷◌, ◌++◌, Some, length, replicate, ap, sym, ◌∙◌, arith, length-append}
+use Rattle.unicode_width.specs.Width.{str_width}
 use Rattle.prodash_base.specs.Rows.{PathRow, Progress}
-use Rattle.prodash_line.specs.Lines.{piece, spaces, capped, columns_of}
-use Rattle.prodash_line.specs.ProgressRows.{values_of, head_of, padded, bar, midpoint_with, row_line_with}
-use Rattle.prodash_line.specs.Joined.{written}
-use Rattle.prodash_line.proofs.Written.{written_more, written_piece}
-use Rattle.prodash_line.proofs.Columns.{columns_of-append, columns_of-measured, columns_of-padded}
+use Rattle.prodash_line.specs.declared.render.line.draw.line.LineWriter.{LineWriter}
+use Rattle.prodash_line.specs.Lines.{Line, piece, spaces, capped, columns_of}
+use Rattle.prodash_line.specs.ProgressRows.{fraction_of, head_of, padded, bar, midpoint_with, row_line_with}
+use Rattle.prodash_line.specs.plumbing.Writing.{is_printable, Appends, Begun}
+use Rattle.prodash_line.proofs.Columns.{columns_of-append, printable-append, width-printable, width-repeated}
+use Rattle.prodash_line.proofs.LineWriting.{appends_as, appends_then, appends_joined, begun_then, begun_as}
 
--- how far the values go
-pub own_midpoint : (row : PathRow) (p : Progress ℕ) (values : List ℕ) (head spaced text own : ℕ) → chars values ≡ values_of p.counter p.bound
-    → head ≡ columns_of (head_of row) → spaced ≡ capped (head + 1) → text ≡ columns_of (piece (chars values) ∷ []) → own ≡ capped (spaced + text)
-    → own ≡ midpoint_with row (Some p)
-own_midpoint row p values head spaced text own v h s t o =
-    columns_of-measured (head_of row) (values_of p.counter p.bound) head spaced text own h s (t ∙ ap (λ cs. columns_of (piece cs ∷ [])) v) o
+-- the values, part by part
+pub values_append : {a b c d : LineWriter} (p : Progress ℕ) (step slash bound : List ℕ) → fraction_of p.counter p.bound ≡ step ++ (slash ++ bound)
+    → is_printable step ≡ true → is_printable slash ≡ true → is_printable bound ≡ true
+    → Appends a (piece step ∷ []) b → Appends b (piece slash ∷ []) c → Appends c (piece bound ∷ []) d → Appends a (piece (fraction_of p.counter p.bound) ∷ []) d
+values_append p step slash bound v q1 q2 q3 h1 h2 h3 =
+    appends_as (ap (λ t. piece t ∷ []) (sym v)) (appends_joined step (slash ++ bound) q1 (printable-append slash bound q2 q3) h1 (appends_joined slash bound q2 q3 h2 h3))
 
--- how far they go with padding
-pub padded_columns : (row : PathRow) (p : Progress ℕ) (midpoint own pad columns : ℕ) → own ≡ midpoint_with row (Some p) → pad ≡ midpoint - own → columns ≡ capped (own + pad)
-    → columns ≡ columns_of (padded midpoint row p)
-padded_columns row p midpoint own pad columns o e c =
-    columns_of-padded (head_of row) (values_of p.counter p.bound) pad own columns o c
-    ∙ ap (λ n. columns_of (head_of row ++ (spaces 1 ∷ spaces n ∷ piece (values_of p.counter p.bound) ∷ []))) (e ∙ ap (λ n. midpoint - n) o)
+-- how far they go
+pub own_midpoint : {old w : LineWriter} (row : PathRow) (p : Progress ℕ) (step slash bound : List ℕ) (width own : ℕ) → Begun old (head_of row) w
+    → fraction_of p.counter p.bound ≡ step ++ (slash ++ bound) → is_printable step ≡ true → is_printable slash ≡ true → is_printable bound ≡ true
+    → width ≡ length step + length slash + length bound → own ≡ capped (capped (w.width + 1) + width) → own ≡ midpoint_with row (Some p)
+own_midpoint row p step slash bound width own h v q1 q2 q3 e o =
+    let values = step ++ (slash ++ bound) in
+    let tail : Line = spaces 1 ∷ piece values ∷ [] in
+    let more : columns_of (head_of row ++ tail) ≡ capped (columns_of (head_of row) + columns_of tail) = columns_of-append (head_of row) tail in
+    let one : str_width false (replicate 1 32) ≡ 1 = width-repeated 1 32 (omega arith) (omega arith) in
+    let text : str_width false values ≡ length values = width-printable values (printable-append step (slash ++ bound) q1 (printable-append slash bound q2 q3)) in
+    let size : length values ≡ length step + length slash + length bound = omega (arith, length-append step (slash ++ bound), length-append slash bound) in
+    let head = h.writes.width in
+    let same : own ≡ columns_of (head_of row ++ tail) = omega arith in
+    same ∙ ap (λ t. columns_of (head_of row ++ (spaces 1 ∷ piece t ∷ []))) (sym v)
 
--- the bar behind it
-pub bar_is : (row : PathRow) (p : Progress ℕ) (width midpoint columns left : ℕ) → columns ≡ columns_of (padded midpoint row p) → left ≡ width - columns
-    → padded midpoint row p ++ bar left p.counter p.bound ≡ row_line_with width midpoint row (Some p)
-bar_is row p width midpoint columns left c l = ap (λ n. padded midpoint row p ++ bar n p.counter p.bound) (l ∙ ap (λ n. width - n) c)
+-- the line up to the values
+pub padded_begun : {old w1 w2 w3 w4 : LineWriter} (row : PathRow) (p : Progress ℕ) (midpoint pad own : ℕ) → Begun old (head_of row) w1 → own ≡ midpoint_with row (Some p)
+    → pad ≡ midpoint - own → Appends w1 (spaces 1 ∷ []) w2 → Appends w2 (spaces pad ∷ []) w3 → Appends w3 (piece (fraction_of p.counter p.bound) ∷ []) w4
+    → Begun old (padded midpoint row p) w4
+padded_begun row p midpoint pad own h o e one two three =
+    begun_as (ap (λ n. head_of row ++ (spaces 1 ∷ spaces n ∷ piece (fraction_of p.counter p.bound) ∷ [])) (e ∙ ap (λ n. midpoint - n) o))
+    (begun_then h (appends_then one (appends_then two three)))
 
-pub row_written : (row : PathRow) (p : Progress ℕ) (width midpoint own pad columns left : ℕ) (values old headed spaced aligned valued new : List ℕ)
-    → chars values ≡ values_of p.counter p.bound → own ≡ midpoint_with row (Some p) → pad ≡ midpoint - own → columns ≡ columns_of (padded midpoint row p) → left ≡ width - columns
-    → headed ≡ old ++ written (head_of row) → spaced ≡ headed ++ written (spaces 1 ∷ []) → aligned ≡ spaced ++ written (spaces pad ∷ [])
-    → valued ≡ aligned ++ written (piece (chars values) ∷ []) → new ≡ valued ++ written (bar left p.counter p.bound)
-    → new ≡ old ++ written (row_line_with width midpoint row (Some p))
-row_written row p width midpoint own pad columns left values old headed spaced aligned valued new v o e c l e1 e2 e3 e4 e5 =
-    let text = values_of p.counter p.bound in
-    let two = written_more old headed spaced (head_of row) (spaces 1 ∷ []) e1 e2 in
-    let three = written_more old spaced aligned (head_of row ++ spaces 1 ∷ []) (spaces pad ∷ []) two e3 in
-    let four = written_piece old aligned valued ((head_of row ++ spaces 1 ∷ []) ++ spaces pad ∷ []) (chars values) text three v e4 in
-    let same : ((head_of row ++ spaces 1 ∷ []) ++ spaces pad ∷ []) ++ piece text ∷ [] ≡ padded midpoint row p =
-    ap (λ n. head_of row ++ (spaces 1 ∷ spaces n ∷ piece text ∷ [])) (e ∙ ap (λ n. midpoint - n) o) in
-    written_more old valued new (((head_of row ++ spaces 1 ∷ []) ++ spaces pad ∷ []) ++ piece text ∷ []) (bar left p.counter p.bound) four e5
-    ∙ ap (λ line. old ++ written (line ++ bar left p.counter p.bound)) same
-    ∙ ap (λ line. old ++ written line) (bar_is row p width midpoint columns left c l)
-
-pub row_columns : (row : PathRow) (p : Progress ℕ) (width midpoint columns left barred all : ℕ) → columns ≡ columns_of (padded midpoint row p) → left ≡ width - columns
-    → barred ≡ columns_of (bar left p.counter p.bound) → all ≡ capped (columns + barred) → all ≡ columns_of (row_line_with width midpoint row (Some p))
-row_columns row p width midpoint columns left barred all c l b a =
-    a ∙ ap (λ n. capped (n + barred)) c ∙ ap (λ n. capped (columns_of (padded midpoint row p) + n)) b
-    ∙ sym (columns_of-append (padded midpoint row p) (bar left p.counter p.bound)) ∙ ap columns_of (bar_is row p width midpoint columns left c l)
+-- with the bar
+pub row_begun : {old w4 w5 : LineWriter} (row : PathRow) (p : Progress ℕ) (width midpoint left : ℕ) → Begun old (padded midpoint row p) w4 → left ≡ width - w4.width
+    → Appends w4 (bar left p.counter p.bound) w5 → Begun old (row_line_with width midpoint row (Some p)) w5
+row_begun row p width midpoint left h l b =
+    begun_then h (appends_as (ap (λ n. bar n p.counter p.bound) (l ∙ ap (λ n. width - n) h.writes.width)) b)

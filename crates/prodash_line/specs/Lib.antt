@@ -5,7 +5,6 @@ pub mod ProgressRows
 pub mod MessageLines
 pub mod Screens
 pub mod Renderer
-pub mod Joined
 pub mod Page
 pub mod Reading
 pub mod Shows

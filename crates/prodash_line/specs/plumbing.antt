@@ -1,3 +1,5 @@
 pub mod Cells
 pub mod PageInside
 pub mod Endings
+pub mod Writing
+pub mod OverwriteBytes

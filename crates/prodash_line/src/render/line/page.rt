@@ -6,8 +6,6 @@ ghost use Rattle.prodash_line.specs.Page.{blank, blank_page, with_row, with_char
 
 mod reading;
 mod sign;
-#[cfg(test)]
-mod tests;
 mod writing;
 
 use prodash_base::Refusal;

@@ -5,35 +5,36 @@ use prodash_base::time::Moment;
 /// How frames are drawn.
 #[derive(Clone, Copy, Debug)]
 pub struct Options {
-    /// The columns and rows of the terminal.
+    /// The columns and the rows of the terminal.
     pub terminal_dimensions: (u16, u16),
 }
 
-/// What a frame is asked for.
+/// What the renderer draws a frame for.
 #[derive(Debug, Drop)]
 pub enum Input {
-    /// The new messages are printed. The rows are seen, and shown if something has changed.
+    /// Prints the new messages, and draws the rows if they are shown and have changed. Without a
+    /// root it closes the renderer.
     Tick {
-        /// When it is.
+        /// The time of the tick.
         at: Moment,
-        /// Whether the rows are shown, or held back.
+        /// Whether the rows are shown or hidden. Hidden rows are remembered, and not drawn.
         show: bool,
-        /// The rows, ascending by key, the messages that came since the state that `State::seen`
-        /// answers, and the state after them. Without a root there are none, and the tick closes.
+        /// What the tick sees of a tree with a root: its rows, ascending by key; the messages that
+        /// came since the state that `State::seen` returns; and the state after them.
         seen: Option<(Rows, Messages, MessageCopyState)>,
     },
-    /// The renderer closes.
+    /// Closes the renderer.
     Quit {
-        /// When it is.
+        /// The time of the input.
         at: Moment,
     },
 }
 
-/// What an accepted frame is answered.
+/// What is returned for an accepted frame.
 #[derive(Clone, Copy, Debug, PartialEq, Eq)]
 pub enum Answer {
-    /// The frame was written, if it had to be.
+    /// The frame of a tick with a root is written. It may have had no bytes.
     Drawn,
-    /// The closing frame was written.
+    /// The closing frame is written.
     Ended,
 }

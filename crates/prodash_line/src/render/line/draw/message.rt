@@ -1,46 +1,34 @@
-ghost use Rattle.std.specs.Prelude.{◌≡◌, ℕ, ◌++◌, OnOk, IfOk, string_bytes};
-ghost use Rattle.prodash_line.specs.Lines.{columns_of};
-ghost use Rattle.prodash_line.specs.MessageLines.{message_line, message_lines, greatest_width, kept_after};
-ghost use Rattle.prodash_line.specs.Joined.{written, texts_of};
+//! The line of a message: its origin, aligned with those of other messages, and its text.
+ghost use Rattle.std.specs.Prelude.{◌≡◌, OnOk};
+ghost use Rattle.prodash_line.specs.MessageLines.{origin_width, message_line, greatest_width};
+ghost use Rattle.prodash_line.specs.plumbing.Writing.{Begun};
 
-#[cfg(test)]
-mod tests;
-
-use crate::render::line::draw::text::{LineText, push_repeated, push_text, text_columns};
-use prodash_base::Text;
+use crate::render::line::draw::line::LineWriter;
 use prodash_base::messages::Message;
-use std::alloc::{AllocError, Global};
+use std::alloc::AllocError;
 
-/// Writes the line of each message. Its origin is aligned to the greatest width up to its own,
-/// behind these widths of earlier origins.
-pub(crate) fn message_texts(
-    alloc: Global,
-    origins: &[u16],
-    messages: &[Message],
-) -> Result<Vec<LineText>, AllocError>
-    ensures { IfOk result (λ texts. texts.items ≡ texts_of (message_lines origins.now messages.now)) }
+/// Writes the line of a message whose origin has this width, right-aligned to `width`. It fails if
+/// it is out of memory.
+pub(crate) fn push_message(
+    out: &mut LineWriter,
+    width: u16,
+    own_width: u16,
+    message: &Message,
+) -> Result<(), AllocError>
+    requires { own_width ≡ origin_width message.now.origin }
+    ensures { OnOk result (Begun out.old (message_line width message.now) out.new) }
 {
-    let mut lines = Vec::new(alloc);
-    let mut greatest = greatest_of(origins);
-    for message in messages {
-        greatest = greatest.max(text_columns(message.origin.as_str()));
-        let mut text = String::new(alloc);
-        let columns = push_message_line(
-            &mut text,
-            greatest,
-            message.origin.as_str(),
-            message.message.as_str(),
-        )?;
-        lines.push(LineText {
-            text: Text::new(text),
-            columns,
-        })?;
-    }
-    Ok(lines)
+    let padding = width.saturating_sub(own_width);
+    out.begin();
+    out.push_spaces(1)?;
+    out.push_indented(padding, message.origin.as_str(), own_width)?;
+    out.push_spaces(1)?;
+    out.push(message.message.as_str())?;
+    Ok(())
 }
 
-/// The greatest of the widths, 0 where there are none.
-fn greatest_of(widths: &[u16]) -> u16
+/// Returns the greatest of some widths, 0 if there are none.
+pub(crate) fn greatest_of(widths: &[u16]) -> u16
     ensures { result ≡ greatest_width widths.now }
 {
     let mut greatest = 0;
@@ -48,41 +36,4 @@ fn greatest_of(widths: &[u16]) -> u16
         greatest = greatest.max(*width);
     }
     greatest
-}
-
-/// The widths of the last origins, at most so many: those from before, and those of the messages.
-pub(crate) fn kept_origins(
-    alloc: Global,
-    height: u16,
-    origins: &[u16],
-    messages: &[Message],
-) -> Result<Vec<u16>, AllocError>
-    ensures { IfOk result (λ kept. kept.items ≡ kept_after height origins.now messages.now) }
-{
-    let mut widths = Vec::from_slice(alloc, origins)?;
-    for message in messages {
-        widths.push(text_columns(message.origin.as_str()))?;
-    }
-    let gone = widths.len().saturating_sub(height as usize);
-    Vec::from_slice(alloc, &widths[gone..])
-}
-
-/// Appends the line of a message, its origin right-aligned to this width, and answers its columns.
-fn push_message_line(
-    out: &mut String,
-    width: u16,
-    origin: &str,
-    message: &str,
-) -> Result<u16, AllocError>
-    ensures bytes { OnOk result (string_bytes out.new ≡ string_bytes out.old ++ written (message_line width origin.now message.now)) }
-    ensures columns { IfOk result (λ n. n ≡ columns_of (message_line width origin.now message.now)) }
-{
-    let padding = width.saturating_sub(text_columns(origin));
-    push_repeated(out, ' ', 1)?;
-    push_repeated(out, ' ', padding)?;
-    let own = push_text(out, origin)?;
-    push_repeated(out, ' ', 1)?;
-    let text = push_text(out, message)?;
-    let aligned = own.saturating_add(padding);
-    Ok(aligned.saturating_add(2).saturating_add(text))
 }

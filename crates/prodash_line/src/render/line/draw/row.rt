@@ -1,105 +1,72 @@
-ghost use Rattle.std.specs.Prelude.{◌≡◌, ℕ, ◌++◌, OnOk, IfOk, string_bytes, map, length};
-ghost use Rattle.prodash_base.specs.Rows.{row_of, rows_of};
-ghost use Rattle.prodash_line.specs.Lines.{columns_of};
-ghost use Rattle.prodash_line.specs.ProgressRows.{head_of, row_line, row_lines, midpoint_of, greatest_midpoint};
-ghost use Rattle.prodash_line.specs.Joined.{written, texts_of};
+//! The line of a row: its name, and with progress its values and a bar.
+ghost use Rattle.std.specs.Prelude.{◌≡◌, ◌≤◌, ◌+◌, ℕ, ◌++◌, true, length, OnOk, IfOk};
+ghost use Rattle.std.specs.Fmt.{decimal};
+ghost use Rattle.prodash_base.specs.Rows.{row_of};
+ghost use Rattle.prodash_line.specs.ProgressRows.{fraction_of, head_of, row_line, midpoint_of};
+ghost use Rattle.prodash_line.specs.plumbing.Writing.{is_printable, Appends, Begun};
 
-use crate::render::line::draw::text::{
-    LineText, push_bar, push_repeated, push_text, text_columns, values_text,
-};
-use prodash_base::Text;
-use prodash_base::progress::Row;
-use std::alloc::{AllocError, Global};
+use crate::render::line::draw::bar::push_bar;
+use crate::render::line::draw::line::LineWriter;
+use itoa::Buffer;
+use prodash_base::progress::{Row, Step};
+use std::alloc::AllocError;
 
-/// What is known of a row's line once it is written.
-#[derive(Clone, Copy, Debug)]
-pub(crate) struct Measure {
-    /// Its columns.
-    pub(crate) columns: u16,
-    /// Its columns up to the values, without padding.
-    pub(crate) midpoint: u16,
-}
-
-/// The lines of rows.
-#[derive(Debug, Drop)]
-pub(crate) struct RowTexts {
-    pub(crate) lines: Vec<LineText>,
-    /// The greatest midpoint.
-    pub(crate) midpoint: u16,
-}
-
-/// Writes the line of each row on so many columns, its values brought to this midpoint.
-pub(crate) fn row_texts(
-    alloc: Global,
-    width: u16,
-    midpoint: u16,
-    rows: &[Row],
-) -> Result<RowTexts, AllocError>
-    ensures lines { IfOk result (λ texts. texts.lines.items ≡ texts_of (row_lines width midpoint (rows_of rows.now))) }
-    ensures midpoint { IfOk result (λ texts. texts.midpoint ≡ greatest_midpoint (rows_of rows.now)) }
-{
-    let mut lines = Vec::new(alloc);
-    let mut greatest = 0u16;
-    let mut left = rows;
-    while let Some((row, others)) = left.split_first() {
-        let mut text = String::new(alloc);
-        let measure = push_row(alloc, &mut text, width, midpoint, row)?;
-        lines.push(LineText {
-            text: Text::new(text),
-            columns: measure.columns,
-        })?;
-        greatest = greatest.max(measure.midpoint);
-        left = others;
-    }
-    Ok(RowTexts {
-        lines,
-        midpoint: greatest,
-    })
-}
-
-/// Appends the line of a row on so many columns, its values brought to this midpoint.
-fn push_row(
-    alloc: Global,
-    out: &mut String,
+/// Writes the line of a row on a terminal of `width` columns, its values padded so that they end
+/// at this midpoint. Returns the row's own midpoint: the column at which its values end without
+/// padding, 0 if it has no progress. It fails if it is out of memory.
+pub(crate) fn push_row(
+    out: &mut LineWriter,
     width: u16,
     midpoint: u16,
     row: &Row,
-) -> Result<Measure, AllocError>
-    ensures bytes { OnOk result (string_bytes out.new ≡ string_bytes out.old ++ written (row_line width midpoint (row_of row.now))) }
-    ensures columns { IfOk result (λ m. m.columns ≡ columns_of (row_line width midpoint (row_of row.now))) }
-    ensures midpoint { IfOk result (λ m. m.midpoint ≡ midpoint_of (row_of row.now)) }
+) -> Result<u16, AllocError>
+    ensures line { OnOk result (Begun out.old (row_line width midpoint (row_of row.now)) out.new) }
+    ensures midpoint { IfOk result (λ n. n ≡ midpoint_of (row_of row.now)) }
 {
-    let head = push_head(out, row)?;
-    match &row.progress {
-        None => Ok(Measure {
-            columns: head,
-            midpoint: 0,
-        }),
-        Some(value) => {
-            let values = values_text(alloc, value.step, value.done_at)?;
-            let own = head
-                .saturating_add(1)
-                .saturating_add(text_columns(values.as_str()));
-            let padding = midpoint.saturating_sub(own);
-            push_repeated(out, ' ', 1)?;
-            push_repeated(out, ' ', padding)?;
-            push_text(out, values.as_str())?;
-            let padded = own.saturating_add(padding);
-            let bar = push_bar(out, width.saturating_sub(padded), value.step, value.done_at)?;
-            Ok(Measure {
-                columns: padded.saturating_add(bar),
-                midpoint: own,
-            })
-        }
+    out.begin();
+    push_head(out, row)?;
+    let Some(value) = &row.progress else {
+        return Ok(0);
+    };
+    let mut step_digits = Buffer::new();
+    let mut bound_digits = Buffer::new();
+    let step = step_digits.format(value.step);
+    let (slash, bound) = format_bound(&mut bound_digits, value.done_at);
+    let values = (step.len() + slash.len() + bound.len()) as u16;
+    let own = out.width().saturating_add(1).saturating_add(values);
+    out.push_spaces(1)?;
+    out.push_spaces(midpoint.saturating_sub(own))?;
+    out.push_printable(step.as_bytes())?;
+    out.push_printable(slash.as_bytes())?;
+    out.push_printable(bound.as_bytes())?;
+    push_bar(
+        out,
+        width.saturating_sub(out.width()),
+        value.step,
+        value.done_at,
+    )?;
+    Ok(own)
+}
+
+/// Returns what follows the digits of a step: a slash and the digits of the bound, if there is one.
+fn format_bound(digits: &mut Buffer, done_at: Option<Step>) -> (&'static str, &str)
+    ensures text { (step : ℕ)
+        → fraction_of step done_at ≡ decimal step ++ (result.0.now ++ result.1.now) }
+    ensures slash { is_printable result.0.now ≡ true }
+    ensures bound { is_printable result.1.now ≡ true }
+    ensures short { length result.0.now + length result.1.now ≤ 41 }
+{
+    match done_at {
+        Some(bound) => ("/", digits.format(bound)),
+        None => ("", ""),
     }
 }
 
-/// Appends the name of a row behind as many spaces as its level, and answers the columns.
-fn push_head(out: &mut String, row: &Row) -> Result<u16, AllocError>
-    ensures bytes { OnOk result (string_bytes out.new ≡ string_bytes out.old ++ written (head_of (row_of row.now))) }
-    ensures columns { IfOk result (λ n. n ≡ columns_of (head_of (row_of row.now))) }
+/// Appends the name of a row behind as many spaces as its level.
+fn push_head(out: &mut LineWriter, row: &Row) -> Result<(), AllocError>
+    ensures { OnOk result (Appends out.old (head_of (row_of row.now)) out.new) }
 {
-    let indent = push_repeated(out, ' ', u16::from(row.key.level()))?;
-    let name = push_text(out, row.name.as_str())?;
-    Ok(indent.saturating_add(name))
+    out.push_spaces(u16::from(row.key.level()))?;
+    out.push(row.name.as_str())?;
+    Ok(())
 }

@@ -1,22 +1,23 @@
-use Rattle.std.proofs.Common.{Some, refl, subst, ap, ◌∙◌}
-use Rattle.prodash_line.specs.Screens.{TakesFrame}
-use Rattle.prodash_line.specs.Renderer.{Renderer}
+use Rattle.std.proofs.Common.{Some, subst, ap, ◌∙◌}
+use Rattle.prodash_line.specs.declared.render.line.draw.input.Input.TheVariants.{Tick}
+use Rattle.prodash_line.specs.Screens.{WritesFrame}
+use Rattle.prodash_line.specs.Renderer.{Renderer, frame_bytes, next}
+use Rattle.prodash_line.proofs.Ticks.{answers_drawn, remembers}
 use Rattle.prodash_line.proofs.render.line.draw.tick.Goals as goal
 
 pub returns : goal.returns
 returns g c =
-    let same = c.state.view_is ∙ c.in_ok-send.ensures.ok.0 in λ at.
+    let input = Tick c.args.at c.args.show (Some c.args.seen) in
+    let r = c.args.state.now in
+    let frame = c.in_ok-frame.ensures in
     record {
       running = c.requires;
-      answer = refl;
-      renderer = λ i. record {
-        options = ap (λ (r : Renderer). r.options) same i;
-        standing = c.in_ok-frame.ensures.standing c.args.pushed i;
-        midpoint = c.in_ok-frame.ensures.midpoint c.args.pushed i;
-        remembered = Some c.args.rows;
-        origins = c.in_ok-frame.ensures.origins c.args.pushed i;
-        seen = Some c.args.pushed;
-        ended = ap (λ (r : Renderer). r.ended) same i;
-      };
-      screen = subst (λ bytes. TakesFrame bytes (g.S.Screen.taken c.args.screen.now) (g.S.Screen.taken c.send.new.screen)) (c.as_bytes.ensures.value ∙ c.in_ok-frame.ensures.bytes) c.in_ok-send.ensures.ok.1;
+      returned = answers_drawn r c.args.show c.args.seen.0;
+      renderer = c.remember.ensures
+          ∙ remembers r c.send.new.past c.args.at c.args.show c.args.seen.0 c.args.seen.1 c.args.seen.2 _ _ _ (c.in_ok-send.ensures.ok.0 ∙ c.state.view_is)
+          (frame.widths c.args.seen.2 ∙ ap (λ (x : Renderer). (next x input).widths) c.state.view_is)
+          (frame.midpoint c.args.seen.2 ∙ ap (λ (x : Renderer). (next x input).midpoint) c.state.view_is)
+          (frame.origin_widths ∙ ap (λ (x : Renderer). (next x input).origin_widths) c.state.view_is);
+      screen = subst (λ bytes. WritesFrame bytes (g.S.Screen.state c.args.screen.now) (g.S.Screen.state c.send.new.screen))
+          (c.bytes.ensures ∙ frame.bytes ∙ ap (λ (x : Renderer). frame_bytes x input) c.state.view_is) c.in_ok-send.ensures.ok.1;
     }

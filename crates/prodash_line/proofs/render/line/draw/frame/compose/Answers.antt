@@ -1,30 +1,24 @@
-use Rattle.std.proofs.Common.{◌≡◌, rules, map, ap, sym, ◌∙◌}
-use Rattle.std.specs.String.{string_bytes}
-use Rattle.prodash_line.specs.declared.render.line.draw.text.LineText.{LineText}
+use Rattle.std.proofs.Common.{◌++◌, rules, length, ap, sym, ◌∙◌}
+use Rattle.prodash_line.specs.Signs.{spelling}
+use Rattle.prodash_line.specs.Frames.{redraw}
 use Rattle.prodash_line.specs.ProgressRows.{row_lines}
-use Rattle.prodash_line.specs.Joined.{texts_of}
 use Rattle.prodash_line.specs.Renderer.{Renderer}
-use Rattle.prodash_line.proofs.Joining.{columns_of_texts}
-use Rattle.prodash_line.proofs.Composing.{lines_at, drawn_bytes, quiet_bytes, drawn_widths}
+use Rattle.prodash_line.proofs.OverwriteBytes.{lines_at, drawn_bytes, unchanged_bytes, unchanged_widths}
 use Rattle.prodash_line.proofs.render.line.draw.frame.compose.Goals as goal
 
-lines_are : (c : goal.After-drop-lines-then-draws) → c.in_ok-texts.texts.lines.items ≡ texts_of (lines_at c.args.state.now c.args.rows.now)
-lines_are c =
-    c.in_ok-texts.ensures.lines ∙ ap (λ rows. texts_of (row_lines c.state.inside.options.terminal_dimensions.0 c.state.inside.midpoint rows)) c.as_slice-then-draws.ensures
-    ∙ ap (λ (r : Renderer). texts_of (lines_at r c.args.rows.now)) c.state.view_is
+pub returns-in_ok-midpoint-clause-bytes : goal.returns-in_ok-midpoint-clause-bytes
+returns-in_ok-midpoint-clause-bytes c =
+    let a = c.write_messages.new.out.bytes.items in
+    drawn_bytes c.args.past.now c.args.at c.args.show c.args.rows.now c.args.messages.now c.below-left.result.now a _ (length c.as_slice-2.result.now)
+    (sym c.draws.ensures ∙ c.if-draws.true) (search rules) (search rules) (ap length c.as_slice-2.ensures)
+    (c.in_ok-midpoint.ensures.bytes
+    ∙ ap (λ rows. a ++ spelling (redraw c.below-left.result.now (row_lines c.past.inside.options.terminal_dimensions.0 c.past.inside.last_progress_midpoint rows))) c.as_slice-then-draws.ensures
+    ∙ ap (λ (r : Renderer). a ++ spelling (redraw c.below-left.result.now (lines_at r c.args.rows.now))) c.past.view_is)
 
-pub returns-then-draws-clause-bytes : goal.returns-then-draws-clause-bytes
-returns-then-draws-clause-bytes c =
-    drawn_bytes c.args.state.now c.args.show c.args.rows.now c.args.messages.now c.in_ok-lines.lines.items c.below-left.result.now (string_bytes c.push_joined.new.out)
-    (string_bytes c.push_redraw.new.out) (sym c.draws.ensures ∙ c.if-draws.true) (search rules) (search rules) (search rules)
-    (c.in_ok-push_redraw.ensures (lines_at c.args.state.now c.args.rows.now) (c.deref-then-draws.ensures.value ∙ lines_are c))
+pub returns-in_ok-extend_from_slice-clause-bytes : goal.returns-in_ok-extend_from_slice-clause-bytes
+returns-in_ok-extend_from_slice-clause-bytes c =
+    unchanged_bytes c.args.past.now c.args.at c.args.show c.args.rows.now c.args.messages.now c.write_messages.new.out.bytes.items (sym c.draws.ensures ∙ c.if-draws.false) (search rules)
 
-pub returns-then-draws-clause-standing : goal.returns-then-draws-clause-standing
-returns-then-draws-clause-standing c = λ pushed.
-    drawn_widths c.args.state.now c.args.show c.args.rows.now c.args.messages.now c.in_ok-columns_of_lines.field-0.items (sym c.draws.ensures ∙ c.if-draws.true)
-    (c.in_ok-columns_of_lines.ensures ∙ ap (map (λ (t : LineText). t.columns)) (c.deref-then-draws-2.ensures.value ∙ lines_are c) ∙ columns_of_texts (lines_at c.args.state.now c.args.rows.now))
-
-pub returns-clause-bytes : goal.returns-clause-bytes
-returns-clause-bytes c =
-    quiet_bytes c.args.state.now c.args.show c.args.rows.now c.args.messages.now c.in_ok-lines.lines.items (string_bytes c.push_joined.new.out) (sym c.draws.ensures ∙ c.if-draws.false)
-    (search rules) (search rules)
+pub returns-in_ok-extend_from_slice-clause-widths : goal.returns-in_ok-extend_from_slice-clause-widths
+returns-in_ok-extend_from_slice-clause-widths c = λ _.
+    unchanged_widths c.args.past.now c.args.at c.args.show c.args.rows.now c.args.messages.now c.extend_from_slice.new.self.items (sym c.draws.ensures ∙ c.if-draws.false) (search rules)

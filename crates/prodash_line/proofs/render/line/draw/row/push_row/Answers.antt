@@ -1,39 +1,51 @@
-use Rattle.std.proofs.Common.{◌≡◌, ◌∷◌, [], ◌++◌, Some, chars, ap, sym, ◌∙◌}
+use Rattle.std.proofs.Common.{◌≡◌, ◌+◌, ◌-◌, length, true, ◌++◌, Some, ap, sym, ◌∙◌, arith}
 use Rattle.std.specs.Option.{option_map}
-use Rattle.std.specs.String.{string_bytes}
 use Rattle.prodash_base.specs.Rows.{row_of, progress_of}
-use Rattle.prodash_line.specs.Lines.{piece, columns_of}
-use Rattle.prodash_line.specs.ProgressRows.{row_line_with, midpoint_with, padded}
-use Rattle.prodash_line.specs.Joined.{written}
-use Rattle.prodash_line.proofs.RowLines.{own_midpoint, padded_columns, row_written, row_columns}
+use Rattle.prodash_line.specs.ProgressRows.{fraction_of, row_line_with, midpoint_with}
+use Rattle.prodash_line.specs.plumbing.Writing.{is_printable}
+use Rattle.prodash_line.proofs.Columns.{printable-decimal}
+use Rattle.prodash_line.proofs.LineWriting.{begun_then, begun_as}
+use Rattle.prodash_line.proofs.RowLines.{values_append, own_midpoint, padded_begun, row_begun}
 use Rattle.prodash_line.proofs.render.line.draw.row.push_row.Goals as goal
 
-own_is : (c : goal.After-drop-values-in-Some) → c.saturating_add-own.result ≡ midpoint_with (row_of c.args.row.now) (Some (progress_of c.in-Some.value))
+pub push_printable-requires : goal.push_printable-requires
+push_printable-requires c = ap is_printable (c.as_bytes.ensures.value ∙ c.format-step.ensures.text) ∙ printable-decimal c.in-Some.value.step (omega arith)
+
+step_printable : (c : goal.In_ok-push_bar) → is_printable c.as_bytes.result.now ≡ true
+step_printable c = ap is_printable (c.as_bytes.ensures.value ∙ c.format-step.ensures.text) ∙ printable-decimal c.in-Some.value.step (omega arith)
+
+slash_printable : (c : goal.In_ok-push_bar) → is_printable c.as_bytes-2.result.now ≡ true
+slash_printable c = ap is_printable c.as_bytes-2.ensures.value ∙ c.format_bound.ensures.slash
+
+bound_printable : (c : goal.In_ok-push_bar) → is_printable c.as_bytes-3.result.now ≡ true
+bound_printable c = ap is_printable c.as_bytes-3.ensures.value ∙ c.format_bound.ensures.bound
+
+values_are : (c : goal.In_ok-push_bar) → fraction_of c.in-Some.value.step c.in-Some.value.done_at ≡ c.as_bytes.result.now ++ (c.as_bytes-2.result.now ++ c.as_bytes-3.result.now)
+values_are c =
+    c.format_bound.ensures.text c.in-Some.value.step
+    ∙ ap (λ t. t ++ (c.format_bound.result.0.now ++ c.format_bound.result.1.now)) (sym (c.as_bytes.ensures.value ∙ c.format-step.ensures.text))
+    ∙ ap (λ t. c.as_bytes.result.now ++ (t ++ c.format_bound.result.1.now)) (sym c.as_bytes-2.ensures.value)
+    ∙ ap (λ t. c.as_bytes.result.now ++ (c.as_bytes-2.result.now ++ t)) (sym c.as_bytes-3.ensures.value)
+
+own_is : (c : goal.In_ok-push_bar) → c.saturating_add-own.result ≡ midpoint_with (row_of c.args.row.now) (Some (progress_of c.in-Some.value))
 own_is c =
-    own_midpoint (row_of c.args.row.now) (progress_of c.in-Some.value) (string_bytes c.in_ok-values-in-Some.values) c.in_ok-head.head c.saturating_add.result c.text_columns.result c.saturating_add-own.result
-    c.in_ok-values-in-Some.ensures c.in_ok-head.ensures.columns c.saturating_add.ensures
-    (c.text_columns.ensures ∙ ap (λ t. columns_of (piece (chars t) ∷ [])) c.as_str.ensures.value) c.saturating_add-own.ensures
+    own_midpoint (row_of c.args.row.now) (progress_of c.in-Some.value) c.as_bytes.result.now c.as_bytes-2.result.now c.as_bytes-3.result.now
+    (length c.format-step.result.now + length c.format_bound.result.0.now + length c.format_bound.result.1.now) c.saturating_add-own.result
+    (begun_then c.begin.ensures c.in_ok-push_head.ensures) (values_are c) (step_printable c) (slash_printable c) (bound_printable c)
+    (omega (arith, ap length c.as_bytes.ensures.value, ap length c.as_bytes-2.ensures.value, ap length c.as_bytes-3.ensures.value))
+    (omega (arith, c.saturating_add-own.ensures, c.saturating_add.ensures, c.width.ensures))
 
-padded_is : (c : goal.After-drop-values-in-Some) → c.saturating_add-padded.result ≡ columns_of (padded c.args.midpoint (row_of c.args.row.now) (progress_of c.in-Some.value))
-padded_is c =
-    padded_columns (row_of c.args.row.now) (progress_of c.in-Some.value) c.args.midpoint c.saturating_add-own.result c.saturating_sub-padding.result c.saturating_add-padded.result
-    (own_is c) c.saturating_sub-padding.ensures c.saturating_add-padded.ensures
+pub returns-clause-line : goal.returns-clause-line
+returns-clause-line c =
+    let row = row_of c.args.row.now in
+    let p = progress_of c.in-Some.value in
+    begun_as (ap (λ o. row_line_with c.args.width c.args.midpoint row (option_map progress_of o)) (sym c.in-Some.is))
+    (row_begun row p c.args.width c.args.midpoint c.saturating_sub-2.result
+    (padded_begun row p c.args.midpoint c.saturating_sub.result c.saturating_add-own.result (begun_then c.begin.ensures c.in_ok-push_head.ensures) (own_is c) c.saturating_sub.ensures
+    c.in_ok-push_spaces.ensures c.in_ok-push_spaces-2.ensures
+    (values_append p c.as_bytes.result.now c.as_bytes-2.result.now c.as_bytes-3.result.now (values_are c) (step_printable c) (slash_printable c) (bound_printable c)
+    c.in_ok-push_printable.ensures c.in_ok-push_printable-2.ensures c.in_ok-push_printable-3.ensures))
+    (c.saturating_sub-2.ensures ∙ ap (λ n. c.args.width - n) c.width-2.ensures) c.in_ok-push_bar.ensures)
 
-pub returns-in_ok-bar-in-Some-clause-midpoint : goal.returns-in_ok-bar-in-Some-clause-midpoint
-returns-in_ok-bar-in-Some-clause-midpoint c = own_is c ∙ ap (λ o. midpoint_with (row_of c.args.row.now) (option_map progress_of o)) (sym c.in-Some.is)
-
-pub returns-in_ok-bar-in-Some-clause-columns : goal.returns-in_ok-bar-in-Some-clause-columns
-returns-in_ok-bar-in-Some-clause-columns c =
-    row_columns (row_of c.args.row.now) (progress_of c.in-Some.value) c.args.width c.args.midpoint c.saturating_add-padded.result c.saturating_sub.result c.in_ok-bar-in-Some.bar c.saturating_add-in-Some.result
-    (padded_is c) c.saturating_sub.ensures c.in_ok-bar-in-Some.ensures.columns c.saturating_add-in-Some.ensures
-    ∙ ap (λ o. columns_of (row_line_with c.args.width c.args.midpoint (row_of c.args.row.now) (option_map progress_of o))) (sym c.in-Some.is)
-
-pub returns-in_ok-bar-in-Some-clause-bytes : goal.returns-in_ok-bar-in-Some-clause-bytes
-returns-in_ok-bar-in-Some-clause-bytes c =
-    row_written (row_of c.args.row.now) (progress_of c.in-Some.value) c.args.width c.args.midpoint c.saturating_add-own.result c.saturating_sub-padding.result c.saturating_add-padded.result c.saturating_sub.result
-    (string_bytes c.in_ok-values-in-Some.values) _ _ _ _ _ _
-    c.in_ok-values-in-Some.ensures (own_is c) c.saturating_sub-padding.ensures (padded_is c) c.saturating_sub.ensures
-    c.in_ok-head.ensures.bytes c.in_ok-push_repeated-in-Some.ensures.bytes c.in_ok-push_repeated-in-Some-2.ensures.bytes
-    (c.in_ok-push_text-in-Some.ensures.bytes ∙ ap (λ t. string_bytes c.push_repeated-in-Some.new.out ++ written (piece (chars t) ∷ [])) c.as_str-in-Some.ensures.value)
-    c.in_ok-bar-in-Some.ensures.bytes
-    ∙ ap (λ o. string_bytes c.args.out.now ++ written (row_line_with c.args.width c.args.midpoint (row_of c.args.row.now) (option_map progress_of o))) (sym c.in-Some.is)
+pub returns-clause-midpoint : goal.returns-clause-midpoint
+returns-clause-midpoint c = own_is c ∙ ap (λ o. midpoint_with (row_of c.args.row.now) (option_map progress_of o)) (sym c.in-Some.is)

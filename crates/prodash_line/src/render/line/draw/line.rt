@@ -1,0 +1,168 @@
+//! A writer of lines: each piece of a line is written straight into a buffer of bytes.
+ghost use Rattle.std.specs.Prelude.{◌≡◌, ℕ, List, ◌∷◌, [], ◌++◌, ◌≤◌, true, chars, replicate, OnOk, IfOk, false};
+ghost use Rattle.unicode_width.specs.Width.{str_width};
+ghost use Rattle.prodash_line.specs.Signs.{spelling_of};
+ghost use Rattle.prodash_line.specs.Lines.{Line, piece, spaces, columns_of};
+ghost use Rattle.prodash_line.specs.plumbing.Writing.{is_printable, Appends, Begun};
+ghost use Rattle.prodash_line.specs.plumbing.OverwriteBytes.{Overwrites};
+
+use crate::render::line::page::{Sign, push_sign};
+use std::alloc::{AllocError, Global};
+use unicode_width::UnicodeWidthStr;
+
+/// Writes lines into one buffer, one after another, and measures the line that it has begun last.
+#[derive(Debug, Drop)]
+pub(crate) struct LineWriter {
+    bytes: Vec<u8>,
+    /// The width of the line so far, at most 65535.
+    width: u16,
+}
+
+impl LineWriter {
+    /// Returns a writer whose buffer is empty.
+    pub(crate) fn new(alloc: Global) -> LineWriter {
+        LineWriter {
+            bytes: Vec::new(alloc),
+            width: 0,
+        }
+    }
+
+    /// Returns the bytes written since the buffer was last cleared.
+    pub(crate) fn bytes(&self) -> &[u8]
+        ensures { result.now ≡ self.now.bytes.items }
+    {
+        &self.bytes
+    }
+
+    /// Returns the width of the line so far, in columns, at most 65535.
+    pub(crate) fn width(&self) -> u16
+        ensures { result ≡ self.now.width }
+    {
+        self.width
+    }
+
+    /// Empties the buffer and keeps its memory.
+    pub(crate) fn clear(&mut self)
+        ensures { self.new.bytes.items ≡ [] }
+    {
+        self.bytes.clear();
+    }
+
+    /// Begins a line.
+    pub(crate) fn begin(&mut self)
+        ensures { Begun self.old [] self.new }
+    {
+        self.width = 0;
+    }
+
+    /// Appends a text to the line. It fails if it is out of memory.
+    pub(crate) fn push(&mut self, text: &str) -> Result<(), AllocError>
+        ensures { OnOk result (Appends self.old (piece (chars text.now) ∷ []) self.new) }
+    {
+        self.push_indented(0, text, text_width(text))
+    }
+
+    /// Appends `padding` spaces and then a text of this width, as one piece. It fails if it is out
+    /// of memory.
+    pub(crate) fn push_indented(
+        &mut self,
+        padding: u16,
+        text: &str,
+        width: u16,
+    ) -> Result<(), AllocError>
+        requires { width ≡ columns_of (piece (chars text.now) ∷ []) }
+        ensures { OnOk result
+            (Appends self.old (piece (replicate padding 32 ++ chars text.now) ∷ []) self.new) }
+    {
+        push_copies(&mut self.bytes, b' ', padding)?;
+        self.bytes.extend_from_slice(text.as_bytes())?;
+        self.width = self.width.saturating_add(padding).saturating_add(width);
+        Ok(())
+    }
+
+    /// Appends printable ASCII characters, whose number is their width. It fails if it is out of
+    /// memory.
+    pub(crate) fn push_printable(&mut self, text: &[u8]) -> Result<(), AllocError>
+        requires { is_printable text.now ≡ true }
+        ensures { OnOk result (Appends self.old (piece text.now ∷ []) self.new) }
+    {
+        self.bytes.extend_from_slice(text)?;
+        self.width = self
+            .width
+            .saturating_add(text.len().min(usize::from(u16::MAX)) as u16);
+        Ok(())
+    }
+
+    /// Appends a printable ASCII character `count` times. It fails if it is out of memory.
+    pub(crate) fn push_repeated(&mut self, character: u8, count: u16) -> Result<(), AllocError>
+        requires low { 32 ≤ character }
+        requires high { character ≤ 126 }
+        ensures { OnOk result (Appends self.old (piece (replicate count character) ∷ []) self.new) }
+    {
+        push_copies(&mut self.bytes, character, count)?;
+        self.width = self.width.saturating_add(count);
+        Ok(())
+    }
+
+    /// Appends `count` spaces. It fails if it is out of memory.
+    pub(crate) fn push_spaces(&mut self, count: u16) -> Result<(), AllocError>
+        ensures { OnOk result (Appends self.old (spaces count ∷ []) self.new) }
+    {
+        self.push_repeated(b' ', count)
+    }
+
+    /// Ends the line over a line of this width that is on screen in its row: appends spaces as far
+    /// as that one reached, then a line feed. Returns the width of the line. It fails if it is out
+    /// of memory.
+    pub(crate) fn end_over(&mut self, width: u16) -> Result<u16, AllocError>
+        ensures bytes { OnOk result
+            ((before : LineWriter) (line : Line) → Begun before line self.old
+            → Overwrites before width line self.new) }
+        ensures width { IfOk result
+            (λ n. (before : LineWriter) (line : Line) → Begun before line self.old
+            → n ≡ columns_of line) }
+    {
+        push_copies(&mut self.bytes, b' ', width.saturating_sub(self.width))?;
+        self.bytes.push(b'\n')?;
+        Ok(self.width)
+    }
+
+    /// Appends a sign behind the lines. It fails if it is out of memory.
+    pub(crate) fn push_sign(&mut self, sign: Sign) -> Result<(), AllocError>
+        ensures { OnOk result (self.new.bytes.items ≡ self.old.bytes.items ++ spelling_of sign) }
+    {
+        push_sign(&mut self.bytes, sign)
+    }
+}
+
+/// Appends a byte `count` times.
+fn push_copies(out: &mut Vec<u8>, byte: u8, count: u16) -> Result<(), AllocError>
+    ensures { OnOk result (out.new.items ≡ out.old.items ++ replicate count byte) }
+{
+    out.resize(out.len() + usize::from(count), byte)
+}
+
+/// Whether the bytes are all printable ASCII characters.
+fn is_all_printable(text: &[u8]) -> bool
+    ensures { result ≡ is_printable text.now }
+{
+    text.iter().all(|byte| 0x20 <= *byte && *byte <= 0x7e)
+}
+
+/// Returns the width of a text, in columns.
+fn uncapped_width(text: &str) -> usize
+    ensures { result ≡ str_width false (chars text.now) }
+{
+    if is_all_printable(text.as_bytes()) {
+        text.len()
+    } else {
+        text.width()
+    }
+}
+
+/// Returns the width of a text, in columns, at most 65535.
+pub(crate) fn text_width(text: &str) -> u16
+    ensures { result ≡ columns_of (piece (chars text.now) ∷ []) }
+{
+    uncapped_width(text).min(usize::from(u16::MAX)) as u16
+}
