@@ -1,5 +1,6 @@
--- The ring of a run is that of all messages that were said.
-use Rattle.std.proofs.Common.{◌≡◌, ◌∙◌, ap, sym, ℕ, zero, suc, take, ◌++◌, ◌∷◌, [], List, refl, append_assoc, append-nil, Bool, true, false, cond, subst, Result, Ok, Err, Option, Some, None}
+-- The messages that each event says, and the ring of a run: it is that of all messages that were said.
+use Rattle.std.proofs.Common.{◌≡◌, ◌∙◌, ap, sym, ℕ, take, ◌++◌, ◌∷◌, [], List, refl, append_assoc, append-nil, Bool, true, false, cond, Result, Ok, Err, Option, Some, None}
+use Rattle.std.specs.Prelude.{fold, MatchBool, ⊤}
 use Rattle.prodash_base.specs.Rows.{Entry}
 use Rattle.prodash_base.specs.Rings.{new_ring, push, ring_of, is_push_limit_reached}
 use Rattle.prodash_base.specs.declared.refusal.Refusal.{Refusal}
@@ -7,172 +8,114 @@ use Rattle.prodash_base.specs.declared.refusal.Refusal.TheVariants as refusals
 use Rattle.prodash_base.specs.declared.messages.Message.{Message as Said}
 use Rattle.prodash_base.specs.declared.messages.MessageLevel.{MessageLevel}
 use Rattle.prodash_base.proofs.RingLaws.{push-ring_of, fold-push}
-use Rattle.prodash_line.specs.declared.render.line.draw.input.Input.{Input}
-use Rattle.prodash_line.specs.Screens.{Taken}
-use Rattle.prodash_core.specs.Trees.{Handle, Tree, living, item, words_of, for_handle, init_at, play}
-use Rattle.prodash_core.specs.Sessions.{SessionState, input_at, played_reply, played_tree}
-use Rattle.prodash_core.specs.Runs.{Run, accepted, answered, is_memory, is_done, follow, after_event, after, words_for, words_by, words_in, all_said}
-use Rattle.prodash_core.proofs.RunBytes.{Did, Kept, Acted, Shut, Drew, Stayed, Broke, step_did, accepted_run}
+use Rattle.prodash_line.specs.Screens.{ScreenState}
+use Rattle.prodash_core.specs.declared.tree.slot.Slot.{Slot}
+use Rattle.prodash_core.specs.Trees.{Tree, Change, Effect, OnTree, OnRenderer, effect, slot_at, item_at, for_slot, init_at, message_by, push_message}
+use Rattle.prodash_core.specs.Sessions.{SessionState, is_memory, changed_reply, changed_tree, RunsOutOfMemory, AppliesChange, StepsBy, Steps}
+use Rattle.prodash_core.specs.Runs.{Run, is_done, said_for, said_by, next_by, next_session, session_after, all_said}
+use Rattle.prodash_core.proofs.RunLaws.{prefix_runs}
 use Rattle.prodash_core.specs.declared.tree.event.Event.{Event}
 use Rattle.prodash_core.specs.declared.tree.event.Event.TheVariants as events
 use Rattle.prodash_core.specs.declared.tree.event.Reply.{Reply}
 use Rattle.prodash_core.specs.declared.tree.event.Reply.TheVariants as replies
 
+-- what a change says is pushed, if its reply is that it is done
+abbrev ChangeSays : Tree → List Said → Result (Tree × Reply) Refusal → Type 0
+ChangeSays t said (Ok changed) = changed.0.ring ≡ fold push t.ring (cond (is_done changed.1) said [])
+ChangeSays t said (Err refusal) = ⊤
+
+-- frames say nothing
+abbrev EffectSays : (Tree → List Said) → Effect → Type 0
+EffectSays said (OnTree memory change) = (t : Tree) → ChangeSays t (said t) (change t)
+EffectSays said (OnRenderer input) = (t : Tree) → said t ≡ []
+
+says : (t : Tree) (said : List Said) (o : Option Slot) (f : Slot → Result (Tree × Reply) Refusal) → ((slot : Slot) → ChangeSays t said (f slot)) → ChangeSays t said (for_slot o f)
+says t said None f h = tt
+says t said (Some slot) f h = h slot
+
+init_keeps : (t : Tree) (n : ℕ) (slot : Slot) (max : Option ℕ) (o : Option (Entry ℕ)) → (init_at t n slot max o).ring ≡ t.ring
+init_keeps t n slot max None = refl
+init_keeps t n slot max (Some e) = refl
+
+pushes : (t : Tree) (m : Said) (b : Bool) → ChangeSays t (m ∷ []) (cond b (Err refusals.TooManyMessages) (Ok (record t { ring = push t.ring m }, replies.Done)))
+pushes t m true = tt
+pushes t m false = refl
+
+message_says : (t : Tree) (at : ℕ) (level : MessageLevel) (text : List ℕ) (o : Option Slot)
+    → ChangeSays t (said_for t o at level text) (for_slot o (λ slot. push_message t (message_by t slot at level text)))
+message_says t at level text None = tt
+message_says t at level text (Some slot) = pushes t (message_by t slot at level text) (is_push_limit_reached t.ring)
+
+effect_says : (e : Event) → EffectSays (λ t. said_by t e) (effect e)
+effect_says (events.AddChild parent name id) = λ t. says t [] (slot_at t parent) _ (λ _. refl)
+effect_says (events.Drop n) = λ t. says t [] (item_at t n) _ (λ _. refl)
+effect_says (events.Init n max) = λ t. says t [] (item_at t n) _ (λ slot. init_keeps t n slot max _)
+effect_says (events.Set n step) = λ t. says t [] (item_at t n) _ (λ _. refl)
+effect_says (events.Message n at level text) = λ t. message_says t at level text (item_at t n)
+effect_says events.Snapshot = λ t. says t [] (slot_at t 0) _ (λ _. refl)
+effect_says events.CopyMessages = λ t. says t [] (slot_at t 0) _ (λ _. refl)
+effect_says (events.CopyNew previous) = λ t. says t [] (slot_at t 0) _ (λ _. refl)
+effect_says events.DropRoot = λ t. says t [] (slot_at t 0) _ (λ _. refl)
+effect_says (events.Tick at show) = λ t. refl
+effect_says (events.Quit at) = λ t. refl
+
 -- the ring of this capacity holds these messages and no others, in a tree
 abbrev Holds : ℕ → List Said → Tree → Type 0
 Holds c all t = t.ring ≡ ring_of c all
 
-same_either : (b : Bool) (ws : List Said) → ws ≡ [] → cond b ws [] ≡ []
-same_either true ws e = e
-same_either false ws e = refl
+push_all : (c : ℕ) (all more : List Said) → fold push (ring_of c all) more ≡ ring_of c (all ++ more)
+push_all c all [] = ap (ring_of c) (sym (append-nil all))
+push_all c all (m ∷ more) = ap (λ r. fold push r more) (push-ring_of c all m) ∙ push_all c (all ++ m ∷ []) more ∙ ap (ring_of c) (append_assoc all (m ∷ []) more)
 
--- nothing is said, and the ring stays
-nothing_said : (c : ℕ) (all : List Said) (t t' : Tree) (e : Event) (r : Reply) → Holds c all t → words_by t e ≡ [] → t'.ring ≡ t.ring → Holds c (all ++ words_in t e r) t'
-nothing_said c all t t' e r h none same =
-    same ∙ h ∙ ap (ring_of c) (sym (append-nil all) ∙ ap (λ ws. all ++ ws) (sym (same_either (is_done r) (words_by t e) none)))
-
--- what is done for a handle leaves the ring
-handle_keeps : (t : Tree) (o : Option Handle) (f : Handle → Result (Tree × Reply) Refusal) → ((h : Handle) → (played_tree t (f h)).ring ≡ t.ring) → (played_tree t (for_handle o f)).ring ≡ t.ring
-handle_keeps t None f k = refl
-handle_keeps t (Some h) f k = k h
-
-init_keeps : (t : Tree) (n : ℕ) (h : Handle) (max : Option ℕ) (o : Option (Entry ℕ)) → (init_at t n h max o).ring ≡ t.ring
-init_keeps t n h max None = refl
-init_keeps t n h max (Some e) = refl
-
--- a message that is played
-abbrev SaidIn : ℕ → List Said → Tree → Event → Result (Tree × Reply) Refusal → Type 0
-SaidIn c all t e p = Holds c (all ++ words_in t e (played_reply p)) (played_tree t p)
-
-said_by : (c : ℕ) (all : List Said) (t : Tree) (n at : ℕ) (level : MessageLevel) (text : List ℕ) → Holds c all t → (o : Option Handle) (b : Bool) → item t n ≡ o
-    → SaidIn c all t (events.Message n at level text) (for_handle o (λ h. cond b (Err refusals.TooManyMessages) (Ok (record t { ring = push t.ring (words_of t h at level text) }, replies.Done))))
-said_by c all t n at level text h None b e = h ∙ ap (ring_of c) (sym (append-nil all))
-said_by c all t n at level text h (Some x) true e = h ∙ ap (ring_of c) (sym (append-nil all))
-said_by c all t n at level text h (Some x) false e =
-    ap (λ r. push r (words_of t x at level text)) h ∙ push-ring_of c all (words_of t x at level text) ∙ ap (λ o. ring_of c (all ++ words_for t o at level text)) (sym e)
-
-played_silently : (c : ℕ) (all : List Said) (t : Tree) (e : Event) → Holds c all t → words_by t e ≡ [] → (played_tree t (play t e)).ring ≡ t.ring → SaidIn c all t e (play t e)
-played_silently c all t e h none same = nothing_said c all t (played_tree t (play t e)) e (played_reply (play t e)) h none same
-
-played_said : (c : ℕ) (all : List Said) (t : Tree) (e : Event) → Holds c all t → SaidIn c all t e (play t e)
-played_said c all t (events.AddChild parent name id) h = played_silently c all t (events.AddChild parent name id) h refl (handle_keeps t (living t parent) _ (λ _. refl))
-played_said c all t (events.Drop n) h = played_silently c all t (events.Drop n) h refl (handle_keeps t (item t n) _ (λ _. refl))
-played_said c all t (events.Init n max) h = played_silently c all t (events.Init n max) h refl (handle_keeps t (item t n) _ (λ x. init_keeps t n x max _))
-played_said c all t (events.Set n step) h = played_silently c all t (events.Set n step) h refl (handle_keeps t (item t n) _ (λ _. refl))
-played_said c all t (events.Message n at level text) h = said_by c all t n at level text h (item t n) (is_push_limit_reached t.ring) refl
-played_said c all t events.Snapshot h = played_silently c all t events.Snapshot h refl (handle_keeps t (living t 0) _ (λ _. refl))
-played_said c all t events.CopyMessages h = played_silently c all t events.CopyMessages h refl (handle_keeps t (living t 0) _ (λ _. refl))
-played_said c all t (events.CopyNew previous) h = played_silently c all t (events.CopyNew previous) h refl (handle_keeps t (living t 0) _ (λ _. refl))
-played_said c all t events.DropRoot h = played_silently c all t events.DropRoot h refl (handle_keeps t (living t 0) _ (λ _. refl))
-played_said c all t (events.Tick at show) h = played_silently c all t (events.Tick at show) h refl refl
-played_said c all t (events.Quit at) h = played_silently c all t (events.Quit at) h refl refl
-
--- frames say nothing, and leave the tree
-frame_says : (w : SessionState) (e : Event) (input : Input) → input_at w e ≡ Some input → words_by w.tree e ≡ []
-frame_says w (events.AddChild parent name id) input asks = cc
-frame_says w (events.Drop n) input asks = cc
-frame_says w (events.Init n max) input asks = cc
-frame_says w (events.Set n step) input asks = cc
-frame_says w (events.Message n at level text) input asks = cc
-frame_says w events.Snapshot input asks = cc
-frame_says w events.CopyMessages input asks = cc
-frame_says w (events.CopyNew previous) input asks = cc
-frame_says w events.DropRoot input asks = cc
-frame_says w (events.Tick at show) input asks = refl
-frame_says w (events.Quit at) input asks = refl
-
-frame_keeps : (w : SessionState) (e : Event) (input : Input) → input_at w e ≡ Some input → (played_tree w.tree (play w.tree e)).ring ≡ w.tree.ring
-frame_keeps w (events.AddChild parent name id) input asks = cc
-frame_keeps w (events.Drop n) input asks = cc
-frame_keeps w (events.Init n max) input asks = cc
-frame_keeps w (events.Set n step) input asks = cc
-frame_keeps w (events.Message n at level text) input asks = cc
-frame_keeps w events.Snapshot input asks = cc
-frame_keeps w events.CopyMessages input asks = cc
-frame_keeps w (events.CopyNew previous) input asks = cc
-frame_keeps w events.DropRoot input asks = cc
-frame_keeps w (events.Tick at show) input asks = refl
-frame_keeps w (events.Quit at) input asks = refl
-
--- what wants memory isn't done
+-- an event that is out of memory isn't done
 memory_not_done : (r : Reply) → is_memory r ≡ true → is_done r ≡ false
-memory_not_done (replies.Refused refusals.Memory) m = refl
-memory_not_done (replies.Refused refusals.TooManyMessages) m = cc
-memory_not_done (replies.Refused refusals.Gone) m = cc
-memory_not_done (replies.Refused refusals.Closed) m = cc
-memory_not_done (replies.Refused refusals.Broken) m = cc
-memory_not_done (replies.Made n) m = cc
+memory_not_done (replies.Made n) m = refl
 memory_not_done replies.Done m = cc
-memory_not_done (replies.Rows rows) m = cc
-memory_not_done (replies.Messages messages) m = cc
-memory_not_done (replies.New messages state) m = cc
-memory_not_done replies.Drawn m = cc
-memory_not_done replies.Ended m = cc
+memory_not_done (replies.Rows rows) m = refl
+memory_not_done (replies.Messages messages) m = refl
+memory_not_done (replies.New messages state) m = refl
+memory_not_done replies.Drawn m = refl
+memory_not_done replies.Ended m = refl
+memory_not_done (replies.Refused refusal) m = refl
 
-framed_said : (c : ℕ) (all : List Said) (w w' : SessionState) (e : Event) (r : Reply) (input : Input) → input_at w e ≡ Some input → w' ≡ follow w e r → Holds c all w.tree
-    → Holds c (all ++ words_in w.tree e r) w'.tree
-framed_said c all w w' e r input asks ww h = nothing_said c all w.tree w'.tree e r h (frame_says w e input asks) (ap (λ q. q.tree.ring) ww ∙ frame_keeps w e input asks)
+changed_holds : (c : ℕ) (all said : List Said) (t : Tree) (p : Result (Tree × Reply) Refusal) → ChangeSays t said p → Holds c all t
+    → Holds c (all ++ cond (is_done (changed_reply p)) said []) (changed_tree t p)
+changed_holds c all said t (Ok changed) law h = law ∙ ap (λ r. fold push r (cond (is_done changed.1) said [])) h ∙ push_all c all (cond (is_done changed.1) said [])
+changed_holds c all said t (Err refusal) law h = h ∙ ap (ring_of c) (sym (append-nil all))
 
-step_said : (c : ℕ) (all : List Said) (w : SessionState) (s : Taken) (e : Event) (r : Reply) (w' : SessionState) (s' : Taken) → Did w s e r w' s' → Holds c all w.tree
-    → Holds c (all ++ words_in w.tree e r) w'.tree
-step_said c all w s e r w' s' (Kept m ww ss) h =
-    ap (λ q. q.tree.ring) ww ∙ h ∙ ap (ring_of c) (sym (append-nil all) ∙ ap (λ b. all ++ cond b (words_by w.tree e) []) (sym (memory_not_done r m)))
-step_said c all w s e r w' s' (Acted m none says ww ss) h =
-    ap (λ q. q.tree.ring) ww ∙ played_said c all w.tree e h ∙ ap (λ q. ring_of c (all ++ words_in w.tree e q)) (sym says)
-step_said c all w s e r w' s' (Shut input m k asks ww ss) h = framed_said c all w w' e r input asks ww h
-step_said c all w s e r w' s' (Drew input m k u asks running ww took) h = framed_said c all w w' e r input asks ww h
-step_said c all w s e r w' s' (Stayed input m k u asks ended ww ss) h = framed_said c all w w' e r input asks ww h
-step_said c all w s e r w' s' (Broke input m k u asks running ww breaks) h = framed_said c all w w' e r input asks ww h
+tree_holds : (c : ℕ) (all said : List Said) (w : SessionState) (s : ScreenState) (memory : Bool) (change : Change) (reply : Reply) (w' : SessionState) (s' : ScreenState) (b : Bool)
+    → is_memory reply ≡ b → ChangeSays w.tree said (change w.tree) → Holds c all w.tree
+    → MatchBool b (RunsOutOfMemory w s memory change w' s') (AppliesChange w s change reply w' s')
+    → Holds c (all ++ cond (is_done reply) said []) (cond b w (record w { tree = changed_tree w.tree (change w.tree) })).tree
+tree_holds c all said w s memory change reply w' s' true m law h step =
+    h ∙ ap (ring_of c) (sym (append-nil all) ∙ ap (λ b. all ++ cond b said []) (sym (memory_not_done reply m)))
+tree_holds c all said w s memory change reply w' s' false m law h step =
+    changed_holds c all said w.tree (change w.tree) law h ∙ ap (λ r. ring_of c (all ++ cond (is_done r) said [])) (sym step.replied)
 
-followed : (w : SessionState) (s : Taken) (e : Event) (r : Reply) (w' : SessionState) (s' : Taken) → Did w s e r w' s' → w' ≡ after_event w e r
-followed w s e r w' s' (Kept m ww ss) = ww ∙ ap (λ b. cond b w (follow w e r)) (sym m)
-followed w s e r w' s' (Acted m none says ww ss) = ww ∙ ap (λ b. cond b w (follow w e r)) (sym m)
-followed w s e r w' s' (Shut input m k asks ww ss) = ww ∙ ap (λ b. cond b w (follow w e r)) (sym m)
-followed w s e r w' s' (Drew input m k u asks running ww took) = ww ∙ ap (λ b. cond b w (follow w e r)) (sym m)
-followed w s e r w' s' (Stayed input m k u asks ended ww ss) = ww ∙ ap (λ b. cond b w (follow w e r)) (sym m)
-followed w s e r w' s' (Broke input m k u asks running ww breaks) = ww ∙ ap (λ b. cond b w (follow w e r)) (sym m)
+same_either : (b : Bool) (said : List Said) → said ≡ [] → cond b said [] ≡ []
+same_either true said e = e
+same_either false said e = refl
 
--- the session at the end of a run
-pub run_after : (es : List Event) (rs : List Reply) (w : SessionState) (s : Taken) (w' : SessionState) (s' : Taken) → Run w s es rs w' s' → w' ≡ after w es rs
-run_after [] [] w s w' s' h = h.0
-run_after [] (r ∷ rs) w s w' s' h = absurd h
-run_after (e ∷ es) [] w s w' s' h = absurd h
-run_after (e ∷ es) (r ∷ rs) w s w' s' h = run_after es rs h.0 h.1 w' s' h.3 ∙ ap (λ q. after q es rs) (followed w s e r h.0 h.1 (step_did w s e r h.0 h.1 h.2))
+holds_by : (f : Effect) (said : Tree → List Said) → EffectSays said f → (c : ℕ) (all : List Said) (w : SessionState) (s : ScreenState) (reply : Reply) (w' : SessionState) (s' : ScreenState)
+    → StepsBy f w s reply w' s' → Holds c all w.tree → Holds c (all ++ cond (is_done reply) (said w.tree) []) (next_by f w reply).tree
+holds_by (OnTree memory change) said law c all w s reply w' s' step h = tree_holds c all (said w.tree) w s memory change reply w' s' (is_memory reply) refl (law w.tree) h step
+holds_by (OnRenderer input) said law c all w s reply w' s' step h =
+    h ∙ ap (ring_of c) (sym (append-nil all) ∙ ap (λ ms. all ++ ms) (sym (same_either (is_done reply) (said w.tree) (law w.tree))))
 
-run_said : (c : ℕ) (all : List Said) (es : List Event) (rs : List Reply) (w : SessionState) (s : Taken) (w' : SessionState) (s' : Taken) → Run w s es rs w' s' → Holds c all w.tree
-    → Holds c (all ++ all_said w es rs) w'.tree
-run_said c all [] [] w s w' s' h ring = ap (λ q. q.tree.ring) h.0 ∙ ring ∙ ap (ring_of c) (sym (append-nil all))
-run_said c all [] (r ∷ rs) w s w' s' h ring = absurd h
-run_said c all (e ∷ es) [] w s w' s' h ring = absurd h
-run_said c all (e ∷ es) (r ∷ rs) w s w' s' h ring =
-    let did = step_did w s e r h.0 h.1 h.2 in
-    run_said c (all ++ words_in w.tree e r) es rs h.0 h.1 w' s' h.3 (step_said c all w s e r h.0 h.1 did ring)
-    ∙ ap (ring_of c) (append_assoc all (words_in w.tree e r) (all_said h.0 es rs) ∙ ap (λ q. all ++ (words_in w.tree e r ++ all_said q es rs)) (followed w s e r h.0 h.1 did))
+run_said : (c : ℕ) (all : List Said) (es : List Event) (rs : List Reply) (w : SessionState) (s s' : ScreenState) → Run w s es rs s' → Holds c all w.tree
+    → Holds c (all ++ all_said w es rs) (session_after w es rs).tree
+run_said c all [] [] w s s' h ring = ring ∙ ap (ring_of c) (sym (append-nil all))
+run_said c all [] (r ∷ rs) w s s' h ring = absurd h
+run_said c all (e ∷ es) [] w s s' h ring = absurd h
+run_said c all (e ∷ es) (r ∷ rs) w s s' h ring =
+    let said = cond (is_done r) (said_by w.tree e) [] in
+    let next = next_session w e r in
+    run_said c (all ++ said) es rs next h.0 s' h.2 (holds_by (effect e) (λ t. said_by t e) (effect_says e) c all w s r next h.0 h.1 ring)
+    ∙ ap (ring_of c) (append_assoc all said (all_said next es rs))
 
--- a front of a run
-front_runs : (j : ℕ) (es : List Event) (rs : List Reply) (w : SessionState) (s : Taken) (w' : SessionState) (s' : Taken) → Run w s es rs w' s'
-    → (v : SessionState) × (t : Taken) × Run w s (take j es) (take j rs) v t
-front_runs zero es rs w s w' s' h = (w, s, (refl, refl))
-front_runs (suc j) [] [] w s w' s' h = (w, s, (refl, refl))
-front_runs (suc j) [] (r ∷ rs) w s w' s' h = absurd h
-front_runs (suc j) (e ∷ es) [] w s w' s' h = absurd h
-front_runs (suc j) (e ∷ es) (r ∷ rs) w s w' s' h =
-    let more = front_runs j es rs h.0 h.1 w' s' h.3 in
-    (more.0, more.1, (h.0, h.1, h.2, more.2))
-
--- after each front of a run the ring is that of all that was said in it
-pub rings_of_fronts : (c : ℕ) (es : List Event) (rs : List Reply) (w : SessionState) (s : Taken) (w' : SessionState) (s' : Taken) → Run w s es rs w' s' → w.tree.ring ≡ new_ring c
-    → (j : ℕ) → (after w (take j es) (take j rs)).tree.ring ≡ ring_of c (all_said w (take j es) (take j rs))
-rings_of_fronts c es rs w s w' s' h empty j =
-    let front = front_runs j es rs w s w' s' h in
-    ap (λ q. q.tree.ring) (sym (run_after (take j es) (take j rs) w s front.0 front.1 front.2))
-    ∙ run_said c [] (take j es) (take j rs) w s front.0 front.1 front.2 (empty ∙ fold-push c [])
-
--- a run ends in the session after it, also without the events that were refused memory
-pub ends_after : (es : List Event) (rs : List Reply) (w : SessionState) (s : Taken) (w' : SessionState) (s' : Taken) → Run w s es rs w' s' → Run w s es rs (after w es rs) s'
-ends_after es rs w s w' s' h = subst (λ (q : SessionState). Run w s es rs q s') (run_after es rs w s w' s' h) h
-
-pub accepted_ends : (es : List Event) (rs : List Reply) (w : SessionState) (s : Taken) (w' : SessionState) (s' : Taken) → Run w s es rs w' s'
-    → Run w s (accepted es rs) (answered rs) (after w es rs) s'
-accepted_ends es rs w s w' s' h =
-    subst (λ (q : SessionState). Run w s (accepted es rs) (answered rs) q s') (run_after es rs w s w' s' h) (accepted_run es rs w s w' s' h)
+-- after each prefix of a run, the ring is that of all that was said so far
+pub rings_of_prefixes : (c : ℕ) (es : List Event) (rs : List Reply) (w : SessionState) (s s' : ScreenState) → Run w s es rs s' → w.tree.ring ≡ new_ring c
+    → (j : ℕ) → (session_after w (take j es) (take j rs)).tree.ring ≡ ring_of c (all_said w (take j es) (take j rs))
+rings_of_prefixes c es rs w s s' h empty j =
+    let prefix = prefix_runs j es rs w s s' h in
+    run_said c [] (take j es) (take j rs) w s prefix.0 prefix.1 (empty ∙ fold-push c [])

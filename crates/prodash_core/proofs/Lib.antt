@@ -1,8 +1,9 @@
 pub mod TableChanges
 pub mod Sorting
+pub mod RowsOfTasks
 pub mod Handles
 pub mod FrameSteps
-pub mod RunSteps
-pub mod RunBytes
-pub mod PageRuns
+pub mod StepLaws
+pub mod RunLaws
 pub mod AllSaid
+pub mod WorkedRuns

@@ -1,57 +1,55 @@
--- Entries with distinct keys, sorted, are those of the map that they make.
-use Rattle.std.proofs.Common.{◌≡◌, ℕ, ◌+◌, ◌<◌, Bool, false, cond, List, [], ◌∷◌, map, length, Option, Some, None, refl, sym, ap, subst, ◌∙◌, arith, get_or}
+-- Rows that show entries with distinct keys, sorted, show the map that the entries make.
+use Rattle.std.proofs.Common.{◌≡◌, ℕ, ◌+◌, ◌<◌, suc, zero, Bool, false, cond, List, [], ◌∷◌, map, length, Option, Some, None, refl, sym, ap, subst, ◌∙◌, arith, get_or, is_some}
 use mathlib.Core.Path.{fun_ext}
-use Rattle.std.specs.Prelude.{nat_eq, Contains, T}
-use Rattle.std.specs.Option.{option_map}
-use Rattle.std.specs.List.{IsDistinct, dedup, dedup_from, AllByRecursion}
+use Rattle.std.specs.Prelude.{nat_eq, Contains, T, slice_set, IsSome, ◌↔◌}
+use Rattle.std.specs.List.{IsDistinct, AllZip, swap, dedup, dedup_from, AllByRecursion}
 use Rattle.std.specs.List.Sorted.{IsPermutation, IsSortedByKey, IsSorted, IsStrictlySortedBy}
 use Rattle.std.specs.Cmp.Lexicographic.{pointwise, texts_ties, nat_list_eq_equiv}
 use Rattle.std.specs.Map.{lookup, keys_of}
 use Rattle.std.specs.BTreeMap.{is_at}
-use Rattle.std.specs.FinMap.{find, entries, entries_sorted, get-entries, get-from_entries}
+use Rattle.std.specs.FinMap.{find, get, entries, from_sorted, get-from_entries, get-from_sorted, entries-from_sorted, same_map, slice_cmp-IsAntisymmetric, nat_cmp-IsAntisymmetric}
 use Rattle.std.specs.FinMap.Entries.{is_sorted}
-use Rattle.prodash_base.specs.Rows.{Entry, row_of, rows_of}
+use Rattle.prodash_base.specs.Path.{Path, path_cmp}
+use Rattle.prodash_base.specs.plumbing.KeyHash.{same_path}
+use Rattle.prodash_base.specs.Rows.{Entry, PathRow, row_of, rows_of}
 use Rattle.prodash_base.specs.declared.progress.Row.{Row}
-use Rattle.prodash_core.specs.Tables.{pair_of, rows_at}
+use Rattle.prodash_core.specs.Tables.{pair_of, RowShows, RowsShow, ListsEachOnce, paths_of}
 use Rattle.prodash_core.specs.declared.tree.table.Task.{Task}
-use Rattle.prodash_core.proofs.TableChanges.{table_of, tasks_frozen, frozen_entry, find_frozen, sorted_frozen, sorted_list, same_sorted}
+use Rattle.prodash_core.proofs.TableChanges.{table_of, sorted_list}
 use Rattle.std.proofs.lemmas.List.Kept.{IsStrictlySortedBy-dedup}
 use Rattle.std.proofs.lemmas.Cmp.{nat_list_cmp_total}
-use Rattle.std.proofs.lemmas.List.{length-map}
-use Rattle.std.proofs.lemmas.Map.Entries.{place_from_lookup, lookup_from_place}
-use Rattle.std.proofs.lemmas.Option.{slice_get-get_or, slice_get_within}
-use Rattle.std.specs.Prelude.{slice_get}
+use Rattle.std.proofs.lemmas.List.{length-map, get_or-map}
 use Rattle.std.proofs.lemmas.Map.Keys.{IsDistinct-IsPermutation}
-use Rattle.std.proofs.lemmas.List.Sorted.{Contains-permutation, IsPermutation-map, IsPermutation-sym}
-use Rattle.std.proofs.lemmas.List.{get_or-map}
-use Rattle.prodash_base.specs.Path.{Path, path_cmp}
-use Rattle.prodash_base.specs.KeyHash.{same_path}
+use Rattle.std.proofs.lemmas.Map.Views.{lookup-from_Contains, Contains-from_lookup, Contains-keys_from_lookup, IsSome-lookup_from_Contains}
+use Rattle.std.proofs.lemmas.List.Sorted.{Contains-permutation, IsPermutation-map, IsPermutation-sym, IsPermutation-refl, IsPermutation-trans, IsPermutation-swap, IsPermutation-keeps}
 
 -- one test of a key is the other
 pub lookup_by_eq : {X : Type 0} (es : List (Path × X)) (q : Path) → lookup (pointwise nat_eq q) es ≡ lookup (is_at (path_cmp q)) es
 lookup_by_eq es q = ap (λ (test : Path → Bool). lookup test es) (fun_ext (λ k. texts_ties q k))
 
-pub find_is_lookup : {X : Type 0} (es : List (Path × X)) (q : Path) → find path_cmp q es ≡ lookup (is_at (path_cmp q)) es
+find_is_lookup : {X : Type 0} (es : List (Path × X)) (q : Path) → find path_cmp q es ≡ lookup (is_at (path_cmp q)) es
 find_is_lookup [] q = refl
 find_is_lookup (e ∷ es) q = ap (cond (is_at (path_cmp q) e.0) (Some e.1)) (find_is_lookup es q)
 
-contains_at : {X : Type 0} (xs : List X) (x : X) (i : ℕ) → slice_get xs i ≡ Some x → Contains xs x
-contains_at xs x i e =
-    let l = slice_get_within xs i x e in
-    let g : slice_get xs i ≡ Some (get_or xs i x) = slice_get-get_or xs i x l in
-    (i, l, cc)
+find_by_eq : {X : Type 0} (es : List (Path × X)) (q : Path) → find path_cmp q es ≡ lookup (pointwise nat_eq q) es
+find_by_eq es q = find_is_lookup es q ∙ sym (lookup_by_eq es q)
 
-some_kept : {X : Type 0} (xs ys : List (Path × X)) → IsPermutation xs ys → IsDistinct (pointwise nat_eq) (keys_of ys)
-    → (q : Path) (v : X) → lookup (pointwise nat_eq q) xs ≡ Some v → lookup (pointwise nat_eq q) ys ≡ Some v
-some_kept xs ys p f q v e =
-    let at = place_from_lookup (pointwise nat_eq q) xs v e in
-    let same : at.1 ≡ q = sym (same_path q at.1 at.3) in
-    let c = Contains-permutation xs ys (at.1, v) p (contains_at xs (at.1, v) at.0 at.2) in
-    let there = slice_get-get_or ys c.0 (at.1, v) c.1 ∙ ap Some c.2 in
-    subst (λ (k : Path). lookup (pointwise nat_eq k) ys ≡ Some v) same (lookup_from_place nat_list_eq_equiv ys c.0 at.1 v f there)
+-- an update by one test of the keys is one by the other
+pub update_by_eq : {X : Type 0} (es fs : List (Path × X)) (k : Path) (w : Option X)
+    → ((q : Path) → lookup (pointwise nat_eq q) fs ≡ cond (pointwise nat_eq k q) w (lookup (pointwise nat_eq q) es))
+    → (q : Path) → lookup (is_at (path_cmp q)) fs ≡ cond (is_at (path_cmp k) q) w (lookup (is_at (path_cmp q)) es)
+update_by_eq es fs k w h q =
+    sym (lookup_by_eq fs q) ∙ h q ∙ ap (λ b. cond b w (lookup (pointwise nat_eq q) es)) (texts_ties k q)
+    ∙ ap (λ o. cond (is_at (path_cmp k) q) w o) (lookup_by_eq es q)
 
 flips : (x y : Path) → pointwise nat_eq x y ≡ pointwise nat_eq y x
 flips = nat_list_eq_equiv.symm
+
+-- what a look-up finds, it finds in any order
+some_kept : {X : Type 0} (xs ys : List (Path × X)) → IsPermutation xs ys → IsDistinct (pointwise nat_eq) (keys_of ys)
+    → (q : Path) (v : X) → lookup (pointwise nat_eq q) xs ≡ Some v → lookup (pointwise nat_eq q) ys ≡ Some v
+some_kept xs ys p d q v e =
+    lookup-from_Contains nat_list_eq_equiv q v ys d (Contains-permutation xs ys (q, v) p (Contains-from_lookup same_path q v xs e))
 
 by_cases : {X : Type 0} (xs ys : List (Path × X)) (q : Path) → ((v : X) → lookup (pointwise nat_eq q) xs ≡ Some v → lookup (pointwise nat_eq q) ys ≡ Some v)
     → ((v : X) → lookup (pointwise nat_eq q) ys ≡ Some v → lookup (pointwise nat_eq q) xs ≡ Some v)
@@ -60,11 +58,13 @@ by_cases xs ys q f g None None i j = refl
 by_cases xs ys q f g None (Some v) i j = sym i ∙ g v j
 by_cases xs ys q f g (Some v) b i j = sym (f v i) ∙ j
 
-pub lookup-permutation : {X : Type 0} (xs ys : List (Path × X)) → IsPermutation xs ys → IsDistinct (pointwise nat_eq) (keys_of xs)
+keys_distinct : {X : Type 0} (xs ys : List (Path × X)) → IsPermutation xs ys → IsDistinct (pointwise nat_eq) (keys_of xs) → IsDistinct (pointwise nat_eq) (keys_of ys)
+keys_distinct {X} xs ys p d = IsDistinct-IsPermutation (pointwise nat_eq) flips (keys_of xs) (keys_of ys) (IsPermutation-map (λ (e : Path × X). e.0) xs ys p) d
+
+lookup-permutation : {X : Type 0} (xs ys : List (Path × X)) → IsPermutation xs ys → IsDistinct (pointwise nat_eq) (keys_of xs)
     → (q : Path) → lookup (pointwise nat_eq q) xs ≡ lookup (pointwise nat_eq q) ys
-lookup-permutation {X} xs ys p d q =
-    let f = IsDistinct-IsPermutation (pointwise nat_eq) flips (keys_of xs) (keys_of ys) (IsPermutation-map (λ (e : Path × X). e.0) xs ys p) d in
-    by_cases xs ys q (some_kept xs ys p f q) (some_kept ys xs (IsPermutation-sym xs ys p) d q) _ _ refl refl
+lookup-permutation xs ys p d q =
+    by_cases xs ys q (some_kept xs ys p (keys_distinct xs ys p d) q) (some_kept ys xs (IsPermutation-sym xs ys p) d q) _ _ refl refl
 
 -- a sorted list without equal keys
 no_repeat : (x : Path) (xs : List Path) → AllByRecursion (λ y. pointwise nat_eq x y ≡ false) xs → IsDistinct (pointwise nat_eq) xs → dedup_from (pointwise nat_eq) x xs ≡ x ∷ xs
@@ -86,42 +86,93 @@ sorted_keys {X} key (x ∷ xs) h = λ k d l m.
     let b = get_or-map key (x ∷ xs) (k + 1) x d n in
     rw (a, b) (h k x l n)
 
-pub strictly_sorted : {X : Type 0} (key : X → Path) (xs : List X) → IsSortedByKey key path_cmp xs → IsDistinct (pointwise nat_eq) (map key xs) → IsStrictlySortedBy path_cmp (map key xs)
-strictly_sorted key xs s d =
-    subst (IsStrictlySortedBy path_cmp) (dedup_distinct (map key xs) d) (IsStrictlySortedBy-dedup nat_list_cmp_total texts_ties (map key xs) (sorted_keys key xs s))
+strictly_sorted : (keys : List Path) → IsSorted path_cmp keys → IsDistinct (pointwise nat_eq) keys → IsStrictlySortedBy path_cmp keys
+strictly_sorted keys s d = subst (IsStrictlySortedBy path_cmp) (dedup_distinct keys d) (IsStrictlySortedBy-dedup nat_list_cmp_total texts_ties keys s)
 
--- an update by one test of the keys is one by the other
-pub update_by_eq : {X : Type 0} (es fs : List (Path × X)) (k : Path) (w : Option X)
-    → ((q : Path) → lookup (pointwise nat_eq q) fs ≡ cond (pointwise nat_eq k q) w (lookup (pointwise nat_eq q) es))
-    → (q : Path) → lookup (is_at (path_cmp q)) fs ≡ cond (is_at (path_cmp k) q) w (lookup (is_at (path_cmp q)) es)
-update_by_eq es fs k w h q =
-    sym (lookup_by_eq fs q) ∙ h q ∙ ap (λ b. cond b w (lookup (pointwise nat_eq q) es)) (texts_ties k q)
-    ∙ ap (λ o. cond (is_at (path_cmp k) q) w o) (lookup_by_eq es q)
+-- two lists with elements that belong together, and the same exchange in both
+zip-set : {A B : Type 0} (R : A → B → Type 0) (xs : List A) (ys : List B) (i : ℕ) (x : A) (y : B) → AllZip R xs ys → R x y → AllZip R (slice_set xs i x) (slice_set ys i y)
+zip-set R [] [] i x y h r = h
+zip-set R [] (b ∷ ys) i x y h r = absurd h
+zip-set R (a ∷ xs) [] i x y h r = absurd h
+zip-set R (a ∷ xs) (b ∷ ys) zero x y h r = (r, h.1)
+zip-set R (a ∷ xs) (b ∷ ys) (suc i) x y h r = (h.0, zip-set R xs ys i x y h.1 r)
 
-keys-rows_of : (rows : List Row) → keys_of (rows_of rows) ≡ map (λ r. r.key) rows
-keys-rows_of [] = refl
-keys-rows_of (r ∷ rows) = ap (λ ks. r.key ∷ ks) (keys-rows_of rows)
+zip-get : {A B : Type 0} (R : A → B → Type 0) (xs : List A) (ys : List B) (i : ℕ) (d : A) (e : B) → AllZip R xs ys → R d e → R (get_or xs i d) (get_or ys i e)
+zip-get R [] [] i d e h r = r
+zip-get R [] (b ∷ ys) i d e h r = absurd h
+zip-get R (a ∷ xs) [] i d e h r = absurd h
+zip-get R (a ∷ xs) (b ∷ ys) zero d e h r = h.0
+zip-get R (a ∷ xs) (b ∷ ys) (suc i) d e h r = zip-get R xs ys i d e h.1 r
 
-keys-frozen : {C : Type 0} (number : C → ℕ) (es : List (Path × Task C)) → keys_of (tasks_frozen number es) ≡ keys_of es
-keys-frozen number [] = refl
-keys-frozen number (e ∷ es) = ap (λ ks. e.0 ∷ ks) (keys-frozen number es)
+zip-swap : {A B : Type 0} (R : A → B → Type 0) (xs : List A) (ys : List B) (i j : ℕ) → AllZip R xs ys → AllZip R (swap xs i j) (swap ys i j)
+zip-swap R [] [] i j h = h
+zip-swap R [] (b ∷ ys) i j h = absurd h
+zip-swap R (a ∷ xs) [] i j h = absurd h
+zip-swap R (a ∷ xs) (b ∷ ys) i j h =
+    zip-set R _ _ j _ _ (zip-set R (a ∷ xs) (b ∷ ys) i _ _ h (zip-get R (a ∷ xs) (b ∷ ys) j a b h h.0)) (zip-get R (a ∷ xs) (b ∷ ys) i a b h h.0)
 
-find_by_eq : {X : Type 0} (es : List (Path × X)) (q : Path) → find path_cmp q es ≡ lookup (pointwise nat_eq q) es
-find_by_eq es q = find_is_lookup es q ∙ sym (lookup_by_eq es q)
+zip-length : {A B : Type 0} (R : A → B → Type 0) (xs : List A) (ys : List B) → AllZip R xs ys → length xs ≡ length ys
+zip-length R [] [] h = refl
+zip-length R [] (b ∷ ys) h = absurd h
+zip-length R (a ∷ xs) [] h = absurd h
+zip-length R (a ∷ xs) (b ∷ ys) h = ap suc (zip-length R xs ys h.1)
 
--- the tasks' rows, sorted by their keys, are the table's
-pub rows_sorted : {C : Type 0} (number : C → ℕ) (es : List (Path × Task C)) (old new : List Row) → rows_of old ≡ tasks_frozen number es
-    → IsDistinct (pointwise nat_eq) (keys_of es) → IsPermutation old new → IsSortedByKey (λ r. r.key) path_cmp new → rows_of new ≡ rows_at number (table_of es)
-rows_sorted number es old new e d p s =
-    let moved = IsPermutation-map row_of old new p in
-    let apart : IsDistinct (pointwise nat_eq) (keys_of (rows_of old)) = subst (IsDistinct (pointwise nat_eq)) (sym (ap keys_of e ∙ keys-frozen number es)) d in
-    let apart_new : IsDistinct (pointwise nat_eq) (keys_of (rows_of new)) =
-    IsDistinct-IsPermutation (pointwise nat_eq) flips (keys_of (rows_of old)) (keys_of (rows_of new)) (IsPermutation-map (λ (x : Path × Entry ℕ). x.0) (rows_of old) (rows_of new) moved) apart in
-    let rising : IsStrictlySortedBy path_cmp (map (λ (r : Row). r.key) new) = strictly_sorted (λ r. r.key) new s (subst (IsDistinct (pointwise nat_eq)) (keys-rows_of new) apart_new) in
-    let sorted_new : T (is_sorted path_cmp (rows_of new)) = sorted_list (rows_of new) (subst (IsStrictlySortedBy path_cmp) (sym (keys-rows_of new)) rising) in
-    let sorted_table : T (is_sorted path_cmp (rows_at number (table_of es))) = subst T (sym (sorted_frozen number (entries (table_of es)))) (entries_sorted (table_of es)) in
-    same_sorted (rows_of new) (rows_at number (table_of es)) sorted_new sorted_table (λ q.
-    find_by_eq (rows_of new) q ∙ sym (lookup-permutation (rows_of old) (rows_of new) moved apart q) ∙ sym (find_by_eq (rows_of old) q)
-    ∙ ap (find path_cmp q) e ∙ find_frozen number (map pair_of es) q
-    ∙ ap (option_map (frozen_entry number)) (sym (get-from_entries nat_list_cmp_total (map pair_of es) q) ∙ get-entries (table_of es) q)
-    ∙ sym (find_frozen number (entries (table_of es)) q))
+-- when one of the lists is put into another order, so can the other
+zip-permutation : {A B : Type 0} (R : A → B → Type 0) (xs : List A) (ys zs : List B) → AllZip R xs ys → IsPermutation ys zs
+    → (ws : List A) × IsPermutation xs ws × AllZip R ws zs
+zip-permutation {A} {B} R xs ys zs h p =
+    IsPermutation-keeps ys (λ l. (ws : List A) × IsPermutation xs ws × AllZip R ws l) (xs, IsPermutation-refl xs, h)
+    (λ l i j m n q.
+    let long = zip-length R q.0 l q.2 in
+    (swap q.0 i j, IsPermutation-trans xs q.0 (swap q.0 i j) q.1 (IsPermutation-swap q.0 (swap q.0 i j) i j (omega arith) (omega arith) refl), zip-swap R q.0 l i j q.2)) zs p
+
+paths-rows_of : (rows : List Row) → map (λ (r : Row). r.key) rows ≡ paths_of (rows_of rows)
+paths-rows_of [] = refl
+paths-rows_of (r ∷ rows) = ap (λ ks. r.key ∷ ks) (paths-rows_of rows)
+
+keys-pairs : {C : Type 0} (es : List (Path × Task C)) → keys_of es ≡ keys_of (map pair_of es)
+keys-pairs [] = refl
+keys-pairs (e ∷ es) = ap (λ ks. e.0 ∷ ks) (keys-pairs es)
+
+-- rows have the paths of the entries that they show
+shown_paths : {C : Type 0} (shows : C → ℕ → Type 0) (es : List (Path × Entry C)) (rows : List PathRow) → AllZip (RowShows shows) es rows → paths_of rows ≡ keys_of es
+shown_paths shows [] [] h = refl
+shown_paths shows [] (r ∷ rows) h = absurd h
+shown_paths shows (e ∷ es) [] h = absurd h
+shown_paths shows (e ∷ es) (r ∷ rows) h = λ i. h.0.path i ∷ shown_paths shows es rows h.1 i
+
+-- the entries of a table, in the order of their keys
+sorted_entries : {C : Type 0} (es : List (Path × Task C)) (fs : List (Path × Entry C)) → IsPermutation (map pair_of es) fs → IsDistinct (pointwise nat_eq) (keys_of es)
+    → T (is_sorted path_cmp fs) → entries (table_of es) ≡ fs
+sorted_entries es fs p d s =
+    let apart = subst (IsDistinct (pointwise nat_eq)) (keys-pairs es) d in
+    let same : table_of es ≡ from_sorted fs = same_map nat_list_cmp_total (slice_cmp-IsAntisymmetric nat_cmp-IsAntisymmetric) _ _ (λ q.
+    get-from_entries nat_list_cmp_total (map pair_of es) q ∙ find_by_eq (map pair_of es) q ∙ lookup-permutation (map pair_of es) fs p apart q ∙ sym (find_by_eq fs q)
+    ∙ sym (get-from_sorted path_cmp fs q s)) in
+    ap entries same ∙ entries-from_sorted path_cmp fs s
+
+-- a table has a path if and only if the path is among its keys
+lists_each : {C : Type 0} (es : List (Path × Task C)) (fs : List (Path × Entry C)) → IsPermutation (map pair_of es) fs → IsDistinct (pointwise nat_eq) (keys_of es)
+    → (q : Path) → IsSome (get (table_of es) q) ↔ Contains (keys_of fs) q
+lists_each es fs p d q =
+    let apart = subst (IsDistinct (pointwise nat_eq)) (keys-pairs es) d in
+    let found : get (table_of es) q ≡ lookup (pointwise nat_eq q) fs =
+    get-from_entries nat_list_cmp_total (map pair_of es) q ∙ find_by_eq (map pair_of es) q ∙ lookup-permutation (map pair_of es) fs p apart q in
+    (λ h. Contains-keys_from_lookup same_path q fs (ap is_some (sym found) ∙ h), λ c. ap is_some found ∙ IsSome-lookup_from_Contains nat_list_eq_equiv q fs c)
+
+-- rows that show the tasks, sorted by their keys, show the table
+pub rows_sorted : {C : Type 0} (shows : C → ℕ → Type 0) (es : List (Path × Task C)) (old new : List Row) → AllZip (RowShows shows) (map pair_of es) (rows_of old)
+    → IsDistinct (pointwise nat_eq) (keys_of es) → IsPermutation old new → IsSortedByKey (λ r. r.key) path_cmp new
+    → RowsShow shows (table_of es) (rows_of new) × ListsEachOnce (table_of es) (rows_of new)
+rows_sorted shows es old new h d p s =
+    let moved = zip-permutation (RowShows shows) (map pair_of es) (rows_of old) (rows_of new) h (IsPermutation-map row_of old new p) in
+    let paths = shown_paths shows moved.0 (rows_of new) moved.2 in
+    let apart = keys_distinct (map pair_of es) moved.0 moved.1 (subst (IsDistinct (pointwise nat_eq)) (keys-pairs es) d) in
+    let rising = strictly_sorted (keys_of moved.0) (subst (IsSorted path_cmp) (paths-rows_of new ∙ paths) (sorted_keys (λ (r : Row). r.key) new s)) apart in
+    let listed = sorted_entries es moved.0 moved.1 d (sorted_list moved.0 rising) in (
+      subst (λ fs. AllZip (RowShows shows) fs (rows_of new)) (sym listed) moved.2,
+      record {
+        ascending = subst (IsStrictlySortedBy path_cmp) (sym paths) rising;
+        each = λ q. subst (λ ks. IsSome (get (table_of es) q) ↔ Contains ks q) (sym paths) (lists_each es moved.0 moved.1 d q);
+      },
+    )

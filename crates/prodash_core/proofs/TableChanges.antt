@@ -4,7 +4,9 @@ use Rattle.std.specs.Option.{option_map}
 use Rattle.std.specs.Ordering.{eq_by_cmp, is_lt}
 use Rattle.std.specs.Cmp.{eq_by_cmp_equiv}
 use Rattle.std.proofs.lemmas.Cmp.{nat_list_cmp_total}
-use Rattle.std.specs.Prelude.{T}
+use Rattle.std.specs.Prelude.{T, nat_eq, ◌≢◌}
+use Rattle.std.specs.Cmp.Lexicographic.{pointwise, texts_ties}
+use Rattle.prodash_base.specs.plumbing.KeyHash.{same_path}
 use Rattle.std.specs.List.{AllByRecursion}
 use Rattle.std.specs.List.Sorted.{IsStrictlySortedBy}
 use Rattle.std.specs.declared.cmp.Ordering.TheVariants.{Less}
@@ -54,6 +56,19 @@ table_of-remove es fs k h = same_map nat_list_cmp_total (slice_cmp-IsAntisymmetr
     ∙ ap (λ b. cond b None (option_map entry_of (task_at es q))) ((eq_by_cmp_equiv nat_list_cmp_total).symm k q)
     ∙ sym (get-remove nat_list_cmp_total (table_of es) k q ∙ ap (cond (eq_by_cmp path_cmp q k) None) (get-table_of es q)))
 
+-- a table without a path doesn't have it, and has the others as before
+pub get_removed : {C : Type 0} (m m' : Table C) (k : Path) → m' ≡ remove m k → get m' k ≡ None
+get_removed m m' k h =
+    ap (λ q. get q k) h ∙ get-remove nat_list_cmp_total m k k ∙ ap (λ b. cond b None (get m k)) ((eq_by_cmp_equiv nat_list_cmp_total).refl k)
+
+unlike : (b : Bool) (q k : Path) → pointwise nat_eq q k ≡ b → q ≢ k → b ≡ false
+unlike true q k e n = absurd (n (same_path q k e))
+unlike false q k e n = refl
+
+pub get_others : {C : Type 0} (m m' : Table C) (k : Path) → m' ≡ remove m k → (q : Path) → q ≢ k → get m' q ≡ get m q
+get_others m m' k h q n =
+    ap (λ t. get t q) h ∙ get-remove nat_list_cmp_total m k q ∙ ap (λ b. cond b None (get m q)) (sym (texts_ties q k) ∙ unlike (pointwise nat_eq q k) q k refl n)
+
 is_some-map : {A B : Type 0} (f : A → B) (o : Option A) → is_some (option_map f o) ≡ is_some o
 is_some-map f None = refl
 is_some-map f (Some a) = refl
@@ -77,45 +92,6 @@ both : (a b : Bool) → T a → T b → T (a && b)
 both true b p q = q
 both false b p q = p
 
-below : {C : Type 0} (k : Path) (es : List (Path × Task C)) → AllByRecursion (λ q. path_cmp k q ≡ Less) (keys_of es) → T (below_all path_cmp k (map pair_of es))
-below k [] h = tt
-below k (e ∷ es) h = both (is_lt (path_cmp k e.0)) (below_all path_cmp k (map pair_of es)) (subst (λ o. T (is_lt o)) (sym h.0) tt) (below k es h.1)
-
-pub sorted_pairs : {C : Type 0} (es : List (Path × Task C)) → IsStrictlySortedBy path_cmp (keys_of es) → T (is_sorted path_cmp (map pair_of es))
-unfolding IsStrictlySortedBy
-sorted_pairs [] h = tt
-sorted_pairs (e ∷ es) h = both (below_all path_cmp e.0 (map pair_of es)) (is_sorted path_cmp (map pair_of es)) (below e.0 es h.0) (sorted_pairs es h.1)
-
--- the entries of the table are the pairs, where these are sorted
-pub entries-table_of : {C : Type 0} (es : List (Path × Task C)) → IsStrictlySortedBy path_cmp (keys_of es) → entries (table_of es) ≡ map pair_of es
-entries-table_of es h =
-    let s = sorted_pairs es h in
-    let same : table_of es ≡ from_sorted (map pair_of es) = same_map nat_list_cmp_total (slice_cmp-IsAntisymmetric nat_cmp-IsAntisymmetric) _ _ (λ q.
-    get-from_entries nat_list_cmp_total (map pair_of es) q ∙ sym (get-from_sorted path_cmp (map pair_of es) q s)) in
-    ap entries same ∙ entries-from_sorted path_cmp (map pair_of es) s
-
--- a list of pairs that is sorted and has the table's tasks is the table's rows
-abbrev pub tasks_frozen : {C : Type 0} → (C → ℕ) → List (Path × Task C) → List (Path × Entry ℕ)
-tasks_frozen number es = map (frozen number) (map pair_of es)
-
-abbrev pub frozen_entry : {C : Type 0} → (C → ℕ) → Entry C → Entry ℕ
-frozen_entry number e = (frozen number ([], e)).1
-
-pub find_frozen : {C : Type 0} (number : C → ℕ) (es : List (Path × Entry C)) (q : Path) → find path_cmp q (map (frozen number) es) ≡ option_map (frozen_entry number) (find path_cmp q es)
-find_frozen number [] q = refl
-find_frozen number (e ∷ es) q =
-    ap (cond (is_at (path_cmp q) e.0) (Some (frozen_entry number e.1))) (find_frozen number es q)
-    ∙ sym (map_cond (frozen_entry number) (is_at (path_cmp q) e.0) (Some e.1) (find path_cmp q es))
-
-below_frozen : {C : Type 0} (number : C → ℕ) (k : Path) (es : List (Path × Entry C)) → below_all path_cmp k (map (frozen number) es) ≡ below_all path_cmp k es
-below_frozen number k [] = refl
-below_frozen number k (e ∷ es) = ap (λ b. is_lt (path_cmp k e.0) && b) (below_frozen number k es)
-
-pub sorted_frozen : {C : Type 0} (number : C → ℕ) (es : List (Path × Entry C)) → is_sorted path_cmp (map (frozen number) es) ≡ is_sorted path_cmp es
-sorted_frozen number [] = refl
-sorted_frozen number (e ∷ es) =
-    ap (λ b. b && is_sorted path_cmp (map (frozen number) es)) (below_frozen number e.0 es) ∙ ap (λ b. below_all path_cmp e.0 es && b) (sorted_frozen number es)
-
 keep_below : {X : Type 0} (k : Path) (es : List (Path × X)) → AllByRecursion (λ q. path_cmp k q ≡ Less) (keys_of es) → T (below_all path_cmp k es)
 keep_below k [] h = tt
 keep_below k (e ∷ es) h = both (is_lt (path_cmp k e.0)) (below_all path_cmp k es) (subst (λ o. T (is_lt o)) (sym h.0) tt) (keep_below k es h.1)
@@ -124,11 +100,3 @@ pub sorted_list : {X : Type 0} (es : List (Path × X)) → IsStrictlySortedBy pa
 unfolding IsStrictlySortedBy
 sorted_list [] h = tt
 sorted_list (e ∷ es) h = both (below_all path_cmp e.0 es) (is_sorted path_cmp es) (keep_below e.0 es h.0) (sorted_list es h.1)
-
--- two sorted lists with the same look-ups are one
-pub same_sorted : {X : Type 0} (es fs : List (Path × X)) → T (is_sorted path_cmp es) → T (is_sorted path_cmp fs)
-    → ((q : Path) → find path_cmp q es ≡ find path_cmp q fs) → es ≡ fs
-same_sorted es fs s t h =
-    let same : from_sorted {R = path_cmp} es ≡ from_sorted fs = same_map nat_list_cmp_total (slice_cmp-IsAntisymmetric nat_cmp-IsAntisymmetric) _ _ (λ q.
-    get-from_sorted path_cmp es q s ∙ h q ∙ sym (get-from_sorted path_cmp fs q t)) in
-    sym (entries-from_sorted path_cmp es s) ∙ ap entries same ∙ entries-from_sorted path_cmp fs t

@@ -1,120 +1,146 @@
 -- Whole runs: the replies to a list of events, and what they write.
-use Rattle.std.specs.Prelude.{◌≡◌, ℕ, Bool, true, false, List, [], ◌∷◌, ◌++◌, take, Option, Some, None, if◌then◌else◌, IsTrue, MatchBool}
-use Rattle.std.specs.List.{AllByRecursion}
-use Rattle.std.specs.Option.{option_map}
+use Rattle.std.specs.Prelude.{◌≡◌, ℕ, suc, Bool, true, false, ◌<◌, List, [], ◌∷◌, ◌++◌, length, take, drop, slice_get, Option, Some, None, if◌then◌else◌, Result, Ok, Err}
+use Rattle.prodash_base.specs.declared.refusal.Refusal.{Refusal}
 use Rattle.prodash_base.specs.declared.refusal.Refusal.TheVariants as refusals
-use Rattle.prodash_line.specs.declared.render.line.draw.input.Input.{Input}
-use Rattle.prodash_line.specs.Signs.{spelling}
-use Rattle.prodash_line.specs.Lines.{Line}
-use Rattle.prodash_line.specs.Frames.{Frame, frame_signs, frame_leaves, widths_of}
-use Rattle.prodash_line.specs.Renderer.{Renderer, frame_at, next}
-use Rattle.prodash_line.specs.Screens.{Taken}
-use Rattle.prodash_core.specs.Trees.{Handle, Tree, item, words_of, play}
-use Rattle.prodash_core.specs.Sessions.{SessionState, input_at, played_tree, Steps}
 use Rattle.prodash_base.specs.declared.messages.Message.{Message as Said}
 use Rattle.prodash_base.specs.declared.messages.MessageLevel.{MessageLevel}
+use Rattle.prodash_base.specs.Rings.{ring_of}
+use Rattle.prodash_line.specs.declared.render.line.draw.input.Answer.{Answer}
+use Rattle.prodash_line.specs.declared.render.line.draw.input.Answer.TheVariants as answers
+use Rattle.prodash_line.specs.Renderer.{new_renderer}
+use Rattle.prodash_line.specs.Renderings.{Rendering, renderer_after, RendersEach, BreaksExactly, FlushesFrame, WritesAttempts, attempts_of, drawn_frames, FitsPage, ShowsFrames}
+use Rattle.prodash_line.specs.Screens.{ScreenState}
+use Rattle.prodash_line.specs.Page.{Canvas}
+use Rattle.prodash_core.specs.declared.tree.slot.Slot.{Slot}
+use Rattle.prodash_core.specs.Trees.{Tree, Effect, OnTree, OnRenderer, effect, item_at, message_by}
+use Rattle.prodash_core.specs.Sessions.{SessionState, new_session, changed_tree, is_memory, Steps}
+use Rattle.prodash_core.specs.declared.tree.options.SessionOptions.{SessionOptions}
 use Rattle.prodash_core.specs.declared.tree.event.Event.{Event}
 use Rattle.prodash_core.specs.declared.tree.event.Event.TheVariants.{Message}
 use Rattle.prodash_core.specs.declared.tree.event.Reply.{Reply}
 use Rattle.prodash_core.specs.declared.tree.event.Reply.TheVariants as replies
 
--- one step after another, from a session and a screen to a session and a screen
-abbrev pub Run : SessionState → Taken → List Event → List Reply → SessionState → Taken → Type 0
-Run w s [] [] w' s' = (w' ≡ w) × (s' ≡ s)
-Run w s (e ∷ es) (r ∷ rs) w' s' = (w₁ : SessionState) × (s₁ : Taken) × Steps w s e r w₁ s₁ × Run w₁ s₁ es rs w' s'
-Run w s [] (r ∷ rs) w' s' = ⊥
-Run w s (e ∷ es) [] w' s' = ⊥
+-- what the renderer returned, of the reply to a frame
+abbrev pub result_of : Reply → Result Answer Refusal
+result_of replies.Drawn = Ok answers.Drawn
+result_of replies.Ended = Ok answers.Ended
+result_of (replies.Refused refusal) = Err refusal
+result_of _ = Err refusals.Memory
 
-abbrev pub is_memory : Reply → Bool
-is_memory (replies.Refused refusals.Memory) = true
-is_memory _ = false
+abbrev pub next_by : Effect → SessionState → Reply → SessionState
+next_by (OnTree memory change) w reply = if is_memory reply then w else record w { tree = changed_tree w.tree (change w.tree) }
+next_by (OnRenderer input) w reply = record w { renderer = renderer_after w.renderer (record { input = input w.tree w.renderer.seen; result = result_of reply }) }
 
-abbrev pub is_broken : Reply → Bool
-is_broken (replies.Refused refusals.Broken) = true
-is_broken _ = false
+-- the session after an event with this reply
+abbrev pub next_session : SessionState → Event → Reply → SessionState
+next_session w e reply = next_by (effect e) w reply
 
-abbrev pub is_closed : Reply → Bool
-is_closed (replies.Refused refusals.Closed) = true
-is_closed _ = false
+-- the session after a list of events with these replies
+abbrev pub session_after : SessionState → List Event → List Reply → SessionState
+session_after w [] rs = w
+session_after w (e ∷ es) [] = w
+session_after w (e ∷ es) (r ∷ rs) = session_after (next_session w e r) es rs
 
--- the events that weren't refused memory, and their replies
-abbrev pub accepted : List Event → List Reply → List Event
-accepted [] rs = []
-accepted (e ∷ es) [] = []
-accepted (e ∷ es) (r ∷ rs) = if is_memory r then accepted es rs else e ∷ accepted es rs
+-- one step after another, each from the session that those before it leave
+abbrev pub Run : SessionState → ScreenState → List Event → List Reply → ScreenState → Type 0
+Run w s [] [] s' = s' ≡ s
+Run w s (e ∷ es) (r ∷ rs) s' = (s₁ : ScreenState) × Steps w s e r (next_session w e r) s₁ × Run (next_session w e r) s₁ es rs s'
+Run w s [] (r ∷ rs) s' = ⊥
+Run w s (e ∷ es) [] s' = ⊥
 
-abbrev pub answered : List Reply → List Reply
-answered [] = []
-answered (r ∷ rs) = if is_memory r then answered rs else r ∷ answered rs
+-- the replies to a run from a new session
+abbrev pub RunsFromNew : SessionOptions → List Event → List Reply → ScreenState → ScreenState → Type 0
+RunsFromNew options es rs s s' = Run (new_session options) s es rs s'
 
--- The session after an event that was answered so, not with want of memory. A frame that was answered that the renderer is closed has
--- changed nothing, and after one that was answered that the screen is broken every further frame is.
-abbrev pub renderer_after : Renderer → Option Input → Reply → Renderer
-renderer_after r None reply = r
-renderer_after r (Some input) reply = if is_closed reply then r else if is_broken reply then record r { ended = Some refusals.Broken } else next r input
+-- The step at a place of the list: its event and reply, the screen before and after it, and that it goes from the session after the events
+-- before it to the session after it too.
+pub record StepsAt (w : SessionState) (es : List Event) (rs : List Reply) (j : ℕ) (s s' : ScreenState) : Type 0 where
+  pub event : Event
+  pub reply : Reply
+  pub asked : slice_get es j ≡ Some event
+  pub replied : slice_get rs j ≡ Some reply
+  pub before : ScreenState
+  pub after : ScreenState
+  pub earlier : Run w s (take j es) (take j rs) before
+  pub step : Steps (session_after w (take j es) (take j rs)) before event reply (session_after w (take (suc j) es) (take (suc j) rs)) after
+  pub later : Run (session_after w (take (suc j) es) (take (suc j) rs)) after (drop (suc j) es) (drop (suc j) rs) s'
 
-abbrev pub follow : SessionState → Event → Reply → SessionState
-follow w e reply = record { tree = played_tree w.tree (play w.tree e); renderer = renderer_after w.renderer (input_at w e) reply }
+-- the step of each event
+abbrev pub StepsAtEach : SessionOptions → List Event → List Reply → ScreenState → ScreenState → Type 0
+StepsAtEach options es rs s s' = (j : ℕ) → j < length es → StepsAt (new_session options) es rs j s s'
 
--- the session after an event, and after a list of events, that were answered so
-abbrev pub after_event : SessionState → Event → Reply → SessionState
-after_event w e r = if is_memory r then w else follow w e r
+-- the events that weren't out of memory, and their replies
+abbrev pub accepted_events : List Event → List Reply → List Event
+accepted_events [] rs = []
+accepted_events (e ∷ es) [] = []
+accepted_events (e ∷ es) (r ∷ rs) = if is_memory r then accepted_events es rs else e ∷ accepted_events es rs
 
-abbrev pub after : SessionState → List Event → List Reply → SessionState
-after w [] rs = w
-after w (e ∷ es) [] = w
-after w (e ∷ es) (r ∷ rs) = after (after_event w e r) es rs
+abbrev pub accepted_replies : List Reply → List Reply
+accepted_replies [] = []
+accepted_replies (r ∷ rs) = if is_memory r then accepted_replies rs else r ∷ accepted_replies rs
 
--- what an event says, if it is one that says something and its item lives
-abbrev pub words_for : Tree → Option Handle → ℕ → MessageLevel → List ℕ → List Said
-words_for t None at level text = []
-words_for t (Some h) at level text = words_of t h at level text ∷ []
+-- the same run without the events that were out of memory, which ends in the same session
+pub record RunsWithoutRefused (options : SessionOptions) (es : List Event) (rs : List Reply) (s s' : ScreenState) : Type 0 where
+  pub run : Run (new_session options) s (accepted_events es rs) (accepted_replies rs) s'
+  pub session : session_after (new_session options) (accepted_events es rs) (accepted_replies rs) ≡ session_after (new_session options) es rs
 
-abbrev pub words_by : Tree → Event → List Said
-words_by t (Message n at level text) = words_for t (item t n) at level text
-words_by t e = []
+abbrev pub said_for : Tree → Option Slot → ℕ → MessageLevel → List ℕ → List Said
+said_for t None at level text = []
+said_for t (Some slot) at level text = message_by t slot at level text ∷ []
+
+-- the message of an event, if it is one of a valid item
+abbrev pub said_by : Tree → Event → List Said
+said_by t (Message n at level text) = said_for t (item_at t n) at level text
+said_by t _ = []
 
 abbrev pub is_done : Reply → Bool
 is_done replies.Done = true
-is_done reply = false
+is_done _ = false
 
--- all messages that were said and accepted, in order
-abbrev pub words_in : Tree → Event → Reply → List Said
-words_in t e r = if is_done r then words_by t e else []
-
+-- all accepted messages, in order
 abbrev pub all_said : SessionState → List Event → List Reply → List Said
 all_said w [] rs = []
 all_said w (e ∷ es) [] = []
-all_said w (e ∷ es) (r ∷ rs) = words_in w.tree e r ++ all_said (after_event w e r) es rs
+all_said w (e ∷ es) (r ∷ rs) = (if is_done r then said_by w.tree e else []) ++ all_said (next_session w e r) es rs
 
--- a frame that was asked for, and whether it was answered that the screen is broken
-pub record Shot : Type 0 where
-  pub frame : Frame
-  pub broken : Bool
+-- after each prefix of the events, the ring is that of all messages so far
+abbrev pub KeepsMessages : SessionOptions → List Event → List Reply → Type 0
+KeepsMessages options es rs =
+    (j : ℕ) → (session_after (new_session options) (take j es) (take j rs)).tree.ring
+    ≡ ring_of options.root.message_buffer_capacity (all_said (new_session options) (take j es) (take j rs))
 
--- none where it was answered that the renderer is closed
-abbrev pub shot_of : Option Frame → Reply → List Shot
-shot_of None reply = []
-shot_of (Some frame) reply = if is_closed reply then [] else record { frame = frame; broken = is_broken reply } ∷ []
+abbrev pub rendering_by : Effect → SessionState → Reply → List Rendering
+rendering_by (OnTree memory change) w reply = []
+rendering_by (OnRenderer input) w reply = record { input = input w.tree w.renderer.seen; result = result_of reply } ∷ []
 
--- the frames of a list of events that were answered so, those refused memory and those after the closing frame taken out
-abbrev pub shots_of : SessionState → List Event → List Reply → List Shot
-shots_of w [] rs = []
-shots_of w (e ∷ es) [] = []
-shots_of w (e ∷ es) (r ∷ rs) = if is_memory r then shots_of w es rs else shot_of (option_map (frame_at w.renderer) (input_at w e)) r ++ shots_of (follow w e r) es rs
+-- the inputs of the frames among the events, each with what the renderer returned
+abbrev pub renderings_from : SessionState → List Event → List Reply → List Rendering
+renderings_from w [] rs = []
+renderings_from w (e ∷ es) [] = []
+renderings_from w (e ∷ es) (r ∷ rs) = rendering_by (effect e) w r ++ renderings_from (next_session w e r) es rs
 
--- the bytes of a frame over the lines that stand
-abbrev pub bytes_over : List Line → Frame → List ℕ
-bytes_over standing frame = spelling (frame_signs (widths_of standing) frame)
+abbrev pub renderings_of : SessionOptions → List Event → List Reply → List Rendering
+renderings_of options es rs = renderings_from (new_session options) es rs
 
--- every frame is answered that the screen is broken
-abbrev pub AllBroken : List Shot → Type 0
-AllBroken shots = AllByRecursion (λ shot. IsTrue shot.broken) shots
+-- `Broken` is the reply to a frame exactly if it was the reply to one before, or if the frame has bytes and the screen is broken after it
+abbrev pub EachBreaksExactly : SessionOptions → List Event → List Reply → ScreenState → ScreenState → Type 0
+EachBreaksExactly options es rs s s' = RendersEach BreaksExactly (new_renderer options.draw) s (renderings_of options es rs) s'
 
--- what is written of frames, over the lines that stand: each whole; but of the first that is answered that the screen is broken a
--- beginning, and then nothing more, each later one being answered so too
-abbrev pub Wrote : List Line → List Shot → List ℕ → Type 0
-Wrote standing [] bytes = bytes ≡ []
-Wrote standing (shot ∷ shots) bytes =
-    MatchBool shot.broken ((n : ℕ) × (bytes ≡ take n (bytes_over standing shot.frame)) × AllBroken shots)
-    ((rest : List ℕ) × (bytes ≡ bytes_over standing shot.frame ++ rest) × Wrote (frame_leaves standing shot.frame) shots rest)
+-- each accepted frame with bytes is flushed
+abbrev pub EachFlushes : SessionOptions → List Event → List Reply → ScreenState → ScreenState → Type 0
+EachFlushes options es rs s s' = RendersEach FlushesFrame (new_renderer options.draw) s (renderings_of options es rs) s'
+
+-- the bytes that the screen takes are those of the frames, each whole up to the first that breaks the screen
+abbrev pub WritesFrames : SessionOptions → List Event → List Reply → ScreenState → ScreenState → Type 0
+WritesFrames options es rs s s' =
+    (bytes : List ℕ) × (s'.bytes ≡ s.bytes ++ bytes) × WritesAttempts [] (attempts_of (new_renderer options.draw) (renderings_of options es rs)) bytes
+
+-- on a page that everything fits, the frames are shown
+abbrev pub ShowsOnPages : SessionOptions → List Event → List Reply → ScreenState → ScreenState → Type 0
+ShowsOnPages options es rs s s' =
+    (page : Canvas) (above : List (List ℕ)) → FitsPage (new_renderer options.draw) (renderings_of options es rs) s'.broken above page
+    → ShowsFrames s.bytes s'.bytes (drawn_frames (new_renderer options.draw) (renderings_of options es rs)) above page
+
+-- a screen that isn't broken has flushed all that it took, if it had before
+abbrev pub StaysFlushed : ScreenState → ScreenState → Type 0
+StaysFlushed s s' = s.flushed ≡ s.bytes → s'.broken ≡ false → s'.flushed ≡ s'.bytes

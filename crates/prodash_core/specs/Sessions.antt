@@ -1,17 +1,15 @@
 -- Sessions: a tree and a renderer, and what one event does to them and to the screen.
-use Rattle.std.specs.Prelude.{◌≡◌, Option, Some, None, Result, Ok, Err, IsTrue, IsOk}
+use Rattle.std.specs.Prelude.{◌≡◌, Bool, true, false, Option, Some, None, Result, Ok, Err, IsTrue, IsOk, MatchBool}
 use Rattle.prodash_base.specs.declared.refusal.Refusal.{Refusal}
 use Rattle.prodash_base.specs.declared.refusal.Refusal.TheVariants as refusals
 use Rattle.prodash_line.specs.declared.render.line.draw.input.Input.{Input}
-use Rattle.prodash_line.specs.declared.render.line.draw.input.Input.TheVariants as inputs
 use Rattle.prodash_line.specs.declared.render.line.draw.input.Answer.{Answer}
 use Rattle.prodash_line.specs.declared.render.line.draw.input.Answer.TheVariants as answers
-use Rattle.prodash_line.specs.Renderer.{Renderer, Renders, fresh}
-use Rattle.prodash_line.specs.Screens.{Taken}
-use Rattle.prodash_core.specs.Trees.{Tree, opening_tree, seen_of, play, takes_memory}
-use Rattle.prodash_core.specs.declared.tree.session.SessionOptions.{SessionOptions}
+use Rattle.prodash_line.specs.Renderer.{Renderer, Renders, new_renderer}
+use Rattle.prodash_line.specs.Screens.{ScreenState}
+use Rattle.prodash_core.specs.Trees.{Tree, new_tree, Change, Effect, OnTree, OnRenderer, effect}
+use Rattle.prodash_core.specs.declared.tree.options.SessionOptions.{SessionOptions}
 use Rattle.prodash_core.specs.declared.tree.event.Event.{Event}
-use Rattle.prodash_core.specs.declared.tree.event.Event.TheVariants.{Tick, Quit}
 use Rattle.prodash_core.specs.declared.tree.event.Reply.{Reply}
 use Rattle.prodash_core.specs.declared.tree.event.Reply.TheVariants as replies
 
@@ -20,59 +18,65 @@ pub record SessionState : Type 0 where
   pub renderer : Renderer
 
 -- nothing but the root, no messages, and nothing drawn
-abbrev pub opening : SessionOptions → SessionState
-opening options = record { tree = opening_tree options.root.message_buffer_capacity; renderer = fresh options.draw }
+abbrev pub new_session : SessionOptions → SessionState
+new_session options = record { tree = new_tree options.root.message_buffer_capacity; renderer = new_renderer options.draw }
 
--- what a frame asks of the renderer; other events ask nothing
+abbrev pub input_by : SessionState → Effect → Option Input
+input_by w (OnTree memory change) = None
+input_by w (OnRenderer input) = Some (input w.tree w.renderer.seen)
+
+-- the input for the renderer, if the event is a frame
 abbrev pub input_at : SessionState → Event → Option Input
-input_at w (Tick at show) = Some (inputs.Tick at show (seen_of w.tree w.renderer.seen))
-input_at w (Quit at) = Some (inputs.Quit at)
-input_at w _ = None
+input_at w e = input_by w (effect e)
 
--- the reply that the renderer's answer is
+-- the reply with what the renderer returned
 abbrev pub frame_reply : Result Answer Refusal → Reply
 frame_reply (Ok answers.Drawn) = replies.Drawn
 frame_reply (Ok answers.Ended) = replies.Ended
 frame_reply (Err refusal) = replies.Refused refusal
 
--- the reply and the tree that the event's play is
-abbrev pub played_reply : Result (Tree × Reply) Refusal → Reply
-played_reply (Ok played) = played.1
-played_reply (Err refusal) = replies.Refused refusal
+-- the reply and the tree of a change
+abbrev pub changed_reply : Result (Tree × Reply) Refusal → Reply
+changed_reply (Ok changed) = changed.1
+changed_reply (Err refusal) = replies.Refused refusal
 
-abbrev pub played_tree : Tree → Result (Tree × Reply) Refusal → Tree
-played_tree t (Ok played) = played.0
-played_tree t (Err refusal) = t
+abbrev pub changed_tree : Tree → Result (Tree × Reply) Refusal → Tree
+changed_tree t (Ok changed) = changed.0
+changed_tree t (Err refusal) = t
 
--- a frame: the renderer does what the input asks, and the tree stays
-pub record FrameStep (w : SessionState) (input : Input) (s : Taken) (reply : Reply) (w' : SessionState) (s' : Taken) : Type 0 where
-  pub answer : Result Answer Refusal
-  pub says : reply ≡ frame_reply answer
+-- a frame: the renderer renders the input, and the tree stays
+pub record RendersFrame (w : SessionState) (input : Input) (s : ScreenState) (reply : Reply) (w' : SessionState) (s' : ScreenState) : Type 0 where
+  pub result : Result Answer Refusal
+  pub replied : reply ≡ frame_reply result
   pub tree : w'.tree ≡ w.tree
-  pub renders : Renders w.renderer input s answer w'.renderer s'
+  pub renders : Renders w.renderer input s result w'.renderer s'
 
--- another event: the tree plays it, and renderer and screen stay
-pub record Acts (w : SessionState) (s : Taken) (e : Event) (reply : Reply) (w' : SessionState) (s' : Taken) : Type 0 where
-  pub says : reply ≡ played_reply (play w.tree e)
-  pub tree : w'.tree ≡ played_tree w.tree (play w.tree e)
+-- another event: the tree changes, and renderer and screen stay
+pub record AppliesChange (w : SessionState) (s : ScreenState) (change : Change) (reply : Reply) (w' : SessionState) (s' : ScreenState) : Type 0 where
+  pub replied : reply ≡ changed_reply (change w.tree)
+  pub tree : w'.tree ≡ changed_tree w.tree (change w.tree)
   pub renderer : w'.renderer ≡ w.renderer
   pub screen : s' ≡ s
 
--- another event that wants memory: only where it may, and where the tree doesn't refuse it. Nothing has changed
-pub record Wants (w : SessionState) (s : Taken) (e : Event) (w' : SessionState) (s' : Taken) : Type 0 where
-  pub may : IsTrue (takes_memory e)
-  pub accepted : IsOk (play w.tree e)
+-- another event runs out of memory: only if it may, and if the tree doesn't refuse it. Nothing has changed.
+pub record RunsOutOfMemory (w : SessionState) (s : ScreenState) (memory : Bool) (change : Change) (w' : SessionState) (s' : ScreenState) : Type 0 where
+  pub may : IsTrue memory
+  pub accepted : IsOk (change w.tree)
   pub session : w' ≡ w
   pub screen : s' ≡ s
 
-abbrev pub ActsOrWants : SessionState → Taken → Event → Reply → SessionState → Taken → Type 0
-ActsOrWants w s e (replies.Refused refusals.Memory) w' s' = Wants w s e w' s'
-ActsOrWants w s e reply w' s' = Acts w s e reply w' s'
+-- is it the reply that there was no memory?
+abbrev pub is_memory : Reply → Bool
+is_memory (replies.Refused refusals.Memory) = true
+is_memory _ = false
 
-abbrev pub StepsBy : Option Input → SessionState → Taken → Event → Reply → SessionState → Taken → Type 0
-StepsBy (Some input) w s e reply w' s' = FrameStep w input s reply w' s'
-StepsBy None w s e reply w' s' = ActsOrWants w s e reply w' s'
+abbrev pub StepsOnTree : SessionState → ScreenState → Bool → Change → Reply → SessionState → ScreenState → Type 0
+StepsOnTree w s memory change reply w' s' = MatchBool (is_memory reply) (RunsOutOfMemory w s memory change w' s') (AppliesChange w s change reply w' s')
+
+abbrev pub StepsBy : Effect → SessionState → ScreenState → Reply → SessionState → ScreenState → Type 0
+StepsBy (OnTree memory change) w s reply w' s' = StepsOnTree w s memory change reply w' s'
+StepsBy (OnRenderer input) w s reply w' s' = RendersFrame w (input w.tree w.renderer.seen) s reply w' s'
 
 -- one event: its reply, and what it leaves of the session and the screen
-abbrev pub Steps : SessionState → Taken → Event → Reply → SessionState → Taken → Type 0
-Steps w s e reply w' s' = StepsBy (input_at w e) w s e reply w' s'
+abbrev pub Steps : SessionState → ScreenState → Event → Reply → SessionState → ScreenState → Type 0
+Steps w s e reply w' s' = StepsBy (effect e) w s reply w' s'

@@ -1,168 +1,184 @@
 -- The tree of tasks, and what an event does to it.
 use Rattle.std.specs.Prelude.{◌≡◌, ℕ, ◌+◌, ◌%◌, Bool, true, false, nat_eq, List, [], ◌∷◌, ◌++◌, length, Option, Some, None, slice_get, slice_set, if◌then◌else◌, Result, Ok, Err, IsTrue, IsOk}
 use Rattle.std.specs.FinMap as finite
-use Rattle.prodash_base.specs.Path.{Path, child}
+use Rattle.prodash_base.specs.Path.{Path, child, child_limit}
 use Rattle.prodash_base.specs.Rows.{Entry, Progress, Running, PathRow}
 use Rattle.prodash_base.specs.Messages.{message_of}
-use Rattle.prodash_base.specs.Rings.{Ring, new_ring, push, copied, is_push_limit_reached}
+use Rattle.prodash_base.specs.Rings.{Ring, new_ring, push, messages_since, is_push_limit_reached}
 use Rattle.prodash_base.specs.declared.messages.Message.{Message as Said}
 use Rattle.prodash_base.specs.declared.messages.MessageLevel.{MessageLevel}
 use Rattle.prodash_base.specs.declared.refusal.Refusal.{Refusal}
 use Rattle.prodash_base.specs.declared.refusal.Refusal.TheVariants as refusals
+use Rattle.prodash_line.specs.Renderer.{Seen}
+use Rattle.prodash_line.specs.declared.render.line.draw.input.Input.{Input}
+use Rattle.prodash_line.specs.declared.render.line.draw.input.Input.TheVariants as inputs
 use Rattle.prodash_core.specs.Tables.{Table, rows_at}
+use Rattle.prodash_core.specs.declared.tree.slot.Slot.{Slot}
 use Rattle.prodash_core.specs.declared.tree.event.Event.{Event}
 use Rattle.prodash_core.specs.declared.tree.event.Event.TheVariants.{AddChild, Drop, Init, Set, Message, Snapshot, CopyMessages, CopyNew, DropRoot, Tick, Quit}
 use Rattle.prodash_core.specs.declared.tree.event.Reply.{Reply}
 use Rattle.prodash_core.specs.declared.tree.event.Reply.TheVariants as replies
 
--- what belongs to a handle
-pub record Handle : Type 0 where
-  pub path : Path
-  pub counter : ℕ
-  -- the number that its next child gets
-  pub children : ℕ
-  pub lives : Bool
-
 pub record Tree : Type 0 where
   -- the map from paths to entries; a progress names the handle whose counter it shows
   pub table : Table ℕ
-  -- in the order in which they were made; the first is the root
-  pub handles : List Handle
-  -- the messages that are kept
+  -- the slot of each handle, in the order in which they were made; the first is the root's
+  pub slots : List Slot
+  -- the latest messages
   pub ring : Ring
 
-abbrev pub new_handle : Path → Handle
-new_handle path = record { path = path; counter = 0; children = 0; lives = true }
+-- the slot of a new handle
+abbrev pub new_slot : Path → Slot
+new_slot path = record { key = path; counter = 0; next_child = 0; is_valid = true }
 
 -- nothing but the root, and a ring of this capacity
-abbrev pub opening_tree : ℕ → Tree
-opening_tree capacity = record { table = finite.empty; handles = new_handle [] ∷ []; ring = new_ring capacity }
+abbrev pub new_tree : ℕ → Tree
+new_tree capacity = record { table = finite.empty; slots = new_slot [] ∷ []; ring = new_ring capacity }
 
--- the handle with a number, where it lives
-abbrev pub if_lives : Option Handle → Option Handle
-if_lives None = None
-if_lives (Some h) = if h.lives then Some h else None
+abbrev pub if_valid : Option Slot → Option Slot
+if_valid None = None
+if_valid (Some slot) = if slot.is_valid then Some slot else None
 
-abbrev pub living : Tree → ℕ → Option Handle
-living t n = if_lives (slice_get t.handles n)
+-- the slot of a handle, if the handle is valid
+abbrev pub slot_at : Tree → ℕ → Option Slot
+slot_at t n = if_valid (slice_get t.slots n)
 
--- the same, where it is an item: the root is none
-abbrev pub item : Tree → ℕ → Option Handle
-item t n = if nat_eq n 0 then None else living t n
+-- the same for the handle of an item: the root is none
+abbrev pub item_at : Tree → ℕ → Option Slot
+item_at t n = if nat_eq n 0 then None else slot_at t n
 
--- the number of a handle's counter
-abbrev pub counter_of : Option Handle → ℕ
+-- the number of a slot's counter
+abbrev pub counter_of : Option Slot → ℕ
 counter_of None = 0
-counter_of (Some h) = h.counter
+counter_of (Some slot) = slot.counter
 
-abbrev pub counter_at : List Handle → ℕ → ℕ
-counter_at handles n = counter_of (slice_get handles n)
+abbrev pub counter_at : List Slot → ℕ → ℕ
+counter_at slots n = counter_of (slice_get slots n)
 
 -- the rows of the tree: the entries in the order of paths, each counter's number in its place
 abbrev pub tree_rows : Tree → List PathRow
-tree_rows t = rows_at (counter_at t.handles) t.table
+tree_rows t = rows_at (counter_at t.slots) t.table
 
 -- an entry without progress
 abbrev pub new_entry : List ℕ → List ℕ → Entry ℕ
 new_entry name id = record { name = name; id = id; progress = None }
 
-abbrev pub next_child : Handle → Handle
-next_child h = record h { children = (h.children + 1) % 65536 }
+-- the slot after it got a child: the next child's number is one more, and 0 after the greatest
+abbrev pub with_child : Slot → Slot
+with_child slot = record slot { next_child = (slot.next_child + 1) % child_limit }
 
--- a child of the handle h, whose number is n
-abbrev pub add_child : Tree → ℕ → Handle → List ℕ → List ℕ → Tree
-add_child t n h name id = record t {
-  table = finite.insert t.table (child h.path h.children) (new_entry name id);
-  handles = slice_set t.handles n (next_child h) ++ new_handle (child h.path h.children) ∷ [];
+-- a child of the handle n, which has this slot
+abbrev pub add_child : Tree → ℕ → Slot → List ℕ → List ℕ → Tree
+add_child t n slot name id = record t {
+  table = finite.insert t.table (child slot.key slot.next_child) (new_entry name id);
+  slots = slice_set t.slots n (with_child slot) ++ new_slot (child slot.key slot.next_child) ∷ [];
 }
 
--- the tree without the entry of the handle h, whose number is n and which lives no more; what stands below it stays
-abbrev pub drop_item : Tree → ℕ → Handle → Tree
-drop_item t n h = record t { table = finite.remove t.table h.path; handles = slice_set t.handles n (record h { lives = false }) }
+-- without the entry of the handle n, which is no longer valid; the entries below it stay
+abbrev pub drop_item : Tree → ℕ → Slot → Tree
+drop_item t n slot = record t { table = finite.remove t.table slot.key; slots = slice_set t.slots n (record slot { is_valid = false }) }
 
--- the counter of the handle h, whose number is n
-abbrev pub set_counter : Tree → ℕ → Handle → ℕ → Tree
-set_counter t n h step = record t { handles = slice_set t.handles n (record h { counter = step }) }
+-- the counter of the handle n has this number
+abbrev pub set_counter : Tree → ℕ → Slot → ℕ → Tree
+set_counter t n slot step = record t { slots = slice_set t.slots n (record slot { counter = step }) }
 
--- the progress that a handle begins with: one where it has a bound
-abbrev pub begun : ℕ → Option ℕ → Option (Progress ℕ)
-begun n None = None
-begun n (Some max) = Some (record { counter = n; bound = Some max; phase = Running })
+-- the progress with which a handle begins: none without a bound
+abbrev pub new_progress : ℕ → Option ℕ → Option (Progress ℕ)
+new_progress n None = None
+new_progress n (Some max) = Some (record { counter = n; bound = Some max; phase = Running })
 
--- where the map has the path, its progress begins, and the counter is 0
-abbrev pub init_at : Tree → ℕ → Handle → Option ℕ → Option (Entry ℕ) → Tree
-init_at t n h max None = t
-init_at t n h max (Some e) = record (set_counter t n h 0) { table = finite.insert t.table h.path (record e { progress = begun n max }) }
+abbrev pub init_at : Tree → ℕ → Slot → Option ℕ → Option (Entry ℕ) → Tree
+init_at t n slot max None = t
+init_at t n slot max (Some e) = record (set_counter t n slot 0) { table = finite.insert t.table slot.key (record e { progress = new_progress n max }) }
 
-abbrev pub init : Tree → ℕ → Handle → Option ℕ → Tree
-init t n h max = init_at t n h max (finite.get t.table h.path)
+-- if the map has the path, its progress begins, and the counter is 0
+abbrev pub init : Tree → ℕ → Slot → Option ℕ → Tree
+init t n slot max = init_at t n slot max (finite.get t.table slot.key)
 
--- the name of an entry; none is empty
+-- the name of an entry; empty if there is none
 abbrev pub name_of : Option (Entry ℕ) → List ℕ
 name_of None = []
 name_of (Some e) = e.name
 
--- what is said for the handle h: the origin is the name of the entry at the handle's path
-abbrev pub words_of : Tree → Handle → ℕ → MessageLevel → List ℕ → Said
-words_of t h at level text = message_of at level (name_of (finite.get t.table h.path)) text
+-- a message of a handle with this slot: its origin is the name of the entry at the slot's path
+abbrev pub message_by : Tree → Slot → ℕ → MessageLevel → List ℕ → Said
+message_by t slot at level text = message_of at level (name_of (finite.get t.table slot.key)) text
 
--- the message is pushed; refused where no more can be counted
-abbrev pub say : Tree → Said → Result (Tree × Reply) Refusal
-say t m = if is_push_limit_reached t.ring then Err refusals.TooManyMessages else Ok (record t { ring = push t.ring m }, replies.Done)
+-- the message is pushed, unless no more can be counted
+abbrev pub push_message : Tree → Said → Result (Tree × Reply) Refusal
+push_message t m = if is_push_limit_reached t.ring then Err refusals.TooManyMessages else Ok (record t { ring = push t.ring m }, replies.Done)
 
--- the tree whose root, the handle h, lives no more
-abbrev pub drop_root : Tree → Handle → Tree
-drop_root t h = record t { handles = slice_set t.handles 0 (record h { lives = false }) }
+-- the root's handle is no longer valid
+abbrev pub drop_root : Tree → Slot → Tree
+drop_root t slot = record t { slots = slice_set t.slots 0 (record slot { is_valid = false }) }
 
--- what is answered to the reader of messages who has seen so many pushes
-abbrev pub new_messages : Tree → Option ℕ → Reply
-new_messages t previous = replies.New (copied t.ring previous) t.ring.pushed
+abbrev pub snapshot_by : Option Slot → Tree → Option ℕ → Seen
+snapshot_by None t previous = None
+snapshot_by (Some root) t previous = Some (tree_rows t, messages_since t.ring previous, t.ring.pushed)
 
--- what a frame sees: the rows, the messages that are new since so many pushes, and how many pushes there were; nothing without a root
-abbrev pub seen_by : Option Handle → Tree → Option ℕ → Option (List PathRow × List Said × ℕ)
-seen_by None t previous = None
-seen_by (Some root) t previous = Some (tree_rows t, copied t.ring previous, t.ring.pushed)
+-- what a frame sees: the rows, the messages since as many pushes, and how many pushes there were; nothing without a root
+abbrev pub snapshot_of : Tree → Option ℕ → Seen
+snapshot_of t previous = snapshot_by (slot_at t 0) t previous
 
-abbrev pub seen_of : Tree → Option ℕ → Option (List PathRow × List Said × ℕ)
-seen_of t previous = seen_by (living t 0) t previous
+-- a change of the tree with its reply, or a refusal
+abbrev pub Change : Type 0
+Change = Tree → Result (Tree × Reply) Refusal
 
--- what is done for a handle; without one the event is refused
-abbrev pub for_handle : Option Handle → (Handle → Result (Tree × Reply) Refusal) → Result (Tree × Reply) Refusal
-for_handle None f = Err refusals.Gone
-for_handle (Some h) f = f h
+-- the slot, or the refusal if there is none
+abbrev pub or_gone : Option Slot → Result Slot Refusal
+or_gone None = Err refusals.Gone
+or_gone (Some slot) = Ok slot
 
--- the tree after an event, and the reply; or the refusal. A frame leaves the tree as it is, and is answered by the renderer
-abbrev pub play : Tree → Event → Result (Tree × Reply) Refusal
-play t (AddChild parent name id) = for_handle (living t parent) (λ h. Ok (add_child t parent h name id, replies.Made (length t.handles)))
-play t (Drop n) = for_handle (item t n) (λ h. Ok (drop_item t n h, replies.Done))
-play t (Init n max) = for_handle (item t n) (λ h. Ok (init t n h max, replies.Done))
-play t (Set n step) = for_handle (item t n) (λ h. Ok (set_counter t n h step, replies.Done))
-play t (Message n at level text) = for_handle (item t n) (λ h. say t (words_of t h at level text))
-play t Snapshot = for_handle (living t 0) (λ root. Ok (t, replies.Rows (tree_rows t)))
-play t CopyMessages = for_handle (living t 0) (λ root. Ok (t, replies.Messages t.ring.kept))
-play t (CopyNew previous) = for_handle (living t 0) (λ root. Ok (t, new_messages t previous))
-play t DropRoot = for_handle (living t 0) (λ root. Ok (drop_root t root, replies.Done))
-play t (Tick at show) = Ok (t, replies.Drawn)
-play t (Quit at) = Ok (t, replies.Ended)
+abbrev pub for_slot : Option Slot → (Slot → Result (Tree × Reply) Refusal) → Result (Tree × Reply) Refusal
+for_slot None f = Err refusals.Gone
+for_slot (Some slot) f = f slot
+
+-- a change that needs a valid handle, and one that needs a valid item; refused without it
+abbrev pub with_handle : ℕ → (Tree → Slot → Result (Tree × Reply) Refusal) → Change
+with_handle n f = λ t. for_slot (slot_at t n) (f t)
+
+abbrev pub with_item : ℕ → (Tree → Slot → Result (Tree × Reply) Refusal) → Change
+with_item n f = λ t. for_slot (item_at t n) (f t)
+
+-- What an event does: it changes the tree, with a mark whether it may run out of memory, or it is a frame, which asks the renderer for an
+-- input that is made of the tree and of how many messages the renderer has seen.
+pub data Effect : Type 0 where
+  OnTree : Bool → Change → Effect
+  OnRenderer : (Tree → Option ℕ → Input) → Effect
+
+-- the effect of each event
+abbrev pub effect : Event → Effect
+effect (AddChild parent name id) = OnTree true (with_handle parent (λ t slot. Ok (add_child t parent slot name id, replies.Made (length t.slots))))
+effect (Drop n) = OnTree false (with_item n (λ t slot. Ok (drop_item t n slot, replies.Done)))
+effect (Init n max) = OnTree false (with_item n (λ t slot. Ok (init t n slot max, replies.Done)))
+effect (Set n step) = OnTree false (with_item n (λ t slot. Ok (set_counter t n slot step, replies.Done)))
+effect (Message n at level text) = OnTree true (with_item n (λ t slot. push_message t (message_by t slot at level text)))
+effect Snapshot = OnTree true (with_handle 0 (λ t root. Ok (t, replies.Rows (tree_rows t))))
+effect CopyMessages = OnTree true (with_handle 0 (λ t root. Ok (t, replies.Messages t.ring.messages)))
+effect (CopyNew previous) = OnTree true (with_handle 0 (λ t root. Ok (t, replies.New (messages_since t.ring previous) t.ring.pushed)))
+effect DropRoot = OnTree false (with_handle 0 (λ t root. Ok (drop_root t root, replies.Done)))
+effect (Tick at show) = OnRenderer (λ t seen. inputs.Tick at show (snapshot_of t seen))
+effect (Quit at) = OnRenderer (λ t seen. inputs.Quit at)
+
+abbrev pub draws : Effect → Bool
+draws (OnTree memory change) = false
+draws (OnRenderer input) = true
 
 -- is it a frame?
 abbrev pub is_frame : Event → Bool
-is_frame (Tick at show) = true
-is_frame (Quit at) = true
-is_frame _ = false
+is_frame e = draws (effect e)
 
--- may it be refused memory? Of frames the renderer tells
-abbrev pub takes_memory : Event → Bool
-takes_memory (AddChild parent name id) = true
-takes_memory (Message n at level text) = true
-takes_memory Snapshot = true
-takes_memory CopyMessages = true
-takes_memory (CopyNew previous) = true
-takes_memory _ = false
+-- What a change returns, and the tree that it leaves. A refusal leaves the tree as it was. It runs out of memory only if it may, and if the
+-- tree doesn't refuse it.
+abbrev pub Changes : Tree → Bool → Change → Result Reply Refusal → Tree → Type 0
+Changes t memory change (Ok reply) t' = change t ≡ Ok (t', reply)
+Changes t memory change (Err refusals.Memory) t' = IsTrue memory × IsOk (change t) × (t' ≡ t)
+Changes t memory change (Err refusal) t' = (change t ≡ Err refusal) × (t' ≡ t)
 
--- What an event that is no frame is answered, and the tree that it leaves. A refusal leaves the tree as it was; memory is wanted only
--- where the event may be refused it and the tree doesn't refuse it.
+abbrev pub PlaysBy : Effect → Tree → Result Reply Refusal → Tree → Type 0
+PlaysBy (OnTree memory change) t result t' = Changes t memory change result t'
+PlaysBy (OnRenderer input) t result t' = ⊥
+
+-- what an event that is no frame returns, and the tree that it leaves
 abbrev pub Plays : Tree → Event → Result Reply Refusal → Tree → Type 0
-Plays t e (Ok reply) t' = play t e ≡ Ok (t', reply)
-Plays t e (Err refusals.Memory) t' = IsTrue (takes_memory e) × IsOk (play t e) × (t' ≡ t)
-Plays t e (Err refusal) t' = (play t e ≡ Err refusal) × (t' ≡ t)
+Plays t e result t' = PlaysBy (effect e) t result t'

@@ -1,6 +1,4 @@
 //! The sequential core: the tree of tasks, sessions of events on it, and whole runs.
 #![tactic(auto)]
 
-#[cfg(test)]
-mod tests;
 pub mod tree;

@@ -1,11 +1,16 @@
 //! The tree of tasks, sessions of events on it, and whole runs.
 mod event;
+mod options;
+mod runs;
 mod session;
+mod slot;
 mod slots;
 mod state;
 mod table;
 
-pub use event::{Event, Reply};
-pub use session::{RootOptions, Session, SessionOptions, run};
+pub use event::{Event, Handle, Reply};
+pub use options::{RootOptions, SessionOptions};
+pub use runs::run;
+pub use session::Session;
 pub use state::TreeState;
 pub use table::{Counted, Counters, Task, TreeCore};

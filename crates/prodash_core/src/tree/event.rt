@@ -5,100 +5,103 @@ use prodash_base::progress::{Id, Rows, Step};
 use prodash_base::time::Moment;
 use prodash_base::{Refusal, Text};
 
-/// What a session is asked. Handles are numbered in the order in which they were made; 0 is the
-/// root, which takes `AddChild` alone.
+/// A handle for the root or an item. The root's is 0, and each `AddChild` makes the next.
+pub type Handle = u64;
+
+/// An event of a session. The root handle is for `AddChild` alone; the other events on a handle
+/// need an item's.
 #[derive(Debug, PartialEq, Eq, Drop)]
 pub enum Event {
-    /// Adds an item below the root or an item.
+    /// Adds an item below the root or another item.
     AddChild {
-        /// The handle to add it below.
-        parent: u64,
-        /// Its name.
+        /// The handle of the parent.
+        parent: Handle,
+        /// The name of the item.
         name: Text,
-        /// Its identifier.
+        /// The identifier of the item.
         id: Id,
     },
-    /// Takes an item away: its row alone, not those below it. Its handle lives no more.
+    /// Removes an item, but not the items below it. Its handle is no longer valid.
     Drop {
-        /// The item's handle.
-        item: u64,
+        /// The handle of the item.
+        item: Handle,
     },
     /// Begins the progress of an item, at step 0.
     Init {
-        /// The item's handle.
-        item: u64,
-        /// Where it will be done. Without that it has no progress.
+        /// The handle of the item.
+        item: Handle,
+        /// The step at which the item is done. Without one the item has no progress.
         max: Option<Step>,
     },
     /// Sets the counter of an item.
     Set {
-        /// The item's handle.
-        item: u64,
-        /// How far it has come.
+        /// The handle of the item.
+        item: Handle,
+        /// The new step.
         step: Step,
     },
-    /// An item says something.
+    /// Sends a message of an item.
     Message {
-        /// The item's handle.
-        item: u64,
-        /// When it is said.
+        /// The handle of the item.
+        item: Handle,
+        /// The time of the message.
         at: Moment,
-        /// How grave it is.
+        /// The severity of the message.
         level: MessageLevel,
-        /// What is said.
+        /// The text of the message.
         text: Text,
     },
-    /// Asks for the rows.
+    /// Returns the rows of all items.
     Snapshot,
-    /// Asks for all messages that are kept.
+    /// Returns the messages that are kept.
     CopyMessages,
-    /// Asks for the messages that are new since an earlier answer.
+    /// Returns the messages that are new since an earlier `CopyNew`.
     CopyNew {
-        /// What that answer said. Without it all are new.
+        /// The state that the earlier event returned. Without one all messages are new.
         previous: Option<MessageCopyState>,
     },
-    /// Takes the root away. Its handle lives no more; items work on.
+    /// Drops the root. Its handle is no longer valid, but those of items are.
     DropRoot,
-    /// A frame: the new messages are printed, and the rows are seen, and shown if something has
-    /// changed. Without a root it closes.
+    /// Draws a frame: prints the new messages, and draws the rows if they are shown and have
+    /// changed. Without a root it is the closing frame.
     Tick {
-        /// When it is.
+        /// The time of the frame.
         at: Moment,
-        /// Whether the rows are shown, or held back.
+        /// Whether the rows are shown or hidden.
         show: bool,
     },
-    /// The closing frame: the rows that stand are blanked. Further frames are refused.
+    /// Draws the closing frame: blanks the rows on screen. Further frames are refused.
     Quit {
-        /// When it is.
+        /// The time of the frame.
         at: Moment,
     },
 }
 
-/// What a session answers.
+/// The reply of a session to an event.
 #[derive(Debug, PartialEq, Eq, Drop)]
 pub enum Reply {
-    /// The handle that was made.
-    Made(u64),
-    /// It is done.
+    /// The handle of the new item.
+    Made(Handle),
+    /// The event was applied.
     Done,
-    /// The rows, ascending by key.
+    /// The rows, in ascending order of their keys.
     Rows(Rows),
     /// The messages that are kept, the oldest first.
     Messages(Messages),
-    /// The messages that are new, the oldest first, and what was seen with them.
+    /// The new messages, the oldest first, and the state for the next `CopyNew`.
     New(Messages, MessageCopyState),
-    /// The frame was written, if it had to be.
+    /// The frame was written, if it had any bytes.
     Drawn,
     /// The closing frame was written.
     Ended,
-    /// Nothing was done.
+    /// The event was refused.
     Refused(Refusal),
 }
 
 impl Event {
     ghost use Rattle.prodash_core.specs.Trees.{is_frame};
 
-    /// Whether it is a frame.
+    /// Returns whether the event is a frame.
     pub fn is_frame(&self) -> bool
         ensures { result ≡ is_frame self.now }
     {

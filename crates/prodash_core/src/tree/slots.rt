@@ -1,46 +1,12 @@
-ghost use Rattle.std.specs.Prelude.{◌≡◌, false, ◌+◌, ◌-◌, ◌<◌, [], ◌∷◌, ◌++◌, length, take, slice_get, slice_set, OnOk, OnErr, IfOk};
-ghost use Rattle.std.specs.Option.{option_map};
-ghost use Rattle.prodash_core.specs.Trees.{if_lives, new_handle};
-ghost use Rattle.prodash_core.specs.Slots.{handle_of};
+ghost use Rattle.std.specs.Prelude.{◌≡◌, ◌-◌, ◌<◌, [], ◌∷◌, ◌++◌, length, take, slice_get, slice_set, OnOk, OnErr, IfOk};
+ghost use Rattle.prodash_core.specs.Trees.{if_valid, new_slot};
 
+use crate::tree::event::Handle;
+use crate::tree::slot::Slot;
 use crate::tree::table::Counters;
 use prodash_base::progress::{Key, Step};
 use std::alloc::{AllocError, Global};
 use std::marker::Model;
-
-/// What belongs to a handle.
-#[derive(Clone, Copy, Debug)]
-pub(crate) struct Slot {
-    pub(crate) key: Key,
-    pub(crate) counter: Step,
-    /// The number that its next child gets.
-    pub(crate) children: u16,
-    pub(crate) lives: bool,
-}
-
-impl Slot {
-    /// A new handle at a key.
-    pub(crate) fn new(key: Key) -> Slot
-        ensures { handle_of result ≡ new_handle key }
-    {
-        Slot {
-            key,
-            counter: 0,
-            children: 0,
-            lives: true,
-        }
-    }
-
-    /// The same, which lives no more.
-    pub(crate) fn dropped(self) -> Slot
-        ensures { handle_of result ≡ record (handle_of self) { lives = false } }
-    {
-        Slot {
-            lives: false,
-            ..self
-        }
-    }
-}
 
 /// The slots of all handles, in the order in which they were made.
 #[derive(Drop)]
@@ -49,60 +15,59 @@ pub(crate) struct Slots {
 }
 
 impl Model for Slots {
-    ghost use Rattle.std.specs.Prelude.{List, map};
-    ghost use Rattle.prodash_core.specs.Trees.{Handle};
-    ghost use Rattle.prodash_core.specs.Slots.{handle_of};
+    ghost use Rattle.std.specs.Prelude.{List};
+    ghost use Rattle.prodash_core.specs.declared.tree.slot.Slot.{Slot};
 
-    ghost Value = { List Handle };
+    ghost Value = { List Slot };
 
-    ghost view = { λ s. map handle_of s.slots.items };
+    ghost view = { λ s. s.slots.items };
 }
 
 impl Slots {
-    /// The slot of the root alone.
+    /// Returns the slot of the root alone.
     pub(crate) fn new(alloc: Global) -> Result<Slots, AllocError>
-        ensures { IfOk result (λ s. s ≡ new_handle [] ∷ []) }
+        ensures { IfOk result (λ s. s ≡ new_slot [] ∷ []) }
     {
         let mut slots = Vec::new(alloc);
         slots.push(Slot::new(Key::default()))?;
         Ok(Slots { slots })
     }
 
-    /// How many handles were made.
-    pub(crate) fn len(&self) -> u64
+    /// Returns the number of handles that were made, which is the next handle.
+    pub(crate) fn len(&self) -> Handle
         ensures { result ≡ length self.now }
     {
-        self.slots.len() as u64
+        self.slots.len() as Handle
     }
 
-    /// The slot of a handle that lives.
-    pub(crate) fn living(&self, handle: u64) -> Option<Slot>
-        ensures { option_map handle_of result ≡ if_lives (slice_get self.now handle) }
+    /// Returns the slot of a handle, if the handle is valid.
+    pub(crate) fn valid(&self, handle: Handle) -> Option<Slot>
+        ensures { result ≡ if_valid (slice_get self.now handle) }
     {
         match self.slots.get(handle as usize) {
-            Some(slot) if slot.lives => Some(*slot),
+            Some(slot) if slot.is_valid => Some(*slot),
             _ => None,
         }
     }
 
-    /// Puts another slot in the place of one.
-    pub(crate) fn put(&mut self, handle: u64, slot: Slot)
+    /// Puts another slot in the place of a handle's.
+    pub(crate) fn put(&mut self, handle: Handle, slot: Slot)
         requires { handle < length self.old }
-        ensures { self.new ≡ slice_set self.old handle (handle_of slot) }
+        ensures { self.new ≡ slice_set self.old handle slot }
     {
         self.slots[handle as usize] = slot;
     }
 
-    /// Adds a slot.
+    /// Adds a slot. If there is no memory for it, the slots stay as they were.
     pub(crate) fn push(&mut self, slot: Slot) -> Result<(), AllocError>
-        ensures ok { OnOk result (self.new ≡ self.old ++ handle_of slot ∷ []) }
+        ensures ok { OnOk result (self.new ≡ self.old ++ slot ∷ []) }
         ensures err { OnErr result (self.new ≡ self.old) }
     {
         self.slots.push(slot)?;
         Ok(())
     }
 
-    /// Takes the last slot away.
+    /// Removes the last slot.
     pub(crate) fn pop(&mut self)
         ensures { self.new ≡ take (length self.old - 1) self.old }
     {
@@ -110,15 +75,14 @@ impl Slots {
     }
 }
 
-impl Counters<u64> for Slots {
+impl Counters<Handle> for Slots {
     ghost use Rattle.prodash_core.specs.Trees.{counter_at};
 
-    ghost number = { counter_at };
+    ghost shows = { λ slots handle number. number ≡ counter_at slots handle };
 
-    fn number(&self, counter: u64) -> Step {
-        match self.slots.get(counter as usize) {
-            None => 0,
-            Some(slot) => slot.counter,
-        }
+    fn number(&self, counter: Handle) -> Step {
+        self.slots
+            .get(counter as usize)
+            .map_or(0, |slot| slot.counter)
     }
 }

@@ -1,12 +1,12 @@
 ghost use Rattle.std.specs.Prelude.{◌≡◌, IfOk, IfErr, false};
-ghost use Rattle.std.specs.Option.{option_map};
-ghost use Rattle.prodash_base.specs.Rings.{copied};
-ghost use Rattle.prodash_core.specs.Slots.{handle_of};
-ghost use Rattle.prodash_core.specs.Trees.{Tree, opening_tree, living, item as item_of, tree_rows, seen_of, is_frame, Plays};
+ghost use Rattle.prodash_base.specs.Rings.{messages_since};
+ghost use Rattle.prodash_core.specs.Tables.{ListsEachOnce};
+ghost use Rattle.prodash_core.specs.Trees.{Tree, new_tree, slot_at, item_at, or_gone, tree_rows, snapshot_of, is_frame, Plays};
 
-use crate::tree::event::{Event, Reply};
-use crate::tree::session::RootOptions;
-use crate::tree::slots::{Slot, Slots};
+use crate::tree::event::{Event, Handle, Reply};
+use crate::tree::options::RootOptions;
+use crate::tree::slot::Slot;
+use crate::tree::slots::Slots;
 use crate::tree::table::{Counted, TreeCore};
 use prodash_base::Refusal;
 use prodash_base::messages::{MessageCopyState, MessageLevel, MessageRingBuffer, Messages};
@@ -15,29 +15,34 @@ use prodash_base::time::Moment;
 use std::alloc::Global;
 use std::marker::Model;
 
-/// The table of tasks, the handles and the messages of a session. Contracts see the tree.
+/// The table of tasks, the handles and the messages of a session. Contracts see a `Tree`.
 #[derive(Drop)]
 pub struct TreeState {
-    table: TreeCore<u64>,
+    table: TreeCore<Handle>,
     slots: Slots,
     ring: MessageRingBuffer,
 }
 
 impl Model for TreeState {
     ghost use Rattle.prodash_core.specs.Trees.{Tree};
-    ghost use Rattle.prodash_core.specs.Coding.{coded_tree};
+    ghost use Rattle.std.specs.Coded.{codes};
+    ghost use Rattle.std.specs.FinMap as finite;
 
     ghost Value = { Tree };
 
-    ghost coded = { coded_tree };
+    ghost coded = { Prim.hlevel (codes, finite.code) };
 
-    ghost view = { λ s. record { table = s.table; handles = s.slots; ring = s.ring } };
+    ghost view = { λ s. record { table = s.table; slots = s.slots; ring = s.ring } };
 }
 
 impl TreeState {
-    /// A tree with nothing but its root.
+    /// Returns a tree with nothing but its root.
+    ///
+    /// # Errors
+    ///
+    /// `Memory`, if there is no memory for it.
     pub fn new(alloc: Global, options: &RootOptions) -> Result<TreeState, Refusal>
-        ensures ok { IfOk result (λ t. t ≡ opening_tree options.now.message_buffer_capacity) }
+        ensures ok { IfOk result (λ t. t ≡ new_tree options.now.message_buffer_capacity) }
         ensures err { IfErr result (λ e. e ≡ Refusal.Memory) }
     {
         Ok(TreeState {
@@ -47,7 +52,13 @@ impl TreeState {
         })
     }
 
-    /// One event that is no frame: its reply, or a refusal that leaves the tree as it was.
+    /// Applies an event that is no frame, and returns the reply.
+    ///
+    /// # Errors
+    ///
+    /// `Gone`, if the handle isn't valid, or if the event needs an item and the handle is the
+    /// root's. `TooManyMessages`, if no further message can be counted. `Memory`, if there is no
+    /// memory for the event or its reply. An event that is refused leaves the tree as it was.
     pub fn apply(&mut self, alloc: Global, event: &Event) -> Result<Reply, Refusal>
         requires { is_frame event.now ≡ false }
         ensures { Plays self.old event.now result self.new }
@@ -73,25 +84,34 @@ impl TreeState {
         }
     }
 
-    /// The rows, ascending by key.
+    /// Returns the rows, in ascending order of their keys.
+    ///
+    /// # Errors
+    ///
+    /// `Memory`, if there is no memory for the rows.
     pub fn rows(&self, alloc: Global) -> Result<Rows, Refusal>
         ensures ok { IfOk result (λ rows. rows ≡ tree_rows self.now) }
+        ensures each { IfOk result (λ rows. ListsEachOnce self.now.table rows) }
         ensures err { IfErr result (λ e. e ≡ Refusal.Memory) }
     {
         self.table.rows(alloc, &self.slots)
     }
 
-    /// What a frame sees: the rows, the messages that are new since an earlier frame, and what was
-    /// seen with them. Without a root there is nothing.
-    pub fn seen(
+    /// Returns what a frame sees: the rows, the messages that are new since an earlier frame, and
+    /// the state for the next one. Returns `None` if the root was dropped.
+    ///
+    /// # Errors
+    ///
+    /// `Memory`, if there is no memory for the copies.
+    pub fn snapshot_and_new_messages(
         &self,
         alloc: Global,
         previous: Option<MessageCopyState>,
     ) -> Result<Option<(Rows, Messages, MessageCopyState)>, Refusal>
-        ensures ok { IfOk result (λ seen. seen ≡ seen_of self.now previous) }
+        ensures ok { IfOk result (λ seen. seen ≡ snapshot_of self.now previous) }
         ensures err { IfErr result (λ e. e ≡ Refusal.Memory) }
     {
-        if self.root().is_none() {
+        if self.root().is_err() {
             return Ok(None);
         }
         let rows = self.rows(alloc)?;
@@ -99,20 +119,14 @@ impl TreeState {
         Ok(Some((rows, messages, state)))
     }
 
-    /// The slot of the root, where it lives.
-    fn root(&self) -> Option<Slot>
-        ensures { option_map handle_of result ≡ living self.now 0 }
-    {
-        self.slots.living(0)
-    }
-
-    /// The messages that are new since an earlier copy, and what is seen with them.
+    /// Returns the messages that are new since an earlier copy, and the state for the next.
     fn new_messages(
         &self,
         alloc: Global,
         previous: Option<MessageCopyState>,
     ) -> Result<(Messages, MessageCopyState), Refusal>
-        ensures ok { IfOk result (λ new. new ≡ (copied self.now.ring previous, self.now.ring.pushed)) }
+        ensures ok { IfOk result (λ new.
+            new ≡ (messages_since self.now.ring previous, self.now.ring.pushed)) }
         ensures err { IfErr result (λ e. e ≡ Refusal.Memory) }
     {
         let mut messages = Vec::new(alloc);
@@ -120,141 +134,120 @@ impl TreeState {
         Ok((Messages::new(messages), state))
     }
 
-    /// The slot of an item that lives.
-    fn item(&self, item: u64) -> Option<Slot>
-        ensures { option_map handle_of result ≡ item_of self.now item }
+    /// Returns the slot of a handle that is valid.
+    fn slot(&self, handle: Handle) -> Result<Slot, Refusal>
+        ensures { result ≡ or_gone (slot_at self.now handle) }
+    {
+        self.slots.valid(handle).ok_or(Refusal::Gone)
+    }
+
+    /// Returns the root's slot.
+    fn root(&self) -> Result<Slot, Refusal>
+        ensures { result ≡ or_gone (slot_at self.now 0) }
+    {
+        self.slot(0)
+    }
+
+    /// Returns the slot of an item whose handle is valid.
+    fn item(&self, item: Handle) -> Result<Slot, Refusal>
+        ensures { result ≡ or_gone (item_at self.now item) }
     {
         if item == 0 {
-            None
+            Err(Refusal::Gone)
         } else {
-            self.slots.living(item)
+            self.slot(item)
         }
     }
 
     fn add_child(
         &mut self,
         alloc: Global,
-        parent: u64,
+        parent: Handle,
         name: &str,
         id: Id,
     ) -> Result<Reply, Refusal>
         ensures { Plays self.old (Event.AddChild parent name.now id) result self.new }
     {
-        let Some(slot) = self.slots.living(parent) else {
-            return Err(Refusal::Gone);
-        };
-        let key = slot.key.add_child(slot.children);
+        let slot = self.slot(parent)?;
+        let key = slot.key.add_child(slot.next_child);
         let made = self.slots.len();
         self.slots.push(Slot::new(key))?;
-        match self.table.insert(alloc, key, name, id) {
-            Err(refusal) => {
-                self.slots.pop();
-                Err(refusal)
-            }
-            Ok(()) => {
-                let children = slot.children.wrapping_add(1);
-                self.slots.put(parent, Slot { children, ..slot });
-                Ok(Reply::Made(made))
-            }
+        if let Err(refusal) = self.table.insert(alloc, key, name, id) {
+            self.slots.pop();
+            return Err(refusal);
         }
+        self.slots.put(parent, slot.with_child());
+        Ok(Reply::Made(made))
     }
 
-    fn drop_item(&mut self, item: u64) -> Result<Reply, Refusal>
+    fn drop_item(&mut self, item: Handle) -> Result<Reply, Refusal>
         ensures { Plays self.old (Event.Drop item) result self.new }
     {
-        let Some(slot) = self.item(item) else {
-            return Err(Refusal::Gone);
-        };
+        let slot = self.item(item)?;
         self.table.remove(slot.key);
-        self.slots.put(item, slot.dropped());
+        self.slots.put(item, slot.invalidated());
         Ok(Reply::Done)
     }
 
-    fn init(&mut self, item: u64, max: Option<Step>) -> Result<Reply, Refusal>
+    fn init(&mut self, item: Handle, max: Option<Step>) -> Result<Reply, Refusal>
         ensures { Plays self.old (Event.Init item max) result self.new }
     {
-        let Some(slot) = self.item(item) else {
-            return Err(Refusal::Gone);
-        };
-        let progress = match max {
-            None => None,
-            Some(max) => Some(Counted {
-                counter: item,
-                done_at: Some(max),
-                state: State::Running,
-            }),
-        };
+        let slot = self.item(item)?;
+        let progress = max.map(|max| Counted {
+            counter: item,
+            done_at: Some(max),
+            state: State::Running,
+        });
         if self.table.init(slot.key, progress) {
-            self.slots.put(item, Slot { counter: 0, ..slot });
+            self.slots.put(item, slot.with_counter(0));
         }
         Ok(Reply::Done)
     }
 
-    fn set(&mut self, item: u64, step: Step) -> Result<Reply, Refusal>
+    fn set(&mut self, item: Handle, step: Step) -> Result<Reply, Refusal>
         ensures { Plays self.old (Event.Set item step) result self.new }
     {
-        let Some(slot) = self.item(item) else {
-            return Err(Refusal::Gone);
-        };
-        self.slots.put(
-            item,
-            Slot {
-                counter: step,
-                ..slot
-            },
-        );
+        let slot = self.item(item)?;
+        self.slots.put(item, slot.with_counter(step));
         Ok(Reply::Done)
     }
 
     fn message(
         &mut self,
         alloc: Global,
-        item: u64,
+        item: Handle,
         at: Moment,
         level: MessageLevel,
         text: &str,
     ) -> Result<Reply, Refusal>
         ensures { Plays self.old (Event.Message item at level text.now) result self.new }
     {
-        let Some(slot) = self.item(item) else {
-            return Err(Refusal::Gone);
-        };
+        let slot = self.item(item)?;
         let origin = self.table.name(slot.key).unwrap_or("");
         self.ring.push_overwrite(alloc, at, level, origin, text)?;
         Ok(Reply::Done)
     }
 
-    fn snapshot(&mut self, alloc: Global) -> Result<Reply, Refusal>
-        ensures { Plays self.old Event.Snapshot result self.new }
+    fn snapshot(&self, alloc: Global) -> Result<Reply, Refusal>
+        ensures { Plays self.now Event.Snapshot result self.now }
     {
-        if self.root().is_none() {
-            return Err(Refusal::Gone);
-        }
-        let rows = self.rows(alloc)?;
-        Ok(Reply::Rows(rows))
+        self.root()?;
+        Ok(Reply::Rows(self.rows(alloc)?))
     }
 
-    fn copy_messages(&mut self, alloc: Global) -> Result<Reply, Refusal>
-        ensures { Plays self.old Event.CopyMessages result self.new }
+    fn copy_messages(&self, alloc: Global) -> Result<Reply, Refusal>
+        ensures { Plays self.now Event.CopyMessages result self.now }
     {
-        if self.root().is_none() {
-            return Err(Refusal::Gone);
-        }
+        self.root()?;
         let mut messages = Vec::new(alloc);
         self.ring.copy_all(alloc, &mut messages)?;
         Ok(Reply::Messages(Messages::new(messages)))
     }
 
-    fn copy_new(
-        &mut self,
-        alloc: Global,
-        previous: Option<MessageCopyState>,
-    ) -> Result<Reply, Refusal>
-        ensures { Plays self.old (Event.CopyNew previous) result self.new }
+    fn copy_new(&self, alloc: Global, previous: Option<MessageCopyState>) -> Result<Reply, Refusal>
+        ensures { Plays self.now (Event.CopyNew previous) result self.now }
     {
-        if self.root().is_none() {
-            return Err(Refusal::Gone);
-        }
+        self.root()?;
         let (messages, state) = self.new_messages(alloc, previous)?;
         Ok(Reply::New(messages, state))
     }
@@ -262,10 +255,8 @@ impl TreeState {
     fn drop_root(&mut self) -> Result<Reply, Refusal>
         ensures { Plays self.old Event.DropRoot result self.new }
     {
-        let Some(slot) = self.root() else {
-            return Err(Refusal::Gone);
-        };
-        self.slots.put(0, slot.dropped());
+        let slot = self.root()?;
+        self.slots.put(0, slot.invalidated());
         Ok(Reply::Done)
     }
 }

@@ -1,12 +1,13 @@
-ghost use Rattle.std.specs.Prelude.{◌≡◌, ℕ, OnOk, OnErr, IfOk, IfErr, None, map, nat_eq, is_some};
+ghost use Rattle.std.specs.Prelude.{◌≡◌, ◌≢◌, ℕ, OnOk, OnErr, IfOk, IfErr, None, map, nat_eq, is_some};
 ghost use Rattle.std.specs.FinMap as finite;
 ghost use Rattle.std.specs.Option.{option_map};
+ghost use Rattle.std.specs.List.{AllZip};
 ghost use Rattle.std.specs.List.Sorted.{IsPermutation, IsSortedByKey};
 ghost use Rattle.std.specs.HashMap.{IsUnique};
 ghost use Rattle.std.specs.Cmp.Lexicographic.{pointwise};
-ghost use Rattle.prodash_base.specs.Path.{path_cmp};
-ghost use Rattle.prodash_base.specs.Rows.{row_of, rows_of};
-ghost use Rattle.prodash_core.specs.Tables.{with_progress, counted_of, frozen, rows_at, pair_of, entry_of};
+ghost use Rattle.prodash_base.specs.Path.{Path, path_cmp};
+ghost use Rattle.prodash_base.specs.Rows.{progress_of, row_of, rows_of};
+ghost use Rattle.prodash_core.specs.Tables.{with_progress, counted_of, ProgressShows, RowShows, RowsShow, ListsEachOnce, pair_of, entry_of};
 
 use prodash_base::progress::{Id, Key, Row, Rows, State, Step, Value};
 use prodash_base::{Refusal, Text};
@@ -14,39 +15,48 @@ use std::alloc::{AllocError, Global};
 use std::collections::HashMap;
 use std::marker::Model;
 
-/// A progress whose counter is named by a `C`.
+/// The progress of a task. A `C` names its counter.
 #[derive(Clone, Copy, Debug)]
 pub struct Counted<C> {
-    /// Names the counter of steps.
+    /// The name of the counter of steps.
     pub counter: C,
-    /// Where it is done, if that is known.
+    /// The step at which the task is done, if it is known.
     pub done_at: Option<Step>,
-    /// What the task is doing.
+    /// The state of the task.
     pub state: State,
 }
 
-/// A stored entry, whose progress names its counter by a `C`.
+/// A task of a table. A `C` names the counter of its progress.
 #[derive(Drop)]
 pub struct Task<C> {
-    /// Its name.
+    /// The name of the task.
     pub name: Text,
-    /// Its identifier.
+    /// The identifier of the task.
     pub id: Id,
-    /// Its progress, if it has one.
+    /// The progress of the task, if it has one.
     pub progress: Option<Counted<C>>,
 }
 
-/// Knows the number of each counter.
+/// Reads the numbers of counters, each of which a `C` names.
 pub trait Counters<C> {
-    /// The number of a counter.
-    ghost number: { Self → C → ℕ };
+    /// The numbers that a counter may show.
+    ghost shows: { Self → C → ℕ → Type 0 };
 
-    /// The number of a counter.
+    /// Returns the number of a counter.
     fn number(&self, counter: C) -> Step
-        ensures { result ≡ number self.now counter };
+        ensures { shows self.now counter result };
 }
 
-/// The table of tasks. Contracts see it as a finite map from paths to entries.
+/// The table of tasks, by their keys. Contracts see a finite map from paths to entries.
+///
+/// ```rust
+/// let mut table = TreeCore::new(alloc);
+/// let key = Key::default().add_child(0);
+/// table.insert(alloc, key, "task", UNKNOWN)?;
+/// let progress = Counted { counter: 0, done_at: Some(10), state: State::Running };
+/// table.init(key, Some(progress));
+/// let rows = table.rows(alloc, &counters)?;
+/// ```
 #[derive(Drop)]
 pub struct TreeCore<C> {
     tasks: HashMap<Key, Task<C>>,
@@ -57,11 +67,11 @@ impl<C> Model for TreeCore<C> {
     ghost use Rattle.std.specs.FinMap as finite;
     ghost use Rattle.prodash_base.specs.Path.{path_cmp};
     ghost use Rattle.prodash_base.specs.Rows.{Entry};
-    ghost use Rattle.prodash_base.specs.Coding.{coded_path, coded_entry};
+    ghost use Rattle.std.specs.Coded.{codes};
 
     ghost Value = { finite.FinMap path_cmp (Entry C) };
 
-    ghost coded = { finite.code coded_path (coded_entry C.code) };
+    ghost coded = { Prim.hlevel (codes, finite.code, C.code) };
 
     ghost use Rattle.prodash_core.specs.Tables.{pair_of};
 
@@ -69,7 +79,7 @@ impl<C> Model for TreeCore<C> {
 }
 
 impl<C> TreeCore<C> {
-    /// A table with no tasks.
+    /// Returns a table without tasks.
     pub fn new(alloc: Global) -> TreeCore<C>
         ensures { result ≡ finite.empty }
     {
@@ -80,10 +90,14 @@ impl<C> TreeCore<C> {
 }
 
 impl<C: Copy> TreeCore<C> {
-    /// Puts an entry without progress, in the place of one with that key. Where memory is wanted
-    /// nothing changes.
+    /// Inserts a task without progress. It replaces the task that the key had before.
+    ///
+    /// # Errors
+    ///
+    /// `Memory`, if there is no memory for the task; then the table stays as it was.
     pub fn insert(&mut self, alloc: Global, key: Key, name: &str, id: Id) -> Result<(), Refusal>
-        ensures ok { OnOk result (self.new ≡ finite.insert self.old key (record { name = name.now; id = id; progress = None })) }
+        ensures ok { OnOk result (self.new ≡ finite.insert self.old key
+            (record { name = name.now; id = id; progress = None })) }
         ensures err { OnErr result (self.new ≡ self.old) }
         ensures reason { IfErr result (λ e. e ≡ Refusal.Memory) }
     {
@@ -99,18 +113,24 @@ impl<C: Copy> TreeCore<C> {
         Ok(())
     }
 
-    /// Takes away the entry at a key, where there is one, and says whether there was.
+    /// Removes the task at a key, and returns whether there was one.
     pub fn remove(&mut self, key: Key) -> bool
         ensures found { result ≡ is_some (finite.get self.old key) }
         ensures after { self.new ≡ finite.remove self.old key }
+        ensures removed { finite.get self.new key ≡ None }
+
+        // Every other path keeps its entry, also below the key.
+        ensures others { (path : Path) → path ≢ key
+            → finite.get self.new path ≡ finite.get self.old path }
     {
         self.tasks.remove(&key).is_some()
     }
 
-    /// Sets the progress at a key, where there is an entry, and says whether there is.
+    /// Sets the progress of the task at a key, and returns whether there is one.
     pub fn init(&mut self, key: Key, progress: Option<Counted<C>>) -> bool
         ensures found { result ≡ is_some (finite.get self.old key) }
-        ensures after { self.new ≡ with_progress self.old key (option_map counted_of progress) (finite.get self.old key) }
+        ensures after { self.new ≡ with_progress self.old key (option_map counted_of progress)
+            (finite.get self.old key) }
     {
         match self.tasks.get_mut(&key) {
             None => false,
@@ -121,9 +141,10 @@ impl<C: Copy> TreeCore<C> {
         }
     }
 
-    /// The name of the entry at a key, where there is one.
+    /// Returns the name of the task at a key, if there is one.
     pub fn name(&self, key: Key) -> Option<&str>
-        ensures { option_map (λ name. name.now) result ≡ option_map (λ e. e.name) (finite.get self.now key) }
+        ensures { option_map (λ name. name.now) result
+            ≡ option_map (λ e. e.name) (finite.get self.now key) }
     {
         match self.tasks.get(&key) {
             None => None,
@@ -131,9 +152,14 @@ impl<C: Copy> TreeCore<C> {
         }
     }
 
-    /// The rows in the order of their keys, the number of each counter in its place.
+    /// Returns the rows, in ascending order of their keys, with the number of each counter.
+    ///
+    /// # Errors
+    ///
+    /// `Memory`, if there is no memory for the rows.
     pub fn rows<N: Counters<C>>(&self, alloc: Global, counters: &N) -> Result<Rows, Refusal>
-        ensures ok { IfOk result (λ rows. rows ≡ rows_at (N.number counters.now) self.now) }
+        ensures shows { IfOk result (λ rows. RowsShow (N.shows counters.now) self.now rows) }
+        ensures each { IfOk result (λ rows. ListsEachOnce self.now rows) }
         ensures err { IfErr result (λ e. e ≡ Refusal.Memory) }
     {
         let mut rows = hashed_rows(alloc, &self.tasks, counters)?;
@@ -142,37 +168,47 @@ impl<C: Copy> TreeCore<C> {
     }
 }
 
-/// The row of a task.
-fn row_of_task<C: Copy, N: Counters<C>>(
-    key: Key,
-    task: &Task<C>,
-    counters: &N,
-) -> Result<Row, AllocError>
-    ensures { IfOk result (λ row. row_of row ≡ frozen (N.number counters.now) (key, entry_of task.now)) }
+/// Returns the value of a progress.
+fn value_of<C: Copy, N: Counters<C>>(progress: &Option<Counted<C>>, counters: &N) -> Option<Value>
+    ensures { ProgressShows (N.shows counters.now) (option_map counted_of progress.now)
+        (option_map progress_of result) }
 {
-    let progress = match &task.progress {
+    match progress {
         None => None,
         Some(counted) => Some(Value {
             step: counters.number(counted.counter),
             done_at: counted.done_at,
             state: counted.state,
         }),
-    };
+    }
+}
+
+/// Returns the row of a task.
+fn row_of_task<C: Copy, N: Counters<C>>(
+    key: Key,
+    task: &Task<C>,
+    counters: &N,
+) -> Result<Row, AllocError>
+    ensures { IfOk result (λ row.
+        RowShows (N.shows counters.now) (key, entry_of task.now) (row_of row)) }
+{
     Ok(Row {
         key,
         name: task.name.clone()?,
         id: task.id,
-        progress,
+        progress: value_of(&task.progress, counters),
     })
 }
 
-/// The rows of the tasks, in the order of the hashed map.
+/// Returns the rows of the tasks, in the order of the hashed map.
 fn hashed_rows<C: Copy, N: Counters<C>>(
     alloc: Global,
     tasks: &HashMap<Key, Task<C>>,
     counters: &N,
 ) -> Result<Vec<Row>, AllocError>
-    ensures rows { IfOk result (λ rows. rows_of rows.items ≡ map (frozen (N.number counters.now)) (map pair_of tasks.now.entries)) }
+    ensures rows { IfOk result (λ rows.
+        AllZip (RowShows (N.shows counters.now)) (map pair_of tasks.now.entries)
+        (rows_of rows.items)) }
     ensures unique { IsUnique (pointwise nat_eq) tasks.now }
 {
     let mut rows = Vec::new(alloc);
