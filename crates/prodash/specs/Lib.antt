@@ -13,6 +13,7 @@ pub use Rattle.prodash_line.specs.Renderer
 pub use Rattle.prodash_line.specs.Screens
 pub use Rattle.prodash_line.specs.Shows
 pub use Rattle.prodash_line.specs.Fits
+pub use Rattle.prodash_line.specs.Renderings
 pub use Rattle.prodash_core.specs.Tables
 pub use Rattle.prodash_core.specs.Trees
 pub use Rattle.prodash_core.specs.Sessions

@@ -10,9 +10,9 @@ use std::alloc::Global;
 /// Draws a task at 3 of 10. Returns an error if there is not enough memory to begin.
 pub fn show_task<S: Screen>(alloc: Global, screen: &mut S) -> Result<(), Refusal>
     ensures ok { IfOk result (λ _. (bytes : List ℕ)
-        × ((S.taken screen.new).bytes ≡ (S.taken screen.old).bytes ++ bytes)) }
+        × ((S.state screen.new).bytes ≡ (S.state screen.old).bytes ++ bytes)) }
     ensures err { IfErr result (λ e. (e ≡ Refusal.Memory)
-        × (S.taken screen.new ≡ S.taken screen.old)) }
+        × (S.state screen.new ≡ S.state screen.old)) }
 {
     let events = vec![in alloc;
         Event::AddChild {

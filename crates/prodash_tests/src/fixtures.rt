@@ -143,9 +143,9 @@ impl FakeScreen {
 }
 
 impl Screen for FakeScreen {
-    ghost taken = { λ s. record {
+    ghost state = { λ s. record {
       bytes = s.bytes.items;
-      sent = take s.flushed s.bytes.items;
+      flushed = take s.flushed s.bytes.items;
       broken = s.broken;
     } };
 

@@ -54,6 +54,7 @@ fn tree<C, N: prodash::tree::Counters<C>>(
     alloc: Global,
     screen: &mut prodash::render::line::draw::MemoryScreen,
     _counters: &N,
+    _handle: prodash::tree::Handle,
     _counted: &prodash::tree::Counted<C>,
     _task: &prodash::tree::Task<C>,
     _table: &prodash::tree::TreeCore<C>,

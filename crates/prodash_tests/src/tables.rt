@@ -1,3 +1,5 @@
+ghost use Rattle.std.specs.Prelude.{◌≡◌};
+
 use crate::fixtures::ShortEvent::{Add, Init, Say, Set};
 use crate::fixtures::ShortReply::{Done, Made};
 use crate::fixtures::{ShortEvent, ShortReply, event, key_at, messages, reply, rows};
@@ -11,7 +13,7 @@ use std::test::Fail;
 struct OwnNumbers;
 
 impl Counters<u64> for OwnNumbers {
-    ghost number = { λ _ counter. counter };
+    ghost shows = { λ _ counter n. n ≡ counter };
 
     fn number(&self, counter: u64) -> Step {
         counter
@@ -68,7 +70,9 @@ fn a_tree_needs_no_renderer(rt: HostRuntime) -> Result<(), Fail> {
     )?;
     assert_eq!(rt; tree.rows(rt.alloc())?, want);
     let previous = Some(MessageCopyState::new(1));
-    let (seen, new, state) = tree.seen(rt.alloc(), previous)?.ok_or("no root")?;
+    let (seen, new, state) = tree
+        .snapshot_and_new_messages(rt.alloc(), previous)?
+        .ok_or("no root")?;
     assert_eq!(rt; seen, want);
     assert_eq!(rt; new, messages(rt.alloc(), &[("b", "y")])?);
     assert_eq!(rt; state, MessageCopyState::new(2));
