@@ -11,7 +11,7 @@ use Rattle.prodash_base.proofs.RingLaws.{push-ring_of, fold-push}
 use Rattle.prodash_line.specs.Screens.{ScreenState}
 use Rattle.prodash_core.specs.declared.tree.slot.Slot.{Slot}
 use Rattle.prodash_core.specs.Trees.{Tree, Change, Effect, OnTree, OnRenderer, effect, slot_at, item_at, for_slot, init_at, message_by, push_message}
-use Rattle.prodash_core.specs.Sessions.{SessionState, is_memory, changed_reply, changed_tree, RunsOutOfMemory, AppliesChange, StepsBy, Steps}
+use Rattle.prodash_core.specs.Sessions.{SessionState, is_memory, changed_reply, changed_tree, RunsOutOfMemory, AppliesChange, StepsBy}
 use Rattle.prodash_core.specs.Runs.{Run, is_done, said_for, said_by, next_by, next_session, session_after, all_said}
 use Rattle.prodash_core.proofs.RunLaws.{prefix_runs}
 use Rattle.prodash_core.specs.declared.tree.event.Event.{Event}

@@ -1,8 +1,7 @@
 -- Laws of whole runs: how a run goes on, what it renders, its prefixes, the steps at each place, and the run of the accepted events.
-use Rattle.std.proofs.Common.{◌≡◌, ◌∙◌, ap, sym, subst, ℕ, zero, suc, ◌+◌, ◌<◌, ◌++◌, ◌∷◌, [], List, refl, append_assoc, append-nil, take, drop, length, Bool, true, false, cond, Result, Ok, Err, arith}
-use Rattle.std.specs.Prelude.{is_ok, ⊤}
+use Rattle.std.proofs.Common.{◌≡◌, ◌∙◌, ap, sym, subst, ℕ, zero, suc, ◌<◌, ◌++◌, ◌∷◌, [], List, refl, append_assoc, append-nil, take, length, Bool, true, false, cond, Result, Ok, arith}
+use Rattle.std.specs.Prelude.{is_ok}
 use Rattle.std.proofs.lemmas.List.{nil_from_length}
-use Rattle.prodash_line.specs.Renderer.{Renderer}
 use Rattle.prodash_line.specs.Renderings.{RendersAll}
 use Rattle.prodash_line.specs.Screens.{ScreenState}
 use Rattle.prodash_core.specs.Trees.{Effect, OnTree, OnRenderer, Change, effect}

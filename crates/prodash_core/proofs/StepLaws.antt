@@ -1,5 +1,5 @@
 -- What one step leaves, by its reply.
-use Rattle.std.proofs.Common.{◌≡◌, ◌∙◌, ap, sym, subst, [], List, refl, Bool, true, false, cond, Result, Ok, Err, Some, None, ⊎_elim}
+use Rattle.std.proofs.Common.{◌≡◌, ◌∙◌, ap, sym, subst, refl, Bool, true, false, cond, Result, Ok, Err, ⊎_elim}
 use Rattle.std.specs.Prelude.{MatchBool}
 use Rattle.prodash_base.specs.declared.refusal.Refusal.{Refusal}
 use Rattle.prodash_base.specs.declared.refusal.Refusal.TheVariants as refusals
@@ -9,13 +9,11 @@ use Rattle.prodash_line.specs.declared.render.line.draw.input.Answer.TheVariants
 use Rattle.prodash_line.specs.Renderer.{Renderer, Renders}
 use Rattle.prodash_line.specs.Renderings.{after_result}
 use Rattle.prodash_line.specs.Screens.{ScreenState}
-use Rattle.prodash_core.specs.Trees.{Tree, Change, Changes, Effect, OnTree, OnRenderer, PlaysBy, effect, Plays}
-use Rattle.prodash_core.specs.Sessions.{SessionState, is_memory, frame_reply, changed_reply, changed_tree, RendersFrame, AppliesChange, RunsOutOfMemory, StepsOnTree, StepsBy, Steps}
-use Rattle.prodash_core.specs.Runs.{result_of, next_by, next_session, said_by}
-use Rattle.prodash_base.specs.declared.messages.Message.{Message as Said}
+use Rattle.prodash_core.specs.Trees.{Change, Effect, OnTree, OnRenderer, effect}
+use Rattle.prodash_core.specs.Sessions.{SessionState, is_memory, frame_reply, changed_tree, RendersFrame, AppliesChange, RunsOutOfMemory, StepsOnTree, StepsBy, Steps}
+use Rattle.prodash_core.specs.Runs.{result_of, next_by, next_session}
 use Rattle.prodash_core.specs.declared.tree.event.Event.{Event}
 use Rattle.prodash_core.specs.declared.tree.event.Reply.{Reply}
-use Rattle.prodash_core.specs.declared.tree.event.Reply.TheVariants as replies
 
 -- the renderer after an input, by what was returned
 renders_after : (r : Renderer) (input : Input) (s : ScreenState) (result : Result Answer Refusal) (r' : Renderer) (s' : ScreenState) → Renders r input s result r' s' → r' ≡ after_result r input result

@@ -1,5 +1,5 @@
 -- What a table of tasks shows, after a change at one key.
-use Rattle.std.proofs.Common.{◌≡◌, ℕ, Bool, true, false, cond, List, [], ◌∷◌, map, Option, Some, None, refl, sym, ap, subst, ◌∙◌, is_some, ◌&&◌}
+use Rattle.std.proofs.Common.{◌≡◌, Bool, true, false, cond, List, [], ◌∷◌, map, Option, Some, None, refl, sym, ap, subst, ◌∙◌, is_some, ◌&&◌}
 use Rattle.std.specs.Option.{option_map}
 use Rattle.std.specs.Ordering.{eq_by_cmp, is_lt}
 use Rattle.std.specs.Cmp.{eq_by_cmp_equiv}
@@ -12,12 +12,12 @@ use Rattle.std.specs.List.Sorted.{IsStrictlySortedBy}
 use Rattle.std.specs.declared.cmp.Ordering.TheVariants.{Less}
 use Rattle.std.specs.FinMap.Entries.{below_all, is_sorted}
 use Rattle.std.specs.Map.{keys_of}
-use Rattle.std.specs.FinMap.{entries, from_sorted, entries-from_sorted, get-from_sorted, find, get, insert, remove, from_entries, get-from_entries, get-insert, get-remove, same_map, slice_cmp-IsAntisymmetric, nat_cmp-IsAntisymmetric}
+use Rattle.std.specs.FinMap.{find, get, insert, remove, from_entries, get-from_entries, get-insert, get-remove, same_map, slice_cmp-IsAntisymmetric, nat_cmp-IsAntisymmetric}
 use Rattle.std.specs.BTreeMap.{is_at}
 use Rattle.std.specs.Map.{lookup}
 use Rattle.prodash_base.specs.Path.{Path, path_cmp}
-use Rattle.prodash_base.specs.Rows.{Entry, Progress}
-use Rattle.prodash_core.specs.Tables.{Table, entry_of, pair_of, with_progress, counted_of, frozen}
+use Rattle.prodash_base.specs.Rows.{Progress}
+use Rattle.prodash_core.specs.Tables.{Table, entry_of, pair_of, with_progress, counted_of}
 use Rattle.prodash_core.specs.declared.tree.table.Counted.{Counted}
 use Rattle.prodash_core.specs.declared.tree.table.Task.{Task}
 
@@ -73,7 +73,7 @@ is_some-map : {A B : Type 0} (f : A → B) (o : Option A) → is_some (option_ma
 is_some-map f None = refl
 is_some-map f (Some a) = refl
 
--- the table has a path where a task is there
+-- the table has a path if there is a task at it
 pub is_some-table_of : {C : Type 0} (es : List (Path × Task C)) (k : Path) → is_some (get (table_of es) k) ≡ is_some (task_at es k)
 is_some-table_of es k = ap is_some (get-table_of es k) ∙ is_some-map entry_of (task_at es k)
 

@@ -1,5 +1,5 @@
 -- A run that fits a page, and what the page shows of it: a row, a message over it, and the closing frame.
-use Rattle.std.proofs.Common.{◌≡◌, ◌∙◌, ap, sym, subst, ℕ, cond, List, [], ◌∷◌, ◌++◌, map, Option, Some, None, Ok, false, true, take, refl, arith}
+use Rattle.std.proofs.Common.{◌≡◌, ◌∙◌, ap, sym, subst, ℕ, cond, List, [], ◌∷◌, ◌++◌, map, Option, Some, Ok, false, true, take, refl, arith}
 use Rattle.std.specs.Prelude.{codes, replicate}
 use Rattle.std.specs.Str.{chars}
 use Rattle.std.specs.FinMap.{empty, get, insert, entries, from_sorted, get-empty, get-insert, get-from_sorted, entries-from_sorted, same_map, slice_cmp-IsAntisymmetric, nat_cmp-IsAntisymmetric}
@@ -83,7 +83,7 @@ rendered_by = refl
 is_rendered : renderings ≡ rendered
 is_rendered = rendered_by ∙ (λ i. rendered_with (listed i) (named i))
 
--- what a page shows after so many of the frames, which begins blank
+-- what a blank page shows after the first n frames
 abbrev page_of : ℕ → List Rendering → Canvas
 page_of n xs = page_after (signs_of [] (take n (drawn_frames renderer xs))) (blank_page 40 4)
 

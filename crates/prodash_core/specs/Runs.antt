@@ -8,7 +8,7 @@ use Rattle.prodash_base.specs.Rings.{ring_of}
 use Rattle.prodash_line.specs.declared.render.line.draw.input.Answer.{Answer}
 use Rattle.prodash_line.specs.declared.render.line.draw.input.Answer.TheVariants as answers
 use Rattle.prodash_line.specs.Renderer.{new_renderer}
-use Rattle.prodash_line.specs.Renderings.{Rendering, renderer_after, RendersEach, BreaksExactly, FlushesFrame, WritesAttempts, attempts_of, drawn_frames, FitsPage, ShowsFrames}
+use Rattle.prodash_line.specs.Renderings.{Rendering, after_result, RendersEach, BreaksExactly, FlushesFrame, WritesAttempts, attempts_of, drawn_frames, FitsPage, ShowsFrames}
 use Rattle.prodash_line.specs.Screens.{ScreenState}
 use Rattle.prodash_line.specs.Page.{Canvas}
 use Rattle.prodash_core.specs.declared.tree.slot.Slot.{Slot}
@@ -28,8 +28,10 @@ result_of (replies.Refused refusal) = Err refusal
 result_of _ = Err refusals.Memory
 
 abbrev pub next_by : Effect → SessionState → Reply → SessionState
-next_by (OnTree memory change) w reply = if is_memory reply then w else record w { tree = changed_tree w.tree (change w.tree) }
-next_by (OnRenderer input) w reply = record w { renderer = renderer_after w.renderer (record { input = input w.tree w.renderer.seen; result = result_of reply }) }
+next_by (OnTree memory change) w reply =
+    if is_memory reply then w else record w { tree = changed_tree w.tree (change w.tree) }
+next_by (OnRenderer input) w reply =
+    record w { renderer = after_result w.renderer (input w.tree w.renderer.seen) (result_of reply) }
 
 -- the session after an event with this reply
 abbrev pub next_session : SessionState → Event → Reply → SessionState
@@ -44,17 +46,21 @@ session_after w (e ∷ es) (r ∷ rs) = session_after (next_session w e r) es rs
 -- one step after another, each from the session that those before it leave
 abbrev pub Run : SessionState → ScreenState → List Event → List Reply → ScreenState → Type 0
 Run w s [] [] s' = s' ≡ s
-Run w s (e ∷ es) (r ∷ rs) s' = (s₁ : ScreenState) × Steps w s e r (next_session w e r) s₁ × Run (next_session w e r) s₁ es rs s'
+Run w s (e ∷ es) (r ∷ rs) s' =
+    (s₁ : ScreenState) × Steps w s e r (next_session w e r) s₁
+    × Run (next_session w e r) s₁ es rs s'
 Run w s [] (r ∷ rs) s' = ⊥
 Run w s (e ∷ es) [] s' = ⊥
 
 -- the replies to a run from a new session
-abbrev pub RunsFromNew : SessionOptions → List Event → List Reply → ScreenState → ScreenState → Type 0
+abbrev pub RunsFromNew : SessionOptions → List Event → List Reply → ScreenState → ScreenState
+    → Type 0
 RunsFromNew options es rs s s' = Run (new_session options) s es rs s'
 
--- The step at a place of the list: its event and reply, the screen before and after it, and that it goes from the session after the events
--- before it to the session after it too.
-pub record StepsAt (w : SessionState) (es : List Event) (rs : List Reply) (j : ℕ) (s s' : ScreenState) : Type 0 where
+-- The step at a place of the list: its event and reply, the screen before and after it, and that it
+-- goes from the session after the events before it to the session after it too.
+pub record StepsAt (w : SessionState) (es : List Event) (rs : List Reply) (j : ℕ)
+    (s s' : ScreenState) : Type 0 where
   pub event : Event
   pub reply : Reply
   pub asked : slice_get es j ≡ Some event
@@ -62,27 +68,34 @@ pub record StepsAt (w : SessionState) (es : List Event) (rs : List Reply) (j : �
   pub before : ScreenState
   pub after : ScreenState
   pub earlier : Run w s (take j es) (take j rs) before
-  pub step : Steps (session_after w (take j es) (take j rs)) before event reply (session_after w (take (suc j) es) (take (suc j) rs)) after
-  pub later : Run (session_after w (take (suc j) es) (take (suc j) rs)) after (drop (suc j) es) (drop (suc j) rs) s'
+  pub step : Steps (session_after w (take j es) (take j rs)) before event reply
+      (session_after w (take (suc j) es) (take (suc j) rs)) after
+  pub later : Run (session_after w (take (suc j) es) (take (suc j) rs)) after (drop (suc j) es)
+      (drop (suc j) rs) s'
 
 -- the step of each event
-abbrev pub StepsAtEach : SessionOptions → List Event → List Reply → ScreenState → ScreenState → Type 0
-StepsAtEach options es rs s s' = (j : ℕ) → j < length es → StepsAt (new_session options) es rs j s s'
+abbrev pub StepsAtEach : SessionOptions → List Event → List Reply → ScreenState → ScreenState
+    → Type 0
+StepsAtEach options es rs s s' =
+    (j : ℕ) → j < length es → StepsAt (new_session options) es rs j s s'
 
 -- the events that weren't out of memory, and their replies
 abbrev pub accepted_events : List Event → List Reply → List Event
 accepted_events [] rs = []
 accepted_events (e ∷ es) [] = []
-accepted_events (e ∷ es) (r ∷ rs) = if is_memory r then accepted_events es rs else e ∷ accepted_events es rs
+accepted_events (e ∷ es) (r ∷ rs) =
+    if is_memory r then accepted_events es rs else e ∷ accepted_events es rs
 
 abbrev pub accepted_replies : List Reply → List Reply
 accepted_replies [] = []
 accepted_replies (r ∷ rs) = if is_memory r then accepted_replies rs else r ∷ accepted_replies rs
 
 -- the same run without the events that were out of memory, which ends in the same session
-pub record RunsWithoutRefused (options : SessionOptions) (es : List Event) (rs : List Reply) (s s' : ScreenState) : Type 0 where
+pub record RunsWithoutRefused (options : SessionOptions) (es : List Event) (rs : List Reply)
+    (s s' : ScreenState) : Type 0 where
   pub run : Run (new_session options) s (accepted_events es rs) (accepted_replies rs) s'
-  pub session : session_after (new_session options) (accepted_events es rs) (accepted_replies rs) ≡ session_after (new_session options) es rs
+  pub session : session_after (new_session options) (accepted_events es rs) (accepted_replies rs)
+      ≡ session_after (new_session options) es rs
 
 abbrev pub said_for : Tree → Option Slot → ℕ → MessageLevel → List ℕ → List Said
 said_for t None at level text = []
@@ -101,45 +114,60 @@ is_done _ = false
 abbrev pub all_said : SessionState → List Event → List Reply → List Said
 all_said w [] rs = []
 all_said w (e ∷ es) [] = []
-all_said w (e ∷ es) (r ∷ rs) = (if is_done r then said_by w.tree e else []) ++ all_said (next_session w e r) es rs
+all_said w (e ∷ es) (r ∷ rs) =
+    (if is_done r then said_by w.tree e else []) ++ all_said (next_session w e r) es rs
 
 -- after each prefix of the events, the ring is that of all messages so far
 abbrev pub KeepsMessages : SessionOptions → List Event → List Reply → Type 0
 KeepsMessages options es rs =
     (j : ℕ) → (session_after (new_session options) (take j es) (take j rs)).tree.ring
-    ≡ ring_of options.root.message_buffer_capacity (all_said (new_session options) (take j es) (take j rs))
+    ≡ ring_of options.root.message_buffer_capacity
+    (all_said (new_session options) (take j es) (take j rs))
 
 abbrev pub rendering_by : Effect → SessionState → Reply → List Rendering
 rendering_by (OnTree memory change) w reply = []
-rendering_by (OnRenderer input) w reply = record { input = input w.tree w.renderer.seen; result = result_of reply } ∷ []
+rendering_by (OnRenderer input) w reply =
+    record { input = input w.tree w.renderer.seen; result = result_of reply } ∷ []
 
 -- the inputs of the frames among the events, each with what the renderer returned
 abbrev pub renderings_from : SessionState → List Event → List Reply → List Rendering
 renderings_from w [] rs = []
 renderings_from w (e ∷ es) [] = []
-renderings_from w (e ∷ es) (r ∷ rs) = rendering_by (effect e) w r ++ renderings_from (next_session w e r) es rs
+renderings_from w (e ∷ es) (r ∷ rs) =
+    rendering_by (effect e) w r ++ renderings_from (next_session w e r) es rs
 
 abbrev pub renderings_of : SessionOptions → List Event → List Reply → List Rendering
 renderings_of options es rs = renderings_from (new_session options) es rs
 
--- `Broken` is the reply to a frame exactly if it was the reply to one before, or if the frame has bytes and the screen is broken after it
-abbrev pub EachBreaksExactly : SessionOptions → List Event → List Reply → ScreenState → ScreenState → Type 0
-EachBreaksExactly options es rs s s' = RendersEach BreaksExactly (new_renderer options.draw) s (renderings_of options es rs) s'
+-- `Broken` is the reply to a frame exactly if it was the reply to one before, or if the frame has
+-- bytes and the screen is broken after it
+abbrev pub EachBreaksExactly : SessionOptions → List Event → List Reply → ScreenState
+    → ScreenState → Type 0
+EachBreaksExactly options es rs s s' =
+    RendersEach BreaksExactly (new_renderer options.draw) s (renderings_of options es rs) s'
 
 -- each accepted frame with bytes is flushed
-abbrev pub EachFlushes : SessionOptions → List Event → List Reply → ScreenState → ScreenState → Type 0
-EachFlushes options es rs s s' = RendersEach FlushesFrame (new_renderer options.draw) s (renderings_of options es rs) s'
+abbrev pub EachFlushes : SessionOptions → List Event → List Reply → ScreenState → ScreenState
+    → Type 0
+EachFlushes options es rs s s' =
+    RendersEach FlushesFrame (new_renderer options.draw) s (renderings_of options es rs) s'
 
--- the bytes that the screen takes are those of the frames, each whole up to the first that breaks the screen
-abbrev pub WritesFrames : SessionOptions → List Event → List Reply → ScreenState → ScreenState → Type 0
+-- the bytes that the screen takes are those of the frames, each whole up to the first that breaks
+-- the screen
+abbrev pub WritesFrames : SessionOptions → List Event → List Reply → ScreenState → ScreenState
+    → Type 0
 WritesFrames options es rs s s' =
-    (bytes : List ℕ) × (s'.bytes ≡ s.bytes ++ bytes) × WritesAttempts [] (attempts_of (new_renderer options.draw) (renderings_of options es rs)) bytes
+    (bytes : List ℕ) × (s'.bytes ≡ s.bytes ++ bytes)
+    × WritesAttempts [] (attempts_of (new_renderer options.draw) (renderings_of options es rs)) bytes
 
 -- on a page that everything fits, the frames are shown
-abbrev pub ShowsOnPages : SessionOptions → List Event → List Reply → ScreenState → ScreenState → Type 0
+abbrev pub ShowsOnPages : SessionOptions → List Event → List Reply → ScreenState → ScreenState
+    → Type 0
 ShowsOnPages options es rs s s' =
-    (page : Canvas) (above : List (List ℕ)) → FitsPage (new_renderer options.draw) (renderings_of options es rs) s'.broken above page
-    → ShowsFrames s.bytes s'.bytes (drawn_frames (new_renderer options.draw) (renderings_of options es rs)) above page
+    (page : Canvas) (above : List (List ℕ))
+    → FitsPage (new_renderer options.draw) (renderings_of options es rs) s'.broken above page
+    → ShowsFrames s.bytes s'.bytes
+    (drawn_frames (new_renderer options.draw) (renderings_of options es rs)) above page
 
 -- a screen that isn't broken has flushed all that it took, if it had before
 abbrev pub StaysFlushed : ScreenState → ScreenState → Type 0

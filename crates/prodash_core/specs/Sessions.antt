@@ -19,7 +19,10 @@ pub record SessionState : Type 0 where
 
 -- nothing but the root, no messages, and nothing drawn
 abbrev pub new_session : SessionOptions → SessionState
-new_session options = record { tree = new_tree options.root.message_buffer_capacity; renderer = new_renderer options.draw }
+new_session options = record {
+  tree = new_tree options.root.message_buffer_capacity;
+  renderer = new_renderer options.draw;
+}
 
 abbrev pub input_by : SessionState → Effect → Option Input
 input_by w (OnTree memory change) = None
@@ -45,21 +48,25 @@ changed_tree t (Ok changed) = changed.0
 changed_tree t (Err refusal) = t
 
 -- a frame: the renderer renders the input, and the tree stays
-pub record RendersFrame (w : SessionState) (input : Input) (s : ScreenState) (reply : Reply) (w' : SessionState) (s' : ScreenState) : Type 0 where
+pub record RendersFrame (w : SessionState) (input : Input) (s : ScreenState) (reply : Reply)
+    (w' : SessionState) (s' : ScreenState) : Type 0 where
   pub result : Result Answer Refusal
   pub replied : reply ≡ frame_reply result
   pub tree : w'.tree ≡ w.tree
   pub renders : Renders w.renderer input s result w'.renderer s'
 
 -- another event: the tree changes, and renderer and screen stay
-pub record AppliesChange (w : SessionState) (s : ScreenState) (change : Change) (reply : Reply) (w' : SessionState) (s' : ScreenState) : Type 0 where
+pub record AppliesChange (w : SessionState) (s : ScreenState) (change : Change) (reply : Reply)
+    (w' : SessionState) (s' : ScreenState) : Type 0 where
   pub replied : reply ≡ changed_reply (change w.tree)
   pub tree : w'.tree ≡ changed_tree w.tree (change w.tree)
   pub renderer : w'.renderer ≡ w.renderer
   pub screen : s' ≡ s
 
--- another event runs out of memory: only if it may, and if the tree doesn't refuse it. Nothing has changed.
-pub record RunsOutOfMemory (w : SessionState) (s : ScreenState) (memory : Bool) (change : Change) (w' : SessionState) (s' : ScreenState) : Type 0 where
+-- another event runs out of memory: only if it may, and if the tree doesn't refuse it. Nothing has
+-- changed.
+pub record RunsOutOfMemory (w : SessionState) (s : ScreenState) (memory : Bool) (change : Change)
+    (w' : SessionState) (s' : ScreenState) : Type 0 where
   pub may : IsTrue memory
   pub accepted : IsOk (change w.tree)
   pub session : w' ≡ w
@@ -70,12 +77,17 @@ abbrev pub is_memory : Reply → Bool
 is_memory (replies.Refused refusals.Memory) = true
 is_memory _ = false
 
-abbrev pub StepsOnTree : SessionState → ScreenState → Bool → Change → Reply → SessionState → ScreenState → Type 0
-StepsOnTree w s memory change reply w' s' = MatchBool (is_memory reply) (RunsOutOfMemory w s memory change w' s') (AppliesChange w s change reply w' s')
+abbrev pub StepsOnTree : SessionState → ScreenState → Bool → Change → Reply → SessionState
+    → ScreenState → Type 0
+StepsOnTree w s memory change reply w' s' =
+    MatchBool (is_memory reply) (RunsOutOfMemory w s memory change w' s')
+    (AppliesChange w s change reply w' s')
 
-abbrev pub StepsBy : Effect → SessionState → ScreenState → Reply → SessionState → ScreenState → Type 0
+abbrev pub StepsBy : Effect → SessionState → ScreenState → Reply → SessionState → ScreenState
+    → Type 0
 StepsBy (OnTree memory change) w s reply w' s' = StepsOnTree w s memory change reply w' s'
-StepsBy (OnRenderer input) w s reply w' s' = RendersFrame w (input w.tree w.renderer.seen) s reply w' s'
+StepsBy (OnRenderer input) w s reply w' s' =
+    RendersFrame w (input w.tree w.renderer.seen) s reply w' s'
 
 -- one event: its reply, and what it leaves of the session and the screen
 abbrev pub Steps : SessionState → ScreenState → Event → Reply → SessionState → ScreenState → Type 0

@@ -23,7 +23,8 @@ abbrev pub pair_of : {C : Type 0} → Path × Task C → Path × Entry C
 pair_of e = (e.0, entry_of e.1)
 
 -- the table with another progress at a path, if it has the path
-abbrev pub with_progress : {C : Type 0} → Table C → Path → Option (Progress C) → Option (Entry C) → Table C
+abbrev pub with_progress : {C : Type 0} → Table C → Path → Option (Progress C) → Option (Entry C)
+    → Table C
 with_progress m path p None = m
 with_progress m path p (Some e) = finite.insert m path (record e { progress = p })
 
@@ -31,13 +32,17 @@ with_progress m path p (Some e) = finite.insert m path (record e { progress = p 
 abbrev pub progress_at : {C : Type 0} → ℕ → Progress C → Progress ℕ
 progress_at number p = record { counter = number; bound = p.bound; phase = p.phase }
 
--- The row's progress is that of the entry, with a number in the counter's place that the counter may show.
-abbrev pub ProgressShows : {C : Type 0} → (C → ℕ → Type 0) → Option (Progress C) → Option (Progress ℕ) → Type 0
+-- The row's progress is that of the entry, with a number in the counter's place that the counter
+-- may show.
+abbrev pub ProgressShows : {C : Type 0} → (C → ℕ → Type 0) → Option (Progress C)
+    → Option (Progress ℕ) → Type 0
 ProgressShows shows None shown = shown ≡ None
-ProgressShows shows (Some p) shown = (number : ℕ) × shows p.counter number × (shown ≡ Some (progress_at number p))
+ProgressShows shows (Some p) shown =
+    (number : ℕ) × shows p.counter number × (shown ≡ Some (progress_at number p))
 
 -- a row shows a path and its entry
-pub record RowShows {C : Type 0} (shows : C → ℕ → Type 0) (e : Path × Entry C) (row : PathRow) : Type 0 where
+pub record RowShows {C : Type 0} (shows : C → ℕ → Type 0) (e : Path × Entry C) (row : PathRow)
+    : Type 0 where
   pub path : row.0 ≡ e.0
   pub name : row.1.name ≡ e.1.name
   pub id : row.1.id ≡ e.1.id
@@ -50,14 +55,17 @@ RowsShow shows m rows = AllZip (RowShows shows) (finite.entries m) rows
 abbrev pub paths_of : List PathRow → List Path
 paths_of rows = map (λ row. row.0) rows
 
--- the rows are strictly ascending by path, so that no path has two, and a path has a row if and only if it has an entry
+-- the rows are strictly ascending by path, so that no path has two, and a path has a row if and
+-- only if it has an entry
 pub record ListsEachOnce {C : Type 0} (m : Table C) (rows : List PathRow) : Type 0 where
   pub ascending : IsStrictlySortedBy path_cmp (paths_of rows)
   pub each : (path : Path) → IsSome (finite.get m path) ↔ Contains (paths_of rows) path
 
 -- a pair with each counter's number in its place
 abbrev pub frozen : {C : Type 0} → (C → ℕ) → Path × Entry C → PathRow
-frozen number e = (e.0, record { name = e.1.name; id = e.1.id; progress = option_map (λ p. progress_at (number p.counter) p) e.1.progress })
+frozen number e =
+    let shown = option_map (λ p. progress_at (number p.counter) p) e.1.progress in
+    (e.0, record { name = e.1.name; id = e.1.id; progress = shown })
 
 -- the rows: the pairs in the order of paths, each counter's number in its place
 abbrev pub rows_at : {C : Type 0} → (C → ℕ) → Table C → List PathRow

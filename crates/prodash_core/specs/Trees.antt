@@ -33,7 +33,8 @@ new_slot path = record { key = path; counter = 0; next_child = 0; is_valid = tru
 
 -- nothing but the root, and a ring of this capacity
 abbrev pub new_tree : ℕ → Tree
-new_tree capacity = record { table = finite.empty; slots = new_slot [] ∷ []; ring = new_ring capacity }
+new_tree capacity =
+    record { table = finite.empty; slots = new_slot [] ∷ []; ring = new_ring capacity }
 
 abbrev pub if_valid : Option Slot → Option Slot
 if_valid None = None
@@ -76,11 +77,15 @@ add_child t n slot name id = record t {
 
 -- without the entry of the handle n, which is no longer valid; the entries below it stay
 abbrev pub drop_item : Tree → ℕ → Slot → Tree
-drop_item t n slot = record t { table = finite.remove t.table slot.key; slots = slice_set t.slots n (record slot { is_valid = false }) }
+drop_item t n slot = record t {
+  table = finite.remove t.table slot.key;
+  slots = slice_set t.slots n (record slot { is_valid = false });
+}
 
 -- the counter of the handle n has this number
 abbrev pub set_counter : Tree → ℕ → Slot → ℕ → Tree
-set_counter t n slot step = record t { slots = slice_set t.slots n (record slot { counter = step }) }
+set_counter t n slot step =
+    record t { slots = slice_set t.slots n (record slot { counter = step }) }
 
 -- the progress with which a handle begins: none without a bound
 abbrev pub new_progress : ℕ → Option ℕ → Option (Progress ℕ)
@@ -89,7 +94,9 @@ new_progress n (Some max) = Some (record { counter = n; bound = Some max; phase 
 
 abbrev pub init_at : Tree → ℕ → Slot → Option ℕ → Option (Entry ℕ) → Tree
 init_at t n slot max None = t
-init_at t n slot max (Some e) = record (set_counter t n slot 0) { table = finite.insert t.table slot.key (record e { progress = new_progress n max }) }
+init_at t n slot max (Some e) = record (set_counter t n slot 0) {
+  table = finite.insert t.table slot.key (record e { progress = new_progress n max });
+}
 
 -- if the map has the path, its progress begins, and the counter is 0
 abbrev pub init : Tree → ℕ → Slot → Option ℕ → Tree
@@ -106,7 +113,9 @@ message_by t slot at level text = message_of at level (name_of (finite.get t.tab
 
 -- the message is pushed, unless no more can be counted
 abbrev pub push_message : Tree → Said → Result (Tree × Reply) Refusal
-push_message t m = if is_push_limit_reached t.ring then Err refusals.TooManyMessages else Ok (record t { ring = push t.ring m }, replies.Done)
+push_message t m =
+    if is_push_limit_reached t.ring then Err refusals.TooManyMessages
+    else Ok (record t { ring = push t.ring m }, replies.Done)
 
 -- the root's handle is no longer valid
 abbrev pub drop_root : Tree → Slot → Tree
@@ -114,9 +123,11 @@ drop_root t slot = record t { slots = slice_set t.slots 0 (record slot { is_vali
 
 abbrev pub snapshot_by : Option Slot → Tree → Option ℕ → Seen
 snapshot_by None t previous = None
-snapshot_by (Some root) t previous = Some (tree_rows t, messages_since t.ring previous, t.ring.pushed)
+snapshot_by (Some root) t previous =
+    Some (tree_rows t, messages_since t.ring previous, t.ring.pushed)
 
--- what a frame sees: the rows, the messages since as many pushes, and how many pushes there were; nothing without a root
+-- what a frame sees: the rows, the messages since as many pushes, and how many pushes there were;
+-- nothing without a root
 abbrev pub snapshot_of : Tree → Option ℕ → Seen
 snapshot_of t previous = snapshot_by (slot_at t 0) t previous
 
@@ -129,7 +140,8 @@ abbrev pub or_gone : Option Slot → Result Slot Refusal
 or_gone None = Err refusals.Gone
 or_gone (Some slot) = Ok slot
 
-abbrev pub for_slot : Option Slot → (Slot → Result (Tree × Reply) Refusal) → Result (Tree × Reply) Refusal
+abbrev pub for_slot : Option Slot → (Slot → Result (Tree × Reply) Refusal)
+    → Result (Tree × Reply) Refusal
 for_slot None f = Err refusals.Gone
 for_slot (Some slot) f = f slot
 
@@ -140,22 +152,30 @@ with_handle n f = λ t. for_slot (slot_at t n) (f t)
 abbrev pub with_item : ℕ → (Tree → Slot → Result (Tree × Reply) Refusal) → Change
 with_item n f = λ t. for_slot (item_at t n) (f t)
 
--- What an event does: it changes the tree, with a mark whether it may run out of memory, or it is a frame, which asks the renderer for an
--- input that is made of the tree and of how many messages the renderer has seen.
+-- What an event does: it changes the tree, with a mark whether it may run out of memory; or it is a
+-- frame, which gives the renderer an input that is made of the tree and of how many messages the
+-- renderer has seen.
 pub data Effect : Type 0 where
   OnTree : Bool → Change → Effect
   OnRenderer : (Tree → Option ℕ → Input) → Effect
 
 -- the effect of each event
 abbrev pub effect : Event → Effect
-effect (AddChild parent name id) = OnTree true (with_handle parent (λ t slot. Ok (add_child t parent slot name id, replies.Made (length t.slots))))
+effect (AddChild parent name id) =
+    OnTree true (with_handle parent (λ t slot.
+    Ok (add_child t parent slot name id, replies.Made (length t.slots))))
 effect (Drop n) = OnTree false (with_item n (λ t slot. Ok (drop_item t n slot, replies.Done)))
 effect (Init n max) = OnTree false (with_item n (λ t slot. Ok (init t n slot max, replies.Done)))
-effect (Set n step) = OnTree false (with_item n (λ t slot. Ok (set_counter t n slot step, replies.Done)))
-effect (Message n at level text) = OnTree true (with_item n (λ t slot. push_message t (message_by t slot at level text)))
+effect (Set n step) =
+    OnTree false (with_item n (λ t slot. Ok (set_counter t n slot step, replies.Done)))
+effect (Message n at level text) =
+    OnTree true (with_item n (λ t slot. push_message t (message_by t slot at level text)))
 effect Snapshot = OnTree true (with_handle 0 (λ t root. Ok (t, replies.Rows (tree_rows t))))
-effect CopyMessages = OnTree true (with_handle 0 (λ t root. Ok (t, replies.Messages t.ring.messages)))
-effect (CopyNew previous) = OnTree true (with_handle 0 (λ t root. Ok (t, replies.New (messages_since t.ring previous) t.ring.pushed)))
+effect CopyMessages =
+    OnTree true (with_handle 0 (λ t root. Ok (t, replies.Messages t.ring.messages)))
+effect (CopyNew previous) =
+    OnTree true (with_handle 0 (λ t root.
+    Ok (t, replies.New (messages_since t.ring previous) t.ring.pushed)))
 effect DropRoot = OnTree false (with_handle 0 (λ t root. Ok (drop_root t root, replies.Done)))
 effect (Tick at show) = OnRenderer (λ t seen. inputs.Tick at show (snapshot_of t seen))
 effect (Quit at) = OnRenderer (λ t seen. inputs.Quit at)
@@ -168,8 +188,8 @@ draws (OnRenderer input) = true
 abbrev pub is_frame : Event → Bool
 is_frame e = draws (effect e)
 
--- What a change returns, and the tree that it leaves. A refusal leaves the tree as it was. It runs out of memory only if it may, and if the
--- tree doesn't refuse it.
+-- What a change returns, and the tree that it leaves. A refusal leaves the tree as it was. It runs
+-- out of memory only if it may, and if the tree doesn't refuse it.
 abbrev pub Changes : Tree → Bool → Change → Result Reply Refusal → Tree → Type 0
 Changes t memory change (Ok reply) t' = change t ≡ Ok (t', reply)
 Changes t memory change (Err refusals.Memory) t' = IsTrue memory × IsOk (change t) × (t' ≡ t)

@@ -56,9 +56,10 @@ impl TreeState {
     ///
     /// # Errors
     ///
-    /// `Gone`, if the handle isn't valid, or if the event needs an item and the handle is the
-    /// root's. `TooManyMessages`, if no further message can be counted. `Memory`, if there is no
-    /// memory for the event or its reply. An event that is refused leaves the tree as it was.
+    /// `Gone`, if the handle isn't valid, if the event needs an item and the handle is the root's,
+    /// or if the event needs the root and it was dropped. `TooManyMessages`, if no further message
+    /// can be counted. `Memory`, if there is no memory for the event or its reply. An event that is
+    /// refused leaves the tree as it was.
     pub fn apply(&mut self, alloc: Global, event: &Event) -> Result<Reply, Refusal>
         requires { is_frame event.now ≡ false }
         ensures { Plays self.old event.now result self.new }

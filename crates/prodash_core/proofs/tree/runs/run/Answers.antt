@@ -1,7 +1,5 @@
 use Rattle.std.proofs.Common.{arith, [], refl}
 use Rattle.std.proofs.lemmas.Grind.{common_steps}
-use Rattle.prodash_core.specs.Sessions.{new_session}
-use Rattle.prodash_core.specs.Runs.{RunsFromNew}
 use Rattle.prodash_core.proofs.RunLaws.{completes_more, completes_all, pushed_is, run_renders, steps_at, accepted_run, accepted_after}
 use Rattle.prodash_core.proofs.AllSaid.{rings_of_prefixes}
 use Rattle.prodash_line.proofs.Renderings.{writes_attempts, breaks_exactly, flushes_each, stays_flushed}
