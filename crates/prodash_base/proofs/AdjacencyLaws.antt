@@ -1,5 +1,5 @@
 -- Adjacency: the paths that the tests of `specs/Adjacency.antt` find, as indices of the list.
-use Rattle.std.proofs.Common.{◌≡◌, ℕ, suc, ◌+◌, ◌-◌, ◌<◌, ◌≤◌, List, [], ◌∷◌, length, take, get_or, Bool, true, false, IsTrue, ◌&&◌, nat_eq, inl, inr, refl, sym, ap, subst, ◌∙◌, arith}
+use Rattle.std.proofs.Common.{◌≡◌, ℕ, suc, ◌+◌, ◌-◌, ◌<◌, ◌≤◌, List, [], ◌∷◌, length, take, Bool, true, false, IsTrue, ◌&&◌, inl, inr, refl, sym, ap, subst, ◌∙◌, arith}
 use Rattle.std.specs.List.{AllWithin, list_any}
 use Rattle.std.specs.Ordering.{is_lt, is_gt, is_le, is_ge}
 use Rattle.std.specs.declared.cmp.Ordering.{Ordering}
@@ -22,9 +22,9 @@ both a b x y i = x i && y i
 listed : (test : Path → Bool) (S : List Path) → list_any test S ≡ true → (k : ℕ) × (k < length S) × (test (path_at S k) ≡ true)
 listed test [] h = cc
 listed test (q ∷ S) h = elim (or_cases (test q) (list_any test S) h) [
-    | inl now ↦ (0, omega arith, now)
-    | inr later ↦ let r = listed test S later in (suc r.0, omega (arith, r.1), r.2)
-  ]
+  | inl now ↦ (0, omega arith, now)
+  | inr later ↦ let r = listed test S later in (suc r.0, omega (arith, r.1), r.2)
+]
 
 -- a path that is no greater than another that is no greater than it, by their first n numbers
 equal_between : (n : ℕ) (q p : Path) → is_le (cmp_prefix n q p) ≡ true → is_gt (cmp_prefix n p q) ≡ false → cmp_prefix n q p ≡ Equal
@@ -52,23 +52,23 @@ module _ (S : List Path) (up : IsAscending S) (x : ℕ) (inside : x < length S) 
 
   not_before : (k : ℕ) → k < length S → x ≤ k → is_lt (path_cmp (path_at S k) (path_at S x)) ≡ false
   not_before k kn xk = elim (cases_lt x k) [
-      | inl lt ↦ ap is_lt (turned (path_at S x) (path_at S k) (up x k [] lt kn))
-      | inr ge ↦ let e : x ≡ k = omega arith in subst (λ j. is_lt (path_cmp (path_at S j) (path_at S x)) ≡ false) e (ap is_lt own_tie)
-    ]
+    | inl lt ↦ ap is_lt (turned (path_at S x) (path_at S k) (up x k [] lt kn))
+    | inr ge ↦ let e : x ≡ k = omega arith in subst (λ j. is_lt (path_cmp (path_at S j) (path_at S x)) ≡ false) e (ap is_lt own_tie)
+  ]
 
   not_after : (k : ℕ) → k ≤ x → is_gt (path_cmp (path_at S k) (path_at S x)) ≡ false
   not_after k kx = elim (cases_lt k x) [
-      | inl lt ↦ ap is_gt (up k x [] lt inside)
-      | inr ge ↦ let e : x ≡ k = omega arith in subst (λ j. is_gt (path_cmp (path_at S j) (path_at S x)) ≡ false) e (ap is_gt own_tie)
-    ]
+    | inl lt ↦ ap is_gt (up k x [] lt inside)
+    | inr ge ↦ let e : x ≡ k = omega arith in subst (λ j. is_gt (path_cmp (path_at S j) (path_at S x)) ≡ false) e (ap is_gt own_tie)
+  ]
 
   -- a path that shares its first n numbers with the own isn't before their first
   module _ (n first : ℕ) (before : AllWithin (λ q. IsTrue (is_lt (cmp_prefix n q (path_at S x)))) S 0 first) where
     from_first : (k : ℕ) → cmp_prefix n (path_at S k) (path_at S x) ≡ Equal → first ≤ k
     from_first k tie = elim (cases_lt k first) [
-        | inl lt ↦ let one = before k [] (omega arith) lt in let two : is_lt (cmp_prefix n (path_at S k) (path_at S x)) ≡ false = ap is_lt tie in absurd (cc)
-        | inr ge ↦ ge
-      ]
+      | inl lt ↦ let one = before k [] (omega arith) lt in let two : is_lt (cmp_prefix n (path_at S k) (path_at S x)) ≡ false = ap is_lt tie in absurd (cc)
+      | inr ge ↦ ge
+    ]
 
     pub first_le : first ≤ x
     first_le = from_first x (prefix_ties n (path_at S x) (path_at S x) refl)
@@ -97,9 +97,9 @@ module _ (S : List Path) (up : IsAscending S) (x : ℕ) (inside : x < length S) 
       let parts = and_parts (is_lt (path_cmp q p)) (is_sibling p l q) found.2 in
       let low : first ≤ k = from_first (l - 1) first before k (sibling_tie l p q parts.1) in
       let high : k < x = elim (cases_lt k x) [
-          | inl lt ↦ lt
-          | inr ge ↦ let one = not_before k found.1 ge in let two = parts.0 in absurd (cc)
-        ] in
+        | inl lt ↦ lt
+        | inr ge ↦ let one = not_before k found.1 ge in let two = parts.0 in absurd (cc)
+      ] in
       (k, low, high, sibling_level l p q parts.1)
 
   -- siblings after, as rows with l numbers from the own on up to the end of the branch
@@ -126,15 +126,15 @@ module _ (S : List Path) (up : IsAscending S) (x : ℕ) (inside : x < length S) 
       let q = path_at S k in
       let parts = and_parts (is_gt (path_cmp q p)) (is_sibling p l q) found.2 in
       let low : x + 1 ≤ k = elim (cases_lt x k) [
-          | inl lt ↦ omega arith
-          | inr ge ↦ let one = not_after k ge in let two = parts.0 in absurd (cc)
-        ] in
+        | inl lt ↦ omega arith
+        | inr ge ↦ let one = not_after k ge in let two = parts.0 in absurd (cc)
+      ] in
       let high : k < end = elim (cases_lt k end) [
-          | inl lt ↦ lt
-          | inr ge ↦
+        | inl lt ↦ lt
+        | inr ge ↦
             let one : is_gt (cmp_prefix (l - 1) q p) ≡ true = rest k [] ge found.1 in
             let two : is_gt (cmp_prefix (l - 1) q p) ≡ false = ap is_gt (sibling_tie l p q parts.1) in absurd (cc)
-        ] in
+      ] in
       (k, low, high, sibling_level l p q parts.1)
 
   -- the parent, as the first row of the branch
@@ -170,9 +170,9 @@ module _ (S : List Path) (up : IsAscending S) (x : ℕ) (inside : x < length S) 
         let low : first ≤ k = from_first n first before k (prefix_ties n q p (whole ∙ sym same)) in
         elim (cases_lt first k) [
           | inl lt ↦
-            let falls : is_le (path_cmp q f) ≡ false = ap is_le (turned f q (up first k [] lt found.1)) in
-            let prefix : take n f ≡ q = same_prefix n f p first_tie ∙ same in
-            let rises : is_le (path_cmp q f) ≡ true = subst (λ r. is_le (path_cmp r f) ≡ true) prefix (prefix_le n f) in
-            absurd (cc)
+              let falls : is_le (path_cmp q f) ≡ false = ap is_le (turned f q (up first k [] lt found.1)) in
+              let prefix : take n f ≡ q = same_prefix n f p first_tie ∙ same in
+              let rises : is_le (path_cmp q f) ≡ true = subst (λ r. is_le (path_cmp r f) ≡ true) prefix (prefix_le n f) in
+              absurd (cc)
           | inr ge ↦ let e : k ≡ first = omega arith in ap (λ j. length (path_at S j)) (sym e) ∙ level
         ]

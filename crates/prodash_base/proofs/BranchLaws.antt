@@ -1,5 +1,5 @@
 -- Branches of an ascending list of paths.
-use Rattle.std.proofs.Common.{◌≡◌, ℕ, zero, suc, ◌+◌, ◌<◌, ◌≤◌, List, [], ◌∷◌, length, take, map, get_or, Bool, true, false, IsTrue, inl, inr, refl, sym, ap, subst, ◌∙◌, arith}
+use Rattle.std.proofs.Common.{◌≡◌, ℕ, zero, suc, ◌<◌, ◌≤◌, List, [], ◌∷◌, length, take, map, get_or, Bool, true, false, IsTrue, inl, inr, refl, sym, ap, subst, ◌∙◌, arith}
 use Rattle.std.specs.List.{AllWithin}
 use Rattle.std.specs.List.Sorted.{IsPartitionedBy}
 use Rattle.std.specs.Ordering.{nat_cmp, ordering_then, ordering_reverse, is_lt, is_gt, is_le, is_ge}
@@ -14,7 +14,7 @@ use Rattle.std.proofs.lemmas.List.{take_all, length-map, get_or-map}
 use Rattle.std.proofs.Math.ListN as listn
 use Rattle.prodash_base.specs.Path.{Path, path_cmp}
 use Rattle.prodash_base.specs.Adjacency.{IsAscending}
-use Rattle.prodash_base.specs.plumbing.Branches.{path_at, cmp_prefix, HasLevel}
+use Rattle.prodash_base.specs.plumbing.Branches.{path_at, cmp_prefix}
 
 -- tests of orders
 not_greater : (o : Ordering) → (o ≡ Greater → ⊥) → is_gt o ≡ false
@@ -95,9 +95,9 @@ module _ (S : List Path) (up : IsAscending S) where
   -- the first numbers never fall
   pub prefix_up : (n i j : ℕ) (d : Path) → i ≤ j → j < length S → is_gt (cmp_prefix n (get_or S i d) (get_or S j d)) ≡ false
   prefix_up n i j d ij jn = elim (cases_lt i j) [
-      | inl lt ↦ not_greater _ (λ g. let a = later_prefix n (get_or S i d) (get_or S j d) g in let b = up i j d lt jn in cc)
-      | inr ge ↦ let e : i ≡ j = omega arith in let t = prefix_ties n (get_or S i d) (get_or S j d) (ap (λ k. take n (get_or S k d)) e) in ap is_gt t
-    ]
+    | inl lt ↦ not_greater _ (λ g. let a = later_prefix n (get_or S i d) (get_or S j d) g in let b = up i j d lt jn in cc)
+    | inr ge ↦ let e : i ≡ j = omega arith in let t = prefix_ties n (get_or S i d) (get_or S j d) (ap (λ k. take n (get_or S k d)) e) in ap is_gt t
+  ]
 
   -- the rows whose first numbers are at most those of p, or less, come first
   pub parted_le : (n : ℕ) (p : Path) → IsPartitionedBy (λ q. is_le (cmp_prefix n q p)) S
@@ -115,10 +115,10 @@ module _ (S : List Path) (up : IsAscending S) where
       let q = path_at S k in
       let whole : take l q ≡ q = take_all l q short in
       greater_if_not_le _ (λ le.
-        let below : is_gt (path_cmp q (take l p)) ≡ false = subst (λ r. is_gt (path_cmp r (take l p)) ≡ false) whole (not_gt_if_le _ le) in
-        let upward = upto nat_list_cmp_total q (take l p) p below (not_gt_if_le _ (prefix_le l p)) in
-        let falls = turned p q (up i k [] ik kn) in
-        let wrong : is_gt (path_cmp q p) ≡ true = ap is_gt falls in cc)
+      let below : is_gt (path_cmp q (take l p)) ≡ false = subst (λ r. is_gt (path_cmp r (take l p)) ≡ false) whole (not_gt_if_le _ le) in
+      let upward = upto nat_list_cmp_total q (take l p) p below (not_gt_if_le _ (prefix_le l p)) in
+      let falls = turned p q (up i k [] ik kn) in
+      let wrong : is_gt (path_cmp q p) ≡ true = ap is_gt falls in cc)
 
 -- no path with l numbers is at an index from i up to next that is below end
 abbrev pub NoneYet : List Path → ℕ → ℕ → ℕ → ℕ → Type 0
@@ -128,24 +128,24 @@ module _ (S : List Path) (up : IsAscending S) (l i end next after : ℕ) (inside
   -- the step past a branch
   pub branch_past : AllWithin (λ q. IsTrue (is_gt (cmp_prefix l q (path_at S next)))) S after (length S) → next < after
   branch_past rest = elim (cases_lt next after) [
-      | inl lt ↦ lt
-      | inr ge ↦
+    | inl lt ↦ lt
+    | inr ge ↦
         let one : is_gt (cmp_prefix l (path_at S next) (path_at S next)) ≡ true = rest next [] ge (omega arith) in
         let two : is_gt (cmp_prefix l (path_at S next) (path_at S next)) ≡ false = prefix_up S up l next next [] (omega arith) (omega arith) in cc
-    ]
+  ]
 
   pub none_more : AllWithin (λ q. IsTrue (is_le (cmp_prefix l q (path_at S next)))) S 0 after
       → (length (path_at S next) ≡ l → ⊥) → NoneYet S l i end next → NoneYet S l i end after
   none_more before not_here none k ik ka ke is = elim (cases_lt k next) [
-      | inl lt ↦ none k ik lt ke is
-      | inr ge ↦ elim (cases_lt next k) [
-        | inl lt ↦
+    | inl lt ↦ none k ik lt ke is
+    | inr ge ↦ elim (cases_lt next k) [
+      | inl lt ↦
           let one : is_le (cmp_prefix l (path_at S k) (path_at S next)) ≡ true = before k [] (omega arith) ka in
           let two = past_branch S up l next k lt (omega arith) (omega arith) in
           let three : is_le (cmp_prefix l (path_at S k) (path_at S next)) ≡ false = ap is_le two in absurd (cc)
-        | inr le ↦ let e : k ≡ next = omega arith in not_here (subst (λ j. length (path_at S j) ≡ l) e is)
-      ]
+      | inr le ↦ let e : k ≡ next = omega arith in not_here (subst (λ j. length (path_at S j) ≡ l) e is)
     ]
+  ]
 
 -- tests of the paths of rows
 module _ {X : Type 0} (f : X → Path) where

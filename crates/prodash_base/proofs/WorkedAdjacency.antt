@@ -1,5 +1,5 @@
 -- Adjacency, computed.
-use Rattle.std.proofs.Common.{◌≡◌, ℕ, List, [], ◌∷◌, refl}
+use Rattle.std.proofs.Common.{◌≡◌, List, [], ◌∷◌, refl}
 use Rattle.prodash_base.specs.declared.progress.key.adjacency.Adjacency.{Adjacency}
 use Rattle.prodash_base.specs.declared.progress.key.adjacency.SiblingLocation.{SiblingLocation}
 use Rattle.prodash_base.specs.declared.progress.key.adjacency.SiblingLocation.TheVariants.{Above, Below, AboveAndBelow, NotFound}

@@ -67,8 +67,12 @@ place S p l =
 abbrev pub adjacency : List Path → Path → Adjacency
 adjacency S p =
     record {
-      0 = place S p 1; 1 = place S p 2; 2 = place S p 3;
-      3 = place S p 4; 4 = place S p 5; 5 = place S p 6
+      0 = place S p 1;
+      1 = place S p 2;
+      2 = place S p 3;
+      3 = place S p 4;
+      4 = place S p 5;
+      5 = place S p 6;
     }
 
 -- the places from level 1 on

@@ -15,10 +15,8 @@ impl Key {
     pub fn adjacency(sorted: &[Row], index: usize) -> Adjacency
         requires sorted { IsAscending (paths_of sorted.now) }
         requires inside { index < length sorted.now }
-        ensures {
-            let paths = paths_of sorted.now in
-            option_map (spec.adjacency paths) (slice_get paths index) ≡ Some result
-        }
+        ensures { let paths = paths_of sorted.now in
+            option_map (spec.adjacency paths) (slice_get paths index) ≡ Some result }
     {
         Adjacency(
             place(sorted, index, 1),
@@ -36,10 +34,8 @@ fn place(sorted: &[Row], index: usize, level: Level) -> SiblingLocation
     requires sorted { IsAscending (paths_of sorted.now) }
     requires inside { index < length sorted.now }
     requires level { 0 < level }
-    ensures {
-        let paths = paths_of sorted.now in
-        result ≡ spec.place paths (path_at paths index) level
-    }
+    ensures { let paths = paths_of sorted.now in
+        result ≡ spec.place paths (path_at paths index) level }
 {
     let own_level = sorted[index].key.level();
     if own_level < level {
@@ -60,10 +56,8 @@ fn has_above(sorted: &[Row], index: usize, level: Level) -> bool
     requires sorted { IsAscending (paths_of sorted.now) }
     requires inside { index < length sorted.now }
     requires level { 0 < level }
-    ensures {
-        let paths = paths_of sorted.now in
-        result ≡ spec.has_above paths (path_at paths index) level
-    }
+    ensures { let paths = paths_of sorted.now in
+        result ≡ spec.has_above paths (path_at paths index) level }
 {
     level == 1
         || has_sibling_above(sorted, index, level)
@@ -75,10 +69,8 @@ fn has_sibling_above(sorted: &[Row], index: usize, level: Level) -> bool
     requires sorted { IsAscending (paths_of sorted.now) }
     requires inside { index < length sorted.now }
     requires level { 0 < level }
-    ensures {
-        let paths = paths_of sorted.now in
-        result ≡ spec.has_sibling_before paths (path_at paths index) level
-    }
+    ensures { let paths = paths_of sorted.now in
+        result ≡ spec.has_sibling_before paths (path_at paths index) level }
 {
     let first = first_of_branch(sorted, &sorted[index].key, level - 1);
     has_level(sorted, first, index, level)
@@ -90,10 +82,8 @@ fn has_parent(sorted: &[Row], index: usize, level: Level) -> bool
     requires inside { index < length sorted.now }
     requires level { 0 < level }
     requires own { level ≤ length (path_at (paths_of sorted.now) index) }
-    ensures {
-        let paths = paths_of sorted.now in
-        result ≡ spec.has_parent paths (path_at paths index) level
-    }
+    ensures { let paths = paths_of sorted.now in
+        result ≡ spec.has_parent paths (path_at paths index) level }
 {
     let first = first_of_branch(sorted, &sorted[index].key, level - 1);
     sorted[first].key.level() == level - 1
@@ -104,10 +94,8 @@ fn has_below(sorted: &[Row], index: usize, level: Level) -> bool
     requires sorted { IsAscending (paths_of sorted.now) }
     requires inside { index < length sorted.now }
     requires level { 0 < level }
-    ensures {
-        let paths = paths_of sorted.now in
-        result ≡ spec.has_below paths (path_at paths index) level
-    }
+    ensures { let paths = paths_of sorted.now in
+        result ≡ spec.has_below paths (path_at paths index) level }
 {
     let end = end_of_branch(sorted, &sorted[index].key, level - 1);
     has_level(sorted, index + 1, end, level)
@@ -135,14 +123,10 @@ fn has_level(sorted: &[Row], start: usize, end: usize, level: Level) -> bool
 fn first_of_branch(sorted: &[Row], key: &Key, level: Level) -> usize
     requires sorted { IsAscending (paths_of sorted.now) }
     ensures bound { result ≤ length sorted.now }
-    ensures before {
-        let paths = paths_of sorted.now in
-        AllWithin (λ q. IsTrue (is_lt (cmp_prefix level q key.now))) paths 0 result
-    }
-    ensures rest {
-        let paths = paths_of sorted.now in
-        AllWithin (λ q. IsTrue (is_ge (cmp_prefix level q key.now))) paths result (length paths)
-    }
+    ensures before { let paths = paths_of sorted.now in
+        AllWithin (λ q. IsTrue (is_lt (cmp_prefix level q key.now))) paths 0 result }
+    ensures rest { let paths = paths_of sorted.now in
+        AllWithin (λ q. IsTrue (is_ge (cmp_prefix level q key.now))) paths result (length paths) }
 {
     sorted.partition_point(|row| row.key.cmp_prefix(key, level).is_lt())
 }
@@ -152,14 +136,10 @@ fn first_of_branch(sorted: &[Row], key: &Key, level: Level) -> usize
 fn end_of_branch(sorted: &[Row], key: &Key, level: Level) -> usize
     requires sorted { IsAscending (paths_of sorted.now) }
     ensures bound { result ≤ length sorted.now }
-    ensures before {
-        let paths = paths_of sorted.now in
-        AllWithin (λ q. IsTrue (is_le (cmp_prefix level q key.now))) paths 0 result
-    }
-    ensures rest {
-        let paths = paths_of sorted.now in
-        AllWithin (λ q. IsTrue (is_gt (cmp_prefix level q key.now))) paths result (length paths)
-    }
+    ensures before { let paths = paths_of sorted.now in
+        AllWithin (λ q. IsTrue (is_le (cmp_prefix level q key.now))) paths 0 result }
+    ensures rest { let paths = paths_of sorted.now in
+        AllWithin (λ q. IsTrue (is_gt (cmp_prefix level q key.now))) paths result (length paths) }
 {
     sorted.partition_point(|row| row.key.cmp_prefix(key, level).is_le())
 }

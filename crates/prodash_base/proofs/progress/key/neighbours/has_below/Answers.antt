@@ -1,10 +1,10 @@
-use Rattle.std.proofs.Common.{◌≡◌, ◌<◌, ◌-◌, ◌≤◌, IsTrue, length, arith, sym, subst}
+use Rattle.std.proofs.Common.{◌<◌, ◌-◌, ◌≤◌, IsTrue, length, arith, sym, subst}
 use Rattle.std.specs.List.{AllWithin}
 use Rattle.std.specs.Ordering.{is_le, is_gt}
 use Rattle.std.specs.Cmp.{both_ways}
 use Rattle.std.proofs.lemmas.List.{length-map}
 use Rattle.prodash_base.specs.declared.progress.Row.{Row}
-use Rattle.prodash_base.specs.Adjacency.{paths_of, has_below}
+use Rattle.prodash_base.specs.Adjacency.{paths_of}
 use Rattle.prodash_base.specs.plumbing.Branches.{cmp_prefix}
 use Rattle.prodash_base.proofs.BranchLaws.{path_of_row}
 use Rattle.prodash_base.proofs.AdjacencyLaws.{found_after, after_found}

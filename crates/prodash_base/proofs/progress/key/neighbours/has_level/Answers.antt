@@ -1,4 +1,4 @@
-use Rattle.std.proofs.Common.{◌≡◌, ◌<◌, ◌≤◌, IsTrue, length, arith, sym, ap, subst}
+use Rattle.std.proofs.Common.{◌≡◌, ◌<◌, IsTrue, length, arith, sym, ap, subst}
 use Rattle.std.specs.List.{AllWithin}
 use Rattle.std.specs.Ordering.{is_le, is_gt}
 use Rattle.std.proofs.lemmas.List.{length-map}

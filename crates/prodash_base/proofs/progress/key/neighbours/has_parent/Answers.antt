@@ -1,10 +1,10 @@
-use Rattle.std.proofs.Common.{◌≡◌, ◌<◌, ◌-◌, eqb, true, IsTrue, length, arith, sym, ap, ◌∙◌, subst}
+use Rattle.std.proofs.Common.{◌≡◌, ◌<◌, ◌-◌, IsTrue, length, arith, sym, ap, ◌∙◌, subst}
 use Rattle.std.specs.List.{AllWithin}
 use Rattle.std.specs.Ordering.{is_lt, is_ge}
 use Rattle.std.specs.Cmp.{both_ways, unsigned_Decides}
 use Rattle.std.proofs.lemmas.List.{length-map}
 use Rattle.prodash_base.specs.declared.progress.Row.{Row}
-use Rattle.prodash_base.specs.Adjacency.{paths_of, has_parent}
+use Rattle.prodash_base.specs.Adjacency.{paths_of}
 use Rattle.prodash_base.specs.plumbing.Branches.{path_at, cmp_prefix}
 use Rattle.prodash_base.proofs.BranchLaws.{path_of_row}
 use Rattle.prodash_base.proofs.AdjacencyLaws.{first_le, first_is_parent, parent_is_first}
