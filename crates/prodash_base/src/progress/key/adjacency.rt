@@ -41,8 +41,8 @@ impl Adjacency {
     ghost use Rattle.std.specs.Prelude.{◌≡◌};
     ghost use Rattle.std.specs.Option.{option_copied, option_copied_mut};
     ghost use Rattle.std.specs.Borrow.{sem};
-    ghost use Rattle.prodash_base.specs.Adjacency.{place_at, level_of};
-    ghost use Rattle.prodash_base.specs.Lends.{LendsPlaceIf};
+    ghost use Rattle.prodash_base.specs.Adjacency.{location_at, level_of};
+    ghost use Rattle.prodash_base.specs.Lends.{LendsLocationIf};
 
     /// Returns the highest level that isn't `NotFound`, or 0 if all are.
     pub fn level(&self) -> Level
@@ -67,7 +67,7 @@ impl Adjacency {
 
     /// Returns the location at a level from 1 to 6, or `None` for any other level.
     pub fn get(&self, level: Level) -> Option<&SiblingLocation>
-        ensures { option_copied result ≡ place_at self.now level }
+        ensures { option_copied result ≡ location_at self.now level }
     {
         match level {
             1 => Some(&self.0),
@@ -82,8 +82,8 @@ impl Adjacency {
 
     /// Returns the location at a level from 1 to 6, to be changed, or `None` for any other level.
     pub fn get_mut(&mut self, level: Level) -> Option<&mut SiblingLocation>
-        ensures* writes_back { sem 𝓛 (LendsPlaceIf self.entry level result) }
-        ensures value { option_copied_mut result ≡ place_at self.old level }
+        ensures* writes_back { sem 𝓛 (LendsLocationIf self.entry level result) }
+        ensures value { option_copied_mut result ≡ location_at self.old level }
     {
         match level {
             1 => Some(&mut self.0),
@@ -100,18 +100,18 @@ impl Adjacency {
 impl Index<Level> for Adjacency {
     ghost use Rattle.std.specs.Prelude.{◌≡◌, ◌<◌, ◌≤◌, Some};
     ghost use Rattle.prodash_base.specs.Path.{max_level};
-    ghost use Rattle.prodash_base.specs.Adjacency.{place_at};
+    ghost use Rattle.prodash_base.specs.Adjacency.{location_at};
 
     type Output = SiblingLocation;
 
     ghost can_index = { λ adjacency level. (0 < level) × (level ≤ max_level) };
 
-    ghost index_gives = { λ adjacency level place. place_at adjacency level ≡ Some place };
+    ghost index_gives = { λ adjacency level location. location_at adjacency level ≡ Some location };
 
     /// Returns the location at a level from 1 to 6.
     fn index(&self, level: Level) -> &SiblingLocation {
         match self.get(level) {
-            Some(place) => place,
+            Some(location) => location,
             None => unreachable!(),
         }
     }
@@ -121,14 +121,14 @@ impl IndexMut<Level> for Adjacency {
     ghost use Rattle.std.specs.Prelude.{◌≡◌, ◌<◌, ◌≤◌, Some};
     ghost use Rattle.std.specs.Borrow.{sem};
     ghost use Rattle.prodash_base.specs.Path.{max_level};
-    ghost use Rattle.prodash_base.specs.Adjacency.{place_at};
-    ghost use Rattle.prodash_base.specs.Lends.{LendsPlace};
+    ghost use Rattle.prodash_base.specs.Adjacency.{location_at};
+    ghost use Rattle.prodash_base.specs.Lends.{LendsLocation};
 
     /// Returns the location at a level from 1 to 6, to be changed.
     fn index_mut(&mut self, level: Level) -> &mut SiblingLocation
         requires { (0 < level) × (level ≤ max_level) }
-        ensures* writes_back { sem 𝓛 (LendsPlace self.entry level result) }
-        ensures value { place_at self.old level ≡ Some result.now }
+        ensures* writes_back { sem 𝓛 (LendsLocation self.entry level result) }
+        ensures value { location_at self.old level ≡ Some result.now }
     {
         match level {
             1 => &mut self.0,

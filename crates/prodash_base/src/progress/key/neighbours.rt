@@ -1,41 +1,46 @@
-ghost use Rattle.std.specs.Prelude.{◌≡◌, ℕ, ◌<◌, ◌≤◌, ◌-◌, ◌↔◌, IsTrue, Some, length, slice_get};
+ghost use Rattle.std.specs.Prelude.{◌≡◌, ℕ, ◌<◌, ◌≤◌, ◌-◌, ◌↔◌, IsTrue, Some, length};
 ghost use Rattle.std.specs.List.{AllWithin};
 ghost use Rattle.std.specs.Ordering.{is_lt, is_le, is_ge, is_gt};
-ghost use Rattle.std.specs.Option.{option_map};
 ghost use Rattle.prodash_base.specs.Adjacency as spec;
-ghost use Rattle.prodash_base.specs.Adjacency.{IsAscending, paths_of};
+ghost use Rattle.prodash_base.specs.Adjacency.{IsAscending, adjacency_at, paths_of};
 ghost use Rattle.prodash_base.specs.plumbing.Branches.{path_at, cmp_prefix, HasLevel};
 
 use crate::progress::Row;
 use crate::progress::key::{Adjacency, Key, Level, SiblingLocation};
 
 impl Key {
-    /// Returns the places of the row at `index` and its ancestors among their siblings in rows
-    /// that are strictly sorted by key.
+    /// Returns on which sides the row at `index` and its ancestors have siblings. The rows must be
+    /// in strictly ascending order of their keys, as those of a snapshot are. Ancestors that have
+    /// no row of their own have a level too.
+    ///
+    /// ```rust
+    /// let rows = tree.rows(alloc)?;
+    /// let adjacency = Key::adjacency(rows.as_slice(), index);
+    /// assert_eq!(rt; adjacency[1], SiblingLocation::Above);
+    /// ```
     pub fn adjacency(sorted: &[Row], index: usize) -> Adjacency
         requires sorted { IsAscending (paths_of sorted.now) }
         requires inside { index < length sorted.now }
-        ensures { let paths = paths_of sorted.now in
-            option_map (spec.adjacency paths) (slice_get paths index) ≡ Some result }
+        ensures { adjacency_at (paths_of sorted.now) index ≡ Some result }
     {
         Adjacency(
-            place(sorted, index, 1),
-            place(sorted, index, 2),
-            place(sorted, index, 3),
-            place(sorted, index, 4),
-            place(sorted, index, 5),
-            place(sorted, index, 6),
+            location(sorted, index, 1),
+            location(sorted, index, 2),
+            location(sorted, index, 3),
+            location(sorted, index, 4),
+            location(sorted, index, 5),
+            location(sorted, index, 6),
         )
     }
 }
 
-/// Returns the place at a level from 1 on.
-fn place(sorted: &[Row], index: usize, level: Level) -> SiblingLocation
+/// Returns the location at a level from 1 on.
+fn location(sorted: &[Row], index: usize, level: Level) -> SiblingLocation
     requires sorted { IsAscending (paths_of sorted.now) }
     requires inside { index < length sorted.now }
     requires level { 0 < level }
     ensures { let paths = paths_of sorted.now in
-        result ≡ spec.place paths (path_at paths index) level }
+        result ≡ spec.location paths (path_at paths index) level }
 {
     let own_level = sorted[index].key.level();
     if own_level < level {
@@ -51,7 +56,8 @@ fn place(sorted: &[Row], index: usize, level: Level) -> SiblingLocation
     }
 }
 
-/// Returns whether there is a sibling above, or what counts as one, at a level from 1 to the own.
+/// Returns whether something is above at a level from 1 to that of the row: a sibling, the root,
+/// or the row's parent.
 fn has_above(sorted: &[Row], index: usize, level: Level) -> bool
     requires sorted { IsAscending (paths_of sorted.now) }
     requires inside { index < length sorted.now }
@@ -64,7 +70,7 @@ fn has_above(sorted: &[Row], index: usize, level: Level) -> bool
         || (level == sorted[index].key.level() && has_parent(sorted, index, level))
 }
 
-/// Returns whether a row above is a sibling at a level from 1 on.
+/// Returns whether an earlier row is a sibling at a level from 1 on.
 fn has_sibling_above(sorted: &[Row], index: usize, level: Level) -> bool
     requires sorted { IsAscending (paths_of sorted.now) }
     requires inside { index < length sorted.now }
@@ -76,7 +82,7 @@ fn has_sibling_above(sorted: &[Row], index: usize, level: Level) -> bool
     has_level(sorted, first, index, level)
 }
 
-/// Returns whether the ancestor just above a level from 1 to the own has a row.
+/// Returns whether the ancestor one level above a level from 1 to that of the row has a row.
 fn has_parent(sorted: &[Row], index: usize, level: Level) -> bool
     requires sorted { IsAscending (paths_of sorted.now) }
     requires inside { index < length sorted.now }
@@ -89,7 +95,7 @@ fn has_parent(sorted: &[Row], index: usize, level: Level) -> bool
     sorted[first].key.level() == level - 1
 }
 
-/// Returns whether a row below is a sibling at a level from 1 on.
+/// Returns whether a later row is a sibling at a level from 1 on.
 fn has_below(sorted: &[Row], index: usize, level: Level) -> bool
     requires sorted { IsAscending (paths_of sorted.now) }
     requires inside { index < length sorted.now }
