@@ -13,7 +13,7 @@ use Rattle.std.proofs.lemmas.List.Folds.{list_any_at}
 use Rattle.prodash_base.specs.Path.{Path, path_cmp}
 use Rattle.prodash_base.specs.Adjacency.{IsAscending, is_path, is_sibling, has_sibling_before, has_parent, has_below}
 use Rattle.prodash_base.specs.plumbing.Branches.{path_at, cmp_prefix, HasLevel}
-use Rattle.prodash_base.proofs.BranchLaws.{turned, equal_if_both, same_prefix, prefix_ties, prefix_le, prefix_up}
+use Rattle.prodash_base.proofs.BranchLaws.{in_order, turned, equal_if_both, same_prefix, prefix_ties, prefix_le, prefix_up}
 
 both : (a b : Bool) → a ≡ true → b ≡ true → (a && b) ≡ true
 both a b x y i = x i && y i
@@ -52,13 +52,13 @@ module _ (S : List Path) (up : IsAscending S) (x : ℕ) (inside : x < length S) 
 
   not_before : (k : ℕ) → k < length S → x ≤ k → is_lt (path_cmp (path_at S k) (path_at S x)) ≡ false
   not_before k kn xk = elim (cases_lt x k) [
-    | inl lt ↦ ap is_lt (turned (path_at S x) (path_at S k) (up x k [] lt kn))
+    | inl lt ↦ ap is_lt (turned (path_at S x) (path_at S k) (in_order S up x k [] lt kn))
     | inr ge ↦ let e : x ≡ k = omega arith in subst (λ j. is_lt (path_cmp (path_at S j) (path_at S x)) ≡ false) e (ap is_lt own_tie)
   ]
 
   not_after : (k : ℕ) → k ≤ x → is_gt (path_cmp (path_at S k) (path_at S x)) ≡ false
   not_after k kx = elim (cases_lt k x) [
-    | inl lt ↦ ap is_gt (up k x [] lt inside)
+    | inl lt ↦ ap is_gt (in_order S up k x [] lt inside)
     | inr ge ↦ let e : x ≡ k = omega arith in subst (λ j. is_gt (path_cmp (path_at S j) (path_at S x)) ≡ false) e (ap is_gt own_tie)
   ]
 
@@ -81,7 +81,7 @@ module _ (S : List Path) (up : IsAscending S) (x : ℕ) (inside : x < length S) 
       let p = path_at S x in
       let q = path_at S k in
       let kx : k < x = at.2 in
-      let lt : path_cmp q p ≡ Less = up k x [] kx inside in
+      let lt : path_cmp q p ≡ Less = in_order S up k x [] kx inside in
       let ge : is_ge (cmp_prefix (l - 1) q p) ≡ true = rest k [] at.1 (omega arith) in
       let gt : is_gt (cmp_prefix (l - 1) q p) ≡ false = prefix_up S up (l - 1) k x [] (omega arith) inside in
       list_any_at (λ r. is_lt (path_cmp r p) && is_sibling p l r) S k [] (omega arith)
@@ -111,7 +111,7 @@ module _ (S : List Path) (up : IsAscending S) (x : ℕ) (inside : x < length S) 
       let q = path_at S k in
       let xk : x + 1 ≤ k = at.1 in
       let ke : k < end = at.2 in
-      let gt : path_cmp q p ≡ Greater = turned p q (up x k [] (omega arith) (omega arith)) in
+      let gt : path_cmp q p ≡ Greater = turned p q (in_order S up x k [] (omega arith) (omega arith)) in
       let le : is_le (cmp_prefix (l - 1) q p) ≡ true = before k [] (omega arith) ke in
       let rise : is_gt (cmp_prefix (l - 1) p q) ≡ false = prefix_up S up (l - 1) x k [] (omega arith) (omega arith) in
       list_any_at (λ r. is_gt (path_cmp r p) && is_sibling p l r) S k [] (omega arith)
@@ -170,7 +170,7 @@ module _ (S : List Path) (up : IsAscending S) (x : ℕ) (inside : x < length S) 
         let low : first ≤ k = from_first n first before k (prefix_ties n q p (whole ∙ sym same)) in
         elim (cases_lt first k) [
           | inl lt ↦
-              let falls : is_le (path_cmp q f) ≡ false = ap is_le (turned f q (up first k [] lt found.1)) in
+              let falls : is_le (path_cmp q f) ≡ false = ap is_le (turned f q (in_order S up first k [] lt found.1)) in
               let prefix : take n f ≡ q = same_prefix n f p first_tie ∙ same in
               let rises : is_le (path_cmp q f) ≡ true = subst (λ r. is_le (path_cmp r f) ≡ true) prefix (prefix_le n f) in
               absurd (cc)

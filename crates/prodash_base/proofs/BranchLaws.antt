@@ -1,5 +1,5 @@
 -- Branches of an ascending list of paths.
-use Rattle.std.proofs.Common.{◌≡◌, ℕ, zero, suc, ◌<◌, ◌≤◌, List, [], ◌∷◌, length, take, map, get_or, Bool, true, false, IsTrue, inl, inr, refl, sym, ap, subst, ◌∙◌, arith}
+use Rattle.std.proofs.Common.{◌≡◌, ℕ, zero, suc, ◌+◌, ◌<◌, ◌≤◌, List, [], ◌∷◌, length, take, map, get_or, Bool, true, false, IsTrue, inl, inr, refl, sym, ap, subst, ◌∙◌, arith}
 use Rattle.std.specs.List.{AllWithin}
 use Rattle.std.specs.List.Sorted.{IsPartitionedBy}
 use Rattle.std.specs.Ordering.{nat_cmp, ordering_then, ordering_reverse, is_lt, is_gt, is_le, is_ge}
@@ -91,11 +91,23 @@ same_prefix n q p h = slice_cmp-IsAntisymmetric nat_cmp-IsAntisymmetric (take n 
 pub prefix_ties : (n : ℕ) (q p : Path) → take n q ≡ take n p → cmp_prefix n q p ≡ Equal
 prefix_ties n q p h = subst (λ r. path_cmp r (take n p) ≡ Equal) (sym h) (tied_itself nat_list_cmp_total (take n p))
 
+-- each path is less than all later ones
+pub in_order : (S : List Path) → IsAscending S → (i j : ℕ) (d : Path) → i < j → j < length S → path_cmp (get_or S i d) (get_or S j d) ≡ Less
+in_order S up i zero d ij jn = absurd (omega arith)
+in_order S up i (suc j) d ij jn =
+    let total : IsTotalOrder path_cmp = nat_list_cmp_total in
+    let e : j + 1 ≡ suc j = omega arith in
+    let next : path_cmp (get_or S j d) (get_or S (suc j) d) ≡ Less = subst (λ k. path_cmp (get_or S j d) (get_or S k d) ≡ Less) e (up j d (omega arith)) in
+    elim (cases_lt i j) [
+      | inl lt ↦ total.trans (get_or S i d) (get_or S j d) (get_or S (suc j) d) (in_order S up i j d lt (omega arith)) next
+      | inr ge ↦ let here : j ≡ i = omega arith in subst (λ k. path_cmp (get_or S k d) (get_or S (suc j) d) ≡ Less) here next
+    ]
+
 module _ (S : List Path) (up : IsAscending S) where
   -- the first numbers never fall
   pub prefix_up : (n i j : ℕ) (d : Path) → i ≤ j → j < length S → is_gt (cmp_prefix n (get_or S i d) (get_or S j d)) ≡ false
   prefix_up n i j d ij jn = elim (cases_lt i j) [
-    | inl lt ↦ not_greater _ (λ g. let a = later_prefix n (get_or S i d) (get_or S j d) g in let b = up i j d lt jn in cc)
+    | inl lt ↦ not_greater _ (λ g. let a = later_prefix n (get_or S i d) (get_or S j d) g in let b = in_order S up i j d lt jn in cc)
     | inr ge ↦ let e : i ≡ j = omega arith in let t = prefix_ties n (get_or S i d) (get_or S j d) (ap (λ k. take n (get_or S k d)) e) in ap is_gt t
   ]
 
@@ -117,7 +129,7 @@ module _ (S : List Path) (up : IsAscending S) where
       greater_if_not_le _ (λ le.
       let below : is_gt (path_cmp q (take l p)) ≡ false = subst (λ r. is_gt (path_cmp r (take l p)) ≡ false) whole (not_gt_if_le _ le) in
       let upward = upto nat_list_cmp_total q (take l p) p below (not_gt_if_le _ (prefix_le l p)) in
-      let falls = turned p q (up i k [] ik kn) in
+      let falls = turned p q (in_order S up i k [] ik kn) in
       let wrong : is_gt (path_cmp q p) ≡ true = ap is_gt falls in cc)
 
 -- no path with l numbers is at an index from i up to next that is below end

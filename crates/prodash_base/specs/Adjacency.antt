@@ -1,6 +1,6 @@
 -- Adjacency: on which sides a path and its ancestors have siblings in a list of paths.
 use Rattle.std.specs.Prelude.{◌≡◌, ℕ, ◌-◌, Bool, true, false, ◌&&◌, ◌||◌, nat_eq, nat_lt, List, [], ◌∷◌, length, take, map, find, unwrap_or, Option, Some, None, slice_get, if◌then◌else◌}
-use Rattle.std.specs.List.{AllPairs, list_any}
+use Rattle.std.specs.List.{AllAdjacentBelow, list_any}
 use Rattle.std.specs.Option.{option_map}
 use Rattle.std.specs.declared.cmp.Ordering.TheVariants.{Less}
 use Rattle.std.specs.Ordering.{is_lt, is_gt}
@@ -15,9 +15,9 @@ use Rattle.prodash_base.specs.declared.progress.key.adjacency.SiblingLocation.Th
 abbrev pub paths_of : List Row → List Path
 paths_of = map (λ r. r.key)
 
--- paths in strictly ascending order: each is less than all later ones
+-- paths in strictly ascending order: each is less than the next
 abbrev pub IsAscending : List Path → Type 0
-IsAscending = AllPairs (λ p q. path_cmp p q ≡ Less)
+IsAscending paths = AllAdjacentBelow (λ p q. path_cmp p q ≡ Less) paths (length paths)
 
 -- the test of equal paths
 abbrev pub is_path : Path → Path → Bool

@@ -23,4 +23,5 @@ LendsLocation a level r = Lends adjacency.the_row sibling.the_row a r (with_loca
 
 -- the same if there is a location, and otherwise a stays as it is
 abbrev pub LendsLocationIf : MutBor Adjacency → ℕ → Option (MutBor SiblingLocation) → Fml
-LendsLocationIf a level r = LendsIf adjacency.the_row sibling.the_row a r (with_location a.now level) a.now
+LendsLocationIf a level r =
+    LendsIf adjacency.the_row sibling.the_row a r (with_location a.now level) a.now
