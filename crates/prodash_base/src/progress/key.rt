@@ -1,13 +1,17 @@
-ghost use Rattle.std.specs.Prelude.{◌≡◌, ℕ, ◌-◌, ◌<◌, ◌≤◌, ◌↔◌, [], length, IsTrue, slice_index, nat_eq};
+ghost use Rattle.std.specs.Prelude.{◌≡◌, ℕ, ◌-◌, ◌<◌, ◌≤◌, ◌↔◌, [], length, IsTrue, slice_index, nat_eq, take};
 ghost use Rattle.std.specs.Ordering.{nat_cmp, as_partial_cmp};
 ghost use Rattle.std.specs.Cmp.Lexicographic.{pointwise, slice_cmp, nat_list_cmp_total, nat_list_eq_equiv, texts_ties, texts_po};
 ghost use Rattle.std.specs.Cmp.{partial_equiv_from_equiv};
 ghost use Rattle.std.specs.Cmp.Rules.{comparing};
 ghost use Rattle.std.proofs.Common.{rules};
-ghost use Rattle.prodash_base.specs.Path.{max_level, IsPath, child, SharesPrefix};
+ghost use Rattle.prodash_base.specs.Path.{max_level, IsPath, child, SharesPrefix, path_cmp};
 ghost use Rattle.prodash_base.specs.plumbing.KeyHash.{key_alike};
 ghost use Rattle.std.specs.Hash as fed;
 
+mod adjacency;
+mod neighbours;
+
+pub use adjacency::{Adjacency, SiblingLocation};
 use std::cmp::Ordering;
 use std::hash::{Hash, Hasher};
 use std::marker::Model;
@@ -104,6 +108,21 @@ impl Key {
         ensures { result.now ≡ self.now }
     {
         &self.numbers[..usize::from(self.level)]
+    }
+
+    /// Compares the first `level` numbers of both keys, or all numbers of one that has fewer.
+    pub(crate) fn cmp_prefix(&self, other: &Key, level: Level) -> Ordering
+        ensures { result ≡ path_cmp (take level self.now) (take level other.now) }
+    {
+        self.prefix(level).cmp(other.prefix(level))
+    }
+
+    /// Returns the key's first `level` numbers, or all if it has fewer.
+    fn prefix(&self, level: Level) -> &[u16]
+        ensures { result.now ≡ take level self.now }
+    {
+        let numbers = self.numbers();
+        &numbers[..usize::from(level).min(numbers.len())]
     }
 }
 

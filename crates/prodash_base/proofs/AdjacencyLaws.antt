@@ -1,0 +1,178 @@
+-- Adjacency: the paths that the tests of `specs/Adjacency.antt` find, as indices of the list.
+use Rattle.std.proofs.Common.{◌≡◌, ℕ, suc, ◌+◌, ◌-◌, ◌<◌, ◌≤◌, List, [], ◌∷◌, length, take, Bool, true, false, IsTrue, ◌&&◌, inl, inr, refl, sym, ap, subst, ◌∙◌, arith}
+use Rattle.std.specs.List.{AllWithin, list_any}
+use Rattle.std.specs.Ordering.{is_lt, is_gt, is_le, is_ge}
+use Rattle.std.specs.declared.cmp.Ordering.{Ordering}
+use Rattle.std.specs.declared.cmp.Ordering.TheVariants.{Less, Equal, Greater}
+use Rattle.std.specs.Cmp.{unsigned_Decides}
+use Rattle.std.specs.Cmp.Lexicographic.{bytes_decides}
+use Rattle.std.proofs.lemmas.Cmp.{tied_itself, nat_list_cmp_total}
+use Rattle.std.proofs.lemmas.Bool.{cases_lt, or_cases, and_parts}
+use Rattle.std.proofs.lemmas.List.{take_all, length-take-le}
+use Rattle.std.proofs.lemmas.List.Folds.{list_any_at}
+use Rattle.prodash_base.specs.Path.{Path, path_cmp}
+use Rattle.prodash_base.specs.Adjacency.{IsAscending, is_path, is_sibling, has_sibling_before, has_parent, has_below}
+use Rattle.prodash_base.specs.plumbing.Branches.{path_at, cmp_prefix, HasLevel}
+use Rattle.prodash_base.proofs.BranchLaws.{in_order, turned, equal_if_both, same_prefix, prefix_ties, prefix_le, prefix_up}
+
+both : (a b : Bool) → a ≡ true → b ≡ true → (a && b) ≡ true
+both a b x y i = x i && y i
+
+-- an index at which a test is true
+listed : (test : Path → Bool) (S : List Path) → list_any test S ≡ true → (k : ℕ) × (k < length S) × (test (path_at S k) ≡ true)
+listed test [] h = cc
+listed test (q ∷ S) h = elim (or_cases (test q) (list_any test S) h) [
+  | inl now ↦ (0, omega arith, now)
+  | inr later ↦ let r = listed test S later in (suc r.0, omega (arith, r.1), r.2)
+]
+
+-- a path that is no greater than another that is no greater than it, by their first n numbers
+equal_between : (n : ℕ) (q p : Path) → is_le (cmp_prefix n q p) ≡ true → is_gt (cmp_prefix n p q) ≡ false → cmp_prefix n q p ≡ Equal
+equal_between n q p le gt = by (cmp_prefix n q p) refl
+  where
+    by : (o : Ordering) → cmp_prefix n q p ≡ o → o ≡ Equal
+    by Less e = let t = turned (take n q) (take n p) e in let u : is_gt (cmp_prefix n p q) ≡ true = ap is_gt t in absurd (cc)
+    by Equal e = refl
+    by Greater e = let u : is_le (cmp_prefix n q p) ≡ false = ap is_le e in absurd (cc)
+
+-- what the test of a sibling says
+sibling : (l : ℕ) (p q : Path) → length q ≡ l → cmp_prefix (l - 1) q p ≡ Equal → is_sibling p l q ≡ true
+sibling l p q level tie =
+    both _ _ ((unsigned_Decides (length q) l).1 level) ((bytes_decides (take (l - 1) p) (take (l - 1) q)).1 (sym (same_prefix (l - 1) q p tie)))
+
+sibling_level : (l : ℕ) (p q : Path) → is_sibling p l q ≡ true → length q ≡ l
+sibling_level l p q h = (unsigned_Decides (length q) l).0 (and_parts _ _ h).0
+
+sibling_tie : (l : ℕ) (p q : Path) → is_sibling p l q ≡ true → cmp_prefix (l - 1) q p ≡ Equal
+sibling_tie l p q h = prefix_ties (l - 1) q p (sym ((bytes_decides (take (l - 1) p) (take (l - 1) q)).0 (and_parts _ _ h).1))
+
+module _ (S : List Path) (up : IsAscending S) (x : ℕ) (inside : x < length S) where
+  own_tie : path_cmp (path_at S x) (path_at S x) ≡ Equal
+  own_tie = tied_itself nat_list_cmp_total (path_at S x)
+
+  not_before : (k : ℕ) → k < length S → x ≤ k → is_lt (path_cmp (path_at S k) (path_at S x)) ≡ false
+  not_before k kn xk = elim (cases_lt x k) [
+    | inl lt ↦ ap is_lt (turned (path_at S x) (path_at S k) (in_order S up x k [] lt kn))
+    | inr ge ↦ let e : x ≡ k = omega arith in subst (λ j. is_lt (path_cmp (path_at S j) (path_at S x)) ≡ false) e (ap is_lt own_tie)
+  ]
+
+  not_after : (k : ℕ) → k ≤ x → is_gt (path_cmp (path_at S k) (path_at S x)) ≡ false
+  not_after k kx = elim (cases_lt k x) [
+    | inl lt ↦ ap is_gt (in_order S up k x [] lt inside)
+    | inr ge ↦ let e : x ≡ k = omega arith in subst (λ j. is_gt (path_cmp (path_at S j) (path_at S x)) ≡ false) e (ap is_gt own_tie)
+  ]
+
+  -- a path that shares its first n numbers with the own isn't before their first
+  module _ (n first : ℕ) (before : AllWithin (λ q. IsTrue (is_lt (cmp_prefix n q (path_at S x)))) S 0 first) where
+    from_first : (k : ℕ) → cmp_prefix n (path_at S k) (path_at S x) ≡ Equal → first ≤ k
+    from_first k tie = elim (cases_lt k first) [
+      | inl lt ↦ let one = before k [] (omega arith) lt in let two : is_lt (cmp_prefix n (path_at S k) (path_at S x)) ≡ false = ap is_lt tie in absurd (cc)
+      | inr ge ↦ ge
+    ]
+
+    pub first_le : first ≤ x
+    first_le = from_first x (prefix_ties n (path_at S x) (path_at S x) refl)
+
+  -- siblings before, as rows with l numbers from the first of the branch up to the own
+  pub found_before : (l first : ℕ) → AllWithin (λ q. IsTrue (is_ge (cmp_prefix (l - 1) q (path_at S x)))) S first (length S)
+      → HasLevel S l first x → has_sibling_before S (path_at S x) l ≡ true
+  found_before l first rest at =
+      let k = at.0 in
+      let p = path_at S x in
+      let q = path_at S k in
+      let kx : k < x = at.2 in
+      let lt : path_cmp q p ≡ Less = in_order S up k x [] kx inside in
+      let ge : is_ge (cmp_prefix (l - 1) q p) ≡ true = rest k [] at.1 (omega arith) in
+      let gt : is_gt (cmp_prefix (l - 1) q p) ≡ false = prefix_up S up (l - 1) k x [] (omega arith) inside in
+      list_any_at (λ r. is_lt (path_cmp r p) && is_sibling p l r) S k [] (omega arith)
+      (both _ _ (ap is_lt lt) (sibling l p q at.3 (equal_if_both _ ge gt)))
+
+  pub before_found : (l first : ℕ) → AllWithin (λ q. IsTrue (is_lt (cmp_prefix (l - 1) q (path_at S x)))) S 0 first
+      → has_sibling_before S (path_at S x) l ≡ true → HasLevel S l first x
+  before_found l first before h =
+      let p = path_at S x in
+      let found = listed (λ r. is_lt (path_cmp r p) && is_sibling p l r) S h in
+      let k = found.0 in
+      let q = path_at S k in
+      let parts = and_parts (is_lt (path_cmp q p)) (is_sibling p l q) found.2 in
+      let low : first ≤ k = from_first (l - 1) first before k (sibling_tie l p q parts.1) in
+      let high : k < x = elim (cases_lt k x) [
+        | inl lt ↦ lt
+        | inr ge ↦ let one = not_before k found.1 ge in let two = parts.0 in absurd (cc)
+      ] in
+      (k, low, high, sibling_level l p q parts.1)
+
+  -- siblings after, as rows with l numbers from the own on up to the end of the branch
+  pub found_after : (l end : ℕ) → end ≤ length S → AllWithin (λ q. IsTrue (is_le (cmp_prefix (l - 1) q (path_at S x)))) S 0 end
+      → HasLevel S l (x + 1) end → has_below S (path_at S x) l ≡ true
+  found_after l end short before at =
+      let k = at.0 in
+      let p = path_at S x in
+      let q = path_at S k in
+      let xk : x + 1 ≤ k = at.1 in
+      let ke : k < end = at.2 in
+      let gt : path_cmp q p ≡ Greater = turned p q (in_order S up x k [] (omega arith) (omega arith)) in
+      let le : is_le (cmp_prefix (l - 1) q p) ≡ true = before k [] (omega arith) ke in
+      let rise : is_gt (cmp_prefix (l - 1) p q) ≡ false = prefix_up S up (l - 1) x k [] (omega arith) (omega arith) in
+      list_any_at (λ r. is_gt (path_cmp r p) && is_sibling p l r) S k [] (omega arith)
+      (both _ _ (ap is_gt gt) (sibling l p q at.3 (equal_between (l - 1) q p le rise)))
+
+  pub after_found : (l end : ℕ) → AllWithin (λ q. IsTrue (is_gt (cmp_prefix (l - 1) q (path_at S x)))) S end (length S)
+      → has_below S (path_at S x) l ≡ true → HasLevel S l (x + 1) end
+  after_found l end rest h =
+      let p = path_at S x in
+      let found = listed (λ r. is_gt (path_cmp r p) && is_sibling p l r) S h in
+      let k = found.0 in
+      let q = path_at S k in
+      let parts = and_parts (is_gt (path_cmp q p)) (is_sibling p l q) found.2 in
+      let low : x + 1 ≤ k = elim (cases_lt x k) [
+        | inl lt ↦ omega arith
+        | inr ge ↦ let one = not_after k ge in let two = parts.0 in absurd (cc)
+      ] in
+      let high : k < end = elim (cases_lt k end) [
+        | inl lt ↦ lt
+        | inr ge ↦
+            let one : is_gt (cmp_prefix (l - 1) q p) ≡ true = rest k [] ge found.1 in
+            let two : is_gt (cmp_prefix (l - 1) q p) ≡ false = ap is_gt (sibling_tie l p q parts.1) in absurd (cc)
+      ] in
+      (k, low, high, sibling_level l p q parts.1)
+
+  -- the parent, as the first row of the branch
+  module _ (l first : ℕ)
+      (before : AllWithin (λ q. IsTrue (is_lt (cmp_prefix (l - 1) q (path_at S x)))) S 0 first)
+      (rest : AllWithin (λ q. IsTrue (is_ge (cmp_prefix (l - 1) q (path_at S x)))) S first (length S)) where
+    first_tie : cmp_prefix (l - 1) (path_at S first) (path_at S x) ≡ Equal
+    first_tie =
+        let fx = first_le (l - 1) first before in
+        equal_if_both _ (rest first [] (omega arith) (omega arith)) (prefix_up S up (l - 1) first x [] fx inside)
+
+    pub first_is_parent : length (path_at S first) ≡ l - 1 → has_parent S (path_at S x) l ≡ true
+    first_is_parent level =
+        let fx = first_le (l - 1) first before in
+        let p = path_at S x in
+        let q = path_at S first in
+        let whole : take (l - 1) q ≡ q = take_all (l - 1) q (omega arith) in
+        let same : take (l - 1) p ≡ q = sym (same_prefix (l - 1) q p first_tie) ∙ whole in
+        list_any_at (is_path (take (l - 1) p)) S first [] (omega arith) ((bytes_decides (take (l - 1) p) q).1 same)
+
+    pub parent_is_first : l ≤ length (path_at S x) → has_parent S (path_at S x) l ≡ true → length (path_at S first) ≡ l - 1
+    parent_is_first short h =
+        let n = l - 1 in
+        let p = path_at S x in
+        let found = listed (is_path (take n p)) S h in
+        let k = found.0 in
+        let q = path_at S k in
+        let f = path_at S first in
+        let same : take n p ≡ q = (bytes_decides (take n p) q).0 found.2 in
+        let long : length (take n p) ≡ n = length-take-le n p (omega arith) in
+        let level : length q ≡ n = ap length (sym same) ∙ long in
+        let whole : take n q ≡ q = take_all n q (omega arith) in
+        let low : first ≤ k = from_first n first before k (prefix_ties n q p (whole ∙ sym same)) in
+        elim (cases_lt first k) [
+          | inl lt ↦
+              let falls : is_le (path_cmp q f) ≡ false = ap is_le (turned f q (in_order S up first k [] lt found.1)) in
+              let prefix : take n f ≡ q = same_prefix n f p first_tie ∙ same in
+              let rises : is_le (path_cmp q f) ≡ true = subst (λ r. is_le (path_cmp r f) ≡ true) prefix (prefix_le n f) in
+              absurd (cc)
+          | inr ge ↦ let e : k ≡ first = omega arith in ap (λ j. length (path_at S j)) (sym e) ∙ level
+        ]

@@ -1,0 +1,17 @@
+-- Branches of an ascending list: the neighbouring paths that share their first numbers.
+use Rattle.std.specs.Prelude.{◌≡◌, ℕ, ◌<◌, ◌≤◌, List, [], length, take}
+use Rattle.std.specs.List.{slice_index_or}
+use Rattle.std.specs.declared.cmp.Ordering.{Ordering}
+use Rattle.prodash_base.specs.Path.{Path, path_cmp}
+
+-- the path at an index
+abbrev pub path_at : List Path → ℕ → Path
+path_at S i = slice_index_or S i []
+
+-- the order of the first n numbers of two paths
+abbrev pub cmp_prefix : ℕ → Path → Path → Ordering
+cmp_prefix n q p = path_cmp (take n q) (take n p)
+
+-- a path with l numbers at an index from i up to j
+abbrev pub HasLevel : List Path → ℕ → ℕ → ℕ → Type 0
+HasLevel S l i j = (k : ℕ) × (i ≤ k) × (k < j) × (length (path_at S k) ≡ l)

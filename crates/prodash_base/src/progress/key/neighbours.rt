@@ -1,0 +1,151 @@
+ghost use Rattle.std.specs.Prelude.{◌≡◌, ℕ, ◌<◌, ◌≤◌, ◌-◌, ◌↔◌, IsTrue, Some, length};
+ghost use Rattle.std.specs.List.{AllWithin};
+ghost use Rattle.std.specs.Ordering.{is_lt, is_le, is_ge, is_gt};
+ghost use Rattle.prodash_base.specs.Adjacency as spec;
+ghost use Rattle.prodash_base.specs.Adjacency.{IsAscending, adjacency_at, paths_of};
+ghost use Rattle.prodash_base.specs.plumbing.Branches.{path_at, cmp_prefix, HasLevel};
+
+use crate::progress::Row;
+use crate::progress::key::{Adjacency, Key, Level, SiblingLocation};
+
+impl Key {
+    /// Returns on which sides the row at `index` and its ancestors have siblings. The rows must be
+    /// in strictly ascending order of their keys, as those of a snapshot are. Ancestors that have
+    /// no row of their own have a level too.
+    ///
+    /// ```rust
+    /// let rows = tree.rows(alloc)?;
+    /// let adjacency = Key::adjacency(rows.as_slice(), index);
+    /// assert_eq!(rt; adjacency[1], SiblingLocation::Above);
+    /// ```
+    pub fn adjacency(sorted: &[Row], index: usize) -> Adjacency
+        requires sorted { IsAscending (paths_of sorted.now) }
+        requires inside { index < length sorted.now }
+        ensures { adjacency_at (paths_of sorted.now) index ≡ Some result }
+    {
+        Adjacency(
+            location(sorted, index, 1),
+            location(sorted, index, 2),
+            location(sorted, index, 3),
+            location(sorted, index, 4),
+            location(sorted, index, 5),
+            location(sorted, index, 6),
+        )
+    }
+}
+
+/// Returns the location at a level from 1 on.
+fn location(sorted: &[Row], index: usize, level: Level) -> SiblingLocation
+    requires sorted { IsAscending (paths_of sorted.now) }
+    requires inside { index < length sorted.now }
+    requires level { 0 < level }
+    ensures { let paths = paths_of sorted.now in
+        result ≡ spec.location paths (path_at paths index) level }
+{
+    let own_level = sorted[index].key.level();
+    if own_level < level {
+        return SiblingLocation::NotFound;
+    }
+    let above = has_above(sorted, index, level);
+    let below = has_below(sorted, index, level);
+    match (above, below) {
+        (true, true) => SiblingLocation::AboveAndBelow,
+        (true, false) if level == own_level => SiblingLocation::Above,
+        (false, true) if level == own_level => SiblingLocation::Below,
+        _ => SiblingLocation::NotFound,
+    }
+}
+
+/// Returns whether something is above at a level from 1 to that of the row: a sibling, the root,
+/// or the row's parent.
+fn has_above(sorted: &[Row], index: usize, level: Level) -> bool
+    requires sorted { IsAscending (paths_of sorted.now) }
+    requires inside { index < length sorted.now }
+    requires level { 0 < level }
+    ensures { let paths = paths_of sorted.now in
+        result ≡ spec.has_above paths (path_at paths index) level }
+{
+    level == 1
+        || has_sibling_above(sorted, index, level)
+        || (level == sorted[index].key.level() && has_parent(sorted, index, level))
+}
+
+/// Returns whether an earlier row is a sibling at a level from 1 on.
+fn has_sibling_above(sorted: &[Row], index: usize, level: Level) -> bool
+    requires sorted { IsAscending (paths_of sorted.now) }
+    requires inside { index < length sorted.now }
+    requires level { 0 < level }
+    ensures { let paths = paths_of sorted.now in
+        result ≡ spec.has_sibling_before paths (path_at paths index) level }
+{
+    let first = first_of_branch(sorted, &sorted[index].key, level - 1);
+    has_level(sorted, first, index, level)
+}
+
+/// Returns whether the ancestor one level above a level from 1 to that of the row has a row.
+fn has_parent(sorted: &[Row], index: usize, level: Level) -> bool
+    requires sorted { IsAscending (paths_of sorted.now) }
+    requires inside { index < length sorted.now }
+    requires level { 0 < level }
+    requires own { level ≤ length (path_at (paths_of sorted.now) index) }
+    ensures { let paths = paths_of sorted.now in
+        result ≡ spec.has_parent paths (path_at paths index) level }
+{
+    let first = first_of_branch(sorted, &sorted[index].key, level - 1);
+    sorted[first].key.level() == level - 1
+}
+
+/// Returns whether a later row is a sibling at a level from 1 on.
+fn has_below(sorted: &[Row], index: usize, level: Level) -> bool
+    requires sorted { IsAscending (paths_of sorted.now) }
+    requires inside { index < length sorted.now }
+    requires level { 0 < level }
+    ensures { let paths = paths_of sorted.now in
+        result ≡ spec.has_below paths (path_at paths index) level }
+{
+    let end = end_of_branch(sorted, &sorted[index].key, level - 1);
+    has_level(sorted, index + 1, end, level)
+}
+
+/// Returns whether a row from `start` up to `end` has `level` numbers. Of the rows that share
+/// their first `level` numbers, it looks at the first only.
+fn has_level(sorted: &[Row], start: usize, end: usize, level: Level) -> bool
+    requires sorted { IsAscending (paths_of sorted.now) }
+    requires inside { end ≤ length sorted.now }
+    ensures { IsTrue result ↔ HasLevel (paths_of sorted.now) level start end }
+{
+    let mut next = start;
+    while next < end {
+        let key = &sorted[next].key;
+        if key.level() == level {
+            return true;
+        }
+        next = end_of_branch(sorted, key, level);
+    }
+    false
+}
+
+/// Returns the index of the first row whose first `level` numbers are those of the key or greater.
+fn first_of_branch(sorted: &[Row], key: &Key, level: Level) -> usize
+    requires sorted { IsAscending (paths_of sorted.now) }
+    ensures bound { result ≤ length sorted.now }
+    ensures before { let paths = paths_of sorted.now in
+        AllWithin (λ q. IsTrue (is_lt (cmp_prefix level q key.now))) paths 0 result }
+    ensures rest { let paths = paths_of sorted.now in
+        AllWithin (λ q. IsTrue (is_ge (cmp_prefix level q key.now))) paths result (length paths) }
+{
+    sorted.partition_point(|row| row.key.cmp_prefix(key, level).is_lt())
+}
+
+/// Returns the index of the first row whose first `level` numbers are greater than those of the
+/// key.
+fn end_of_branch(sorted: &[Row], key: &Key, level: Level) -> usize
+    requires sorted { IsAscending (paths_of sorted.now) }
+    ensures bound { result ≤ length sorted.now }
+    ensures before { let paths = paths_of sorted.now in
+        AllWithin (λ q. IsTrue (is_le (cmp_prefix level q key.now))) paths 0 result }
+    ensures rest { let paths = paths_of sorted.now in
+        AllWithin (λ q. IsTrue (is_gt (cmp_prefix level q key.now))) paths result (length paths) }
+{
+    sorted.partition_point(|row| row.key.cmp_prefix(key, level).is_le())
+}
