@@ -6,3 +6,4 @@ pub mod RunSteps
 pub mod RunBytes
 pub mod PageRuns
 pub mod AllSaid
+pub mod WorkedDashboard

@@ -5,3 +5,4 @@ pub mod Slots
 pub mod Sessions
 pub mod Runs
 pub mod PageRuns
+pub mod Dashboard
