@@ -7,3 +7,4 @@ pub mod RunBytes
 pub mod PageRuns
 pub mod AllSaid
 pub mod WorkedDashboard
+pub mod DashboardLaws

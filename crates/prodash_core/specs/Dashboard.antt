@@ -1,6 +1,6 @@
 -- The dashboard: what an event leaves of its state, and the answer to it.
 use Prim.Native.Char.{Char, code}
-use Rattle.std.specs.Prelude.{ℕ, ◌+◌, ◌-◌, min, Bool, true, false, not, ◌&&◌, ◌||◌, ◌==◌, if◌then◌else◌, List, [], ◌∷◌, Option, Some, None, find, String}
+use Rattle.std.specs.Prelude.{ℕ, ◌+◌, ◌-◌, min, Bool, true, false, not, ◌&&◌, ◌||◌, ◌==◌, if◌then◌else◌, List, [], ◌∷◌, Option, Some, None, find, fold, String}
 use Rattle.std.specs.Option.{option_map, option_map_or}
 use Rattle.std.specs.Global.{Global, Vec}
 use Rattle.prodash_core.specs.declared.render.tui.event.Answer.{Answer}
@@ -92,7 +92,8 @@ effect_of Other = None
 -- the keys that interrupt: Esc, q, and with control c and [
 abbrev pub interrupts_by : KeyCode → Bool → Bool
 interrupts_by Esc control = true
-interrupts_by (Character c) control = (c == code "q") || (control && ((c == code "c") || (c == code "[")))
+interrupts_by (Character c) control =
+    (c == code "q") || (control && ((c == code "c") || (c == code "[")))
 interrupts_by Other control = false
 
 -- whether requests to interrupt are deferred, and whether there was one since then
@@ -107,12 +108,15 @@ is_requested (Deferred requested) = requested
 -- a request to interrupt: it is noted if requests are deferred, else it stops
 abbrev pub interrupt : State → State × Answer
 interrupt s =
-    if is_deferred s.interrupt_mode then redraw (record s { interrupt_mode = Deferred true }) else stop s
+    if is_deferred s.interrupt_mode then redraw (record s { interrupt_mode = Deferred true })
+    else stop s
 
--- another mode: a request that was noted stops as soon as the mode is no longer to be deferred; until then the note is kept
+-- another mode: a request that was noted stops as soon as the mode is no longer to be deferred;
+-- until then the note is kept
 abbrev pub set_interrupt_mode : State → Interrupt → State × Answer
 set_interrupt_mode s interrupts.Instantly =
-    if is_requested s.interrupt_mode then stop s else redraw (record s { interrupt_mode = Instantly })
+    if is_requested s.interrupt_mode then stop s
+    else redraw (record s { interrupt_mode = Instantly })
 set_interrupt_mode s interrupts.Deferred =
     redraw (record s { interrupt_mode = Deferred (is_requested s.interrupt_mode) })
 
@@ -131,3 +135,17 @@ handle s (SetWindowSize size) = redraw (record s { window_size = Some size })
 handle s (SetTitle title) = redraw (record s { title = title })
 handle s (SetInformation information) = redraw (record s { information = information })
 handle s (SetInterruptMode interrupt) = set_interrupt_mode s interrupt
+
+-- the state after events, one after another
+abbrev pub state_after : State → List Event → State
+state_after s events = fold (λ before event. (handle before event).0) s events
+
+-- whether an event is a request to interrupt
+abbrev pub is_request : Event → Bool
+is_request (Input key) = not key.release && interrupts_by key.code key.control
+is_request _ = false
+
+-- whether an event sets the mode to be instantly
+abbrev pub sets_instantly : Event → Bool
+sets_instantly (SetInterruptMode interrupts.Instantly) = true
+sets_instantly _ = false

@@ -8,7 +8,7 @@ mod state;
 
 pub use event::{Answer, Event, Interrupt, Key, KeyCode, Line, Rect};
 pub use options::Options;
-pub use state::{InterruptMode, State};
+pub use state::{InterruptMode, State, deferred_requests_wait};
 
 /// The line between two panes, and below a task whose siblings follow.
 pub const VERTICAL_LINE: &str = "│";

@@ -1,5 +1,8 @@
-ghost use Rattle.std.specs.Prelude.{◌≡◌, []};
-ghost use Rattle.prodash_core.specs.Dashboard.{new_state, press, interrupt, set_interrupt_mode, handle};
+ghost use Rattle.std.specs.Prelude.{◌≡◌, Bool, false, ◌||◌, List, [], if◌then◌else◌};
+ghost use Rattle.std.specs.List.{list_any};
+ghost use Rattle.prodash_core.specs.Dashboard.{new_state, press, interrupt, set_interrupt_mode, handle, state_after, is_request, sets_instantly};
+ghost use Rattle.prodash_core.specs.declared.render.tui.event.Event.{Event};
+ghost use Rattle.prodash_core.specs.declared.render.tui.state.State.{State};
 
 use crate::render::tui::event::{Answer, Event, Interrupt, Key, KeyCode, Line, Rect};
 use std::alloc::Global;
@@ -150,3 +153,19 @@ impl State {
         Answer::Redraw
     }
 }
+
+/// A law: a deferred request to interrupt is never forgotten. Whatever happens while requests are
+/// deferred, the dashboard stops when the mode is set to `Instantly` exactly if there was one.
+#[tactic(auto, using(crate::proofs::DashboardLaws::mode_after, crate::proofs::DashboardLaws::answer_after))]
+pub fn deferred_requests_wait()
+    ensures mode { (s : State) (requested : Bool) (events : List Event)
+        → s.interrupt_mode ≡ InterruptMode.Deferred requested
+        → list_any sets_instantly events ≡ false
+        → (state_after s events).interrupt_mode
+        ≡ InterruptMode.Deferred (requested || list_any is_request events) }
+    ensures answer { (s : State) (requested : Bool) (events : List Event)
+        → s.interrupt_mode ≡ InterruptMode.Deferred requested
+        → list_any sets_instantly events ≡ false
+        → (handle (state_after s events) (Event.SetInterruptMode Interrupt.Instantly)).1
+        ≡ (if requested || list_any is_request events then Answer.Stop else Answer.Redraw) }
+{}
