@@ -10,5 +10,5 @@ pub use event::{Answer, Event, Interrupt, Key, KeyCode, Line, Rect};
 pub use options::Options;
 pub use state::{InterruptMode, State, deferred_requests_wait};
 
-/// The line between two panes, and below a task whose siblings follow.
+/// The vertical line that a dashboard draws between columns.
 pub const VERTICAL_LINE: &str = "│";

@@ -21,12 +21,13 @@ pub enum InterruptMode {
 
 /// What a dashboard shows, and how.
 ///
-/// ```
+/// ```rust
 /// let mut state = State::new(alloc, title);
-/// state.handle(Event::SetInterruptMode(Interrupt::Deferred)); // Redraw
+/// state.handle(Event::SetInterruptMode(Interrupt::Deferred));
 /// let q = Key { code: KeyCode::Char('q'), control: false, release: false };
-/// state.handle(Event::Input(q)); // Redraw: the request to interrupt waits
-/// state.handle(Event::SetInterruptMode(Interrupt::Instantly)); // Stop
+/// assert_eq!(rt; state.handle(Event::Input(q)), Answer::Redraw);
+/// let answer = state.handle(Event::SetInterruptMode(Interrupt::Instantly));
+/// assert_eq!(rt; answer, Answer::Stop);
 /// ```
 #[derive(Debug, Drop)]
 pub struct State {
@@ -78,10 +79,11 @@ impl State {
     /// - A tick, another window size, another title and other information are to be drawn.
     /// - `Esc`, `q`, `c` and `[` with control are requests to interrupt. The answer is `Stop`, or
     ///   `Redraw` if they are deferred, and then the request waits until the mode is `Instantly`.
-    /// - `` ` `` and `~` hide messages and maximize them; `[` and `{` do it with the information.
+    /// - `` ` `` and `~` toggle whether messages are hidden and whether they are maximized, `[` and
+    ///   `{` the same of the information.
     /// - `J`, `D`, `K` and `U` scroll messages by 1 down, 10 down, 1 up and 10 up; `j`, `d`, `k`
     ///   and `u` scroll tasks. Offsets stop at 0 and at 65535.
-    /// - Another key, and a key that is released, change nothing, and the answer is `Skip`.
+    /// - Any other key, and any key that is released, changes nothing, and the answer is `Skip`.
     pub fn handle(&mut self, event: Event) -> Answer
         ensures { (self.new, result) ≡ handle self.old event }
     {
