@@ -7,3 +7,5 @@ pub mod StepLaws
 pub mod RunLaws
 pub mod AllSaid
 pub mod WorkedRuns
+pub mod WorkedDashboard
+pub mod DashboardLaws

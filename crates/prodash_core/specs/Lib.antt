@@ -2,3 +2,4 @@ pub mod Tables
 pub mod Trees
 pub mod Sessions
 pub mod Runs
+pub mod Dashboard

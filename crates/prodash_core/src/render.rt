@@ -1,0 +1,2 @@
+//! Renderers, and what they share.
+pub mod tui;

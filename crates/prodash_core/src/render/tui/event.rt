@@ -1,0 +1,80 @@
+/// A rectangle of a terminal's cells.
+#[derive(Clone, Copy, Debug, Default, PartialEq, Eq)]
+pub struct Rect {
+    /// The leftmost column.
+    pub x: u16,
+    /// The topmost row.
+    pub y: u16,
+    /// The number of columns.
+    pub width: u16,
+    /// The number of rows.
+    pub height: u16,
+}
+
+/// The code of a key.
+#[derive(Clone, Copy, Debug, PartialEq, Eq)]
+pub enum KeyCode {
+    /// A key that writes this character.
+    Char(char),
+    /// The escape key.
+    Esc,
+    /// Any other key.
+    Other,
+}
+
+/// A key that was pressed or released.
+#[derive(Clone, Copy, Debug, PartialEq, Eq)]
+pub struct Key {
+    /// Which key it is.
+    pub code: KeyCode,
+    /// Whether the control key is held down with it.
+    pub control: bool,
+    /// Whether the key was released, and not pressed.
+    pub release: bool,
+}
+
+/// A line of the information that is shown beside the tasks.
+#[derive(Clone, Debug, PartialEq, Eq, Drop)]
+pub enum Line {
+    /// The title of the lines below it.
+    Title(String),
+    /// A line of text.
+    Text(String),
+}
+
+/// When a request to interrupt the dashboard stops it.
+#[derive(Clone, Copy, Debug)]
+pub enum Interrupt {
+    /// At once.
+    Instantly,
+    /// As soon as the mode is set to `Instantly`.
+    Deferred,
+}
+
+/// What can happen to a dashboard.
+#[derive(Clone, Debug, Drop)]
+pub enum Event {
+    /// It is time to draw a frame.
+    Tick,
+    /// A key was pressed or released.
+    Input(Key),
+    /// The dashboard is to fill this part of the terminal from now on.
+    SetWindowSize(Rect),
+    /// The dashboard has another title.
+    SetTitle(String),
+    /// Other lines are shown beside the tasks.
+    SetInformation(Vec<Line>),
+    /// Requests to interrupt are treated in another way.
+    SetInterruptMode(Interrupt),
+}
+
+/// What is to be done after an event.
+#[derive(Clone, Copy, Debug, PartialEq, Eq)]
+pub enum Answer {
+    /// The state is to be drawn.
+    Redraw,
+    /// There is nothing to draw.
+    Skip,
+    /// The dashboard is to be left.
+    Stop,
+}
