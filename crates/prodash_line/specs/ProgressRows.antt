@@ -34,10 +34,12 @@ numbered_cell number = if nat_lt (number % 6) 3 then 61 else 32
 abbrev pub numbered_cells : ℕ → ℕ → List ℕ
 numbered_cells step n = map numbered_cell (reverse (range_with_len step n))
 
--- the bar of a progress without a bound: brackets around the cells of the numbers from the step upward that are below 2^64-1, as far as there
--- are columns; the space and the brackets take three
+-- the bar of a progress without a bound: brackets around the cells of the numbers from the step upward, as many as there are columns besides
+-- the three of the space and the brackets, and none from 2^64-1 on
 abbrev pub unbounded_bar : ℕ → ℕ → Line
-unbounded_bar columns step = piece (codes " [") ∷ piece (numbered_cells step (min (columns - 3) (2 ^ 64 - 1 - step))) ∷ piece (codes "]") ∷ []
+unbounded_bar columns step =
+    let n = min (columns - 3) (2 ^ 64 - 1 - step) in
+    piece (codes " [") ∷ piece (numbered_cells step n) ∷ piece (codes "]") ∷ []
 
 -- the bar on the columns that are left; none if there is no column
 abbrev pub bar : ℕ → ℕ → Option ℕ → Line

@@ -24,8 +24,10 @@ pub(crate) fn push_bar(
 ) -> Result<(), AllocError>
     ensures { OnOk result (Appends out.old (rows.bar columns step done_at) out.new) }
 {
+    if columns == 0 {
+        return Ok(());
+    }
     match done_at {
-        _ if columns == 0 => Ok(()),
         Some(done_at) => {
             let cells = columns.saturating_sub(BRACKETS + ARROW);
             push_bar_with(out, cells, filled_cells(cells, step, done_at))
