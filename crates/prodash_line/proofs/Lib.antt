@@ -17,6 +17,7 @@ pub mod OneSpelling
 pub mod PageRenderings
 pub mod PageTheorem
 pub mod Renderings
+pub mod NumberedCells
 pub mod ProperFrames
 pub mod RowParts
 pub mod Sequences

@@ -1,5 +1,5 @@
 -- What a line writer has written, piece by piece.
-use Rattle.std.proofs.Common.{◌≡◌, ℕ, ◌+◌, ◌≤◌, false, true, List, [], ◌∷◌, ◌++◌, length, replicate, chars, sym, ap, subst, ◌∙◌, append_assoc, append-nil, arith, length-append}
+use Rattle.std.proofs.Common.{◌≡◌, ℕ, ◌+◌, ◌≤◌, false, true, List, [], ◌∷◌, ◌++◌, length, replicate, chars, refl, sym, ap, subst, ◌∙◌, append_assoc, append-nil, arith, length-append}
 use Rattle.std.specs.Str.{IsUtf8}
 use Rattle.std.proofs.lemmas.List.Sums.{sum_by-append}
 use Rattle.unicode_width.specs.Width.{str_width}
@@ -24,6 +24,19 @@ appends_piece old new p b w = record {
 pub begins : (old new : LineWriter) → new.bytes.items ≡ old.bytes.items → new.width ≡ 0 → Begun old [] new
 begins old new b w = record {
   writes = record { bytes = b ∙ sym (append-nil old.bytes.items) ∙ ap (λ bs. old.bytes.items ++ bs) (sym line_bytes-nil); width = w };
+}
+
+-- a piece without characters changes nothing
+pub appends_nothing : (w : LineWriter) → Appends w (piece [] ∷ []) w
+appends_nothing w = record {
+  writes = λ before line h.
+      let none : str_width false [] ≡ 0 = width-printable [] refl in
+      let last = columns_of-last line (piece []) in
+      record {
+        bytes = h.bytes
+            ∙ ap (λ bs. before ++ bs) (sym (line_bytes-append line (piece [] ∷ []) ∙ ap (λ t. line_bytes line ++ t) (line_bytes-printable [] refl) ∙ append-nil (line_bytes line)));
+        width = h.width ∙ omega arith;
+      };
 }
 
 pub appends_printable : (old new : LineWriter) (text : List ℕ) (width : ℕ) → is_printable text ≡ true → width ≡ capped (str_width false text)

@@ -94,3 +94,19 @@ no_cell = refl
 
 pub no_column : line_text (bar 0 3 (Some 10)) ≡ []
 no_column = refl
+
+-- bars without a bound: eleven cells from 2; as many as there are numbers below 2^64-1; brackets alone; none
+pub from_two : line_text (bar 14 2 None) ≡ codes " [=   ===   =]"
+from_two = refl
+
+pub three_numbers_left : line_text (bar 40 18446744073709551612 None) ≡ codes " [===]"
+three_numbers_left = refl
+
+pub no_number_left : line_text (bar 40 18446744073709551615 None) ≡ codes " []"
+no_number_left = refl
+
+pub no_numbered_cell : line_text (bar 1 2 None) ≡ codes " []"
+no_numbered_cell = refl
+
+pub no_column_without_bound : line_text (bar 0 2 None) ≡ []
+no_column_without_bound = refl

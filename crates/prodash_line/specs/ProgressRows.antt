@@ -1,5 +1,6 @@
 -- The line of a row: its name, and with progress its values and a bar.
-use Rattle.std.specs.Prelude.{ℕ, ◌-◌, ◌*◌, ◌/◌, min, max, List, [], ◌∷◌, ◌++◌, length, map, replicate, codes, chars, if◌then◌else◌, ◌==◌, Option, Some, None}
+use Rattle.std.specs.Prelude.{ℕ, ◌-◌, ◌*◌, ◌/◌, ◌%◌, ◌^◌, min, max, List, [], ◌∷◌, ◌++◌, length, map, replicate, reverse, codes, chars, if◌then◌else◌, ◌==◌, nat_lt, Option, Some, None}
+use Rattle.std.specs.List.{range_with_len}
 use Rattle.std.specs.Fmt.{decimal}
 use Rattle.prodash_base.specs.Rows.{Progress, PathRow}
 use Rattle.prodash_line.specs.Lines.{Line, piece, spaces, columns_of}
@@ -25,9 +26,24 @@ bar_with cells filled = piece (codes " [") ∷ piece (replicate filled 61) ∷ p
 abbrev pub bounded_bar : ℕ → ℕ → ℕ → Line
 bounded_bar columns step bound = let cells = columns - 3 - 1 in bar_with cells (filled_cells cells step bound)
 
--- the bar on the columns that are left; none if there is no column or no bound
+-- the cell of a number: filled if its remainder by 6 is 0, 1 or 2
+abbrev pub numbered_cell : ℕ → ℕ
+numbered_cell number = if nat_lt (number % 6) 3 then 61 else 32
+
+-- the cells of n numbers from the step upward, in reverse order
+abbrev pub numbered_cells : ℕ → ℕ → List ℕ
+numbered_cells step n = map numbered_cell (reverse (range_with_len step n))
+
+-- the bar of a progress without a bound: brackets around the cells of the numbers from the step upward, as many as there are columns besides
+-- the three of the space and the brackets, and none from 2^64-1 on
+abbrev pub unbounded_bar : ℕ → ℕ → Line
+unbounded_bar columns step =
+    let n = min (columns - 3) (2 ^ 64 - 1 - step) in
+    piece (codes " [") ∷ piece (numbered_cells step n) ∷ piece (codes "]") ∷ []
+
+-- the bar on the columns that are left; none if there is no column
 abbrev pub bar : ℕ → ℕ → Option ℕ → Line
-bar columns step None = []
+bar columns step None = if columns == 0 then [] else unbounded_bar columns step
 bar columns step (Some bound) = if columns == 0 then [] else bounded_bar columns step bound
 
 -- as many spaces as the path is long, and the name

@@ -1,5 +1,6 @@
 //! The bar of a progress.
-ghost use Rattle.std.specs.Prelude.{◌≡◌, ◌≤◌, OnOk};
+ghost use Rattle.std.specs.Prelude.{◌≡◌, ◌-◌, ◌≤◌, [], ◌∷◌, OnOk};
+ghost use Rattle.prodash_line.specs.Lines.{piece};
 ghost use Rattle.prodash_line.specs.ProgressRows as rows;
 ghost use Rattle.prodash_line.specs.plumbing.Writing.{Appends};
 
@@ -7,11 +8,14 @@ use crate::render::line::draw::line::LineWriter;
 use prodash_base::progress::Step;
 use std::alloc::AllocError;
 
-/// The columns of a bar that no cell takes: a space, two brackets and the arrow.
-const FRAME_COLUMNS: u16 = 4;
+/// The columns of a bar's space and brackets.
+const BRACKETS: u16 = 3;
+
+/// The column of the arrow in the bar of a progress with a bound.
+const ARROW: u16 = 1;
 
 /// Appends the bar of a progress on the columns that are left in its row. It appends nothing if
-/// there are none, or if the progress has no bound. It fails if it is out of memory.
+/// there are none. It fails if it is out of memory.
 pub(crate) fn push_bar(
     out: &mut LineWriter,
     columns: u16,
@@ -20,12 +24,15 @@ pub(crate) fn push_bar(
 ) -> Result<(), AllocError>
     ensures { OnOk result (Appends out.old (rows.bar columns step done_at) out.new) }
 {
+    if columns == 0 {
+        return Ok(());
+    }
     match done_at {
-        Some(done_at) if columns > 0 => {
-            let cells = columns.saturating_sub(FRAME_COLUMNS);
+        Some(done_at) => {
+            let cells = columns.saturating_sub(BRACKETS + ARROW);
             push_bar_with(out, cells, filled_cells(cells, step, done_at))
         }
-        _ => Ok(()),
+        None => push_unbounded_bar(out, columns, step),
     }
 }
 
@@ -53,4 +60,35 @@ fn filled_cells(cells: u16, step: Step, done_at: Step) -> u16
     } else {
         (u128::from(cells) * u128::from(step.min(done_at)) / u128::from(done_at)) as u16
     }
+}
+
+/// Appends the bar of a progress without a bound on these columns: a cell for each number from
+/// the step upward that is less than `Step::MAX`, as far as there are columns, in reverse order.
+fn push_unbounded_bar(out: &mut LineWriter, columns: u16, step: Step) -> Result<(), AllocError>
+    ensures { OnOk result (Appends out.old (rows.unbounded_bar columns step) out.new) }
+{
+    let cells = Step::from(columns.saturating_sub(BRACKETS));
+    out.push_printable(b" [")?;
+    push_numbered_cells(out, step, step.saturating_add(cells))?;
+    out.push_printable(b"]")?;
+    Ok(())
+}
+
+/// Appends the cells of the numbers from `step` to below `end`, in reverse order.
+fn push_numbered_cells(out: &mut LineWriter, step: Step, end: Step) -> Result<(), AllocError>
+    requires { step ≤ end }
+    ensures { OnOk result
+        (Appends out.old (piece (rows.numbered_cells step (end - step)) ∷ []) out.new) }
+{
+    for number in (step..end).rev() {
+        out.push_printable(&[numbered_cell(number)])?;
+    }
+    Ok(())
+}
+
+/// Returns the cell of a number: three numbers are filled cells, and the next three are spaces.
+fn numbered_cell(number: Step) -> u8
+    ensures { result ≡ rows.numbered_cell number }
+{
+    if number % 6 < 3 { b'=' } else { b' ' }
 }
