@@ -2,6 +2,7 @@ pub use Rattle.prodash_base.specs.Path
 pub use Rattle.prodash_base.specs.Rows
 pub use Rattle.prodash_base.specs.Messages
 pub use Rattle.prodash_base.specs.Rings
+pub use Rattle.prodash_base.specs.Adjacency
 pub use Rattle.prodash_line.specs.Signs
 pub use Rattle.prodash_line.specs.Reading
 pub use Rattle.prodash_line.specs.Page
@@ -18,3 +19,4 @@ pub use Rattle.prodash_core.specs.Tables
 pub use Rattle.prodash_core.specs.Trees
 pub use Rattle.prodash_core.specs.Sessions
 pub use Rattle.prodash_core.specs.Runs
+pub use Rattle.prodash_core.specs.Dashboard

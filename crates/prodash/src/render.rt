@@ -1,2 +1,3 @@
 //! Renderers.
 pub mod line;
+pub mod tui;

@@ -2,7 +2,11 @@
 //! crate.
 #![tactic(auto)]
 
+#[cfg(test)]
+mod adjacency;
 pub mod caller;
+#[cfg(test)]
+mod dashboard;
 #[cfg(test)]
 mod fixtures;
 #[cfg(test)]

@@ -27,6 +27,8 @@ fn progress<C>(
     _key: prodash::progress::Key,
     _same_key: prodash::progress::key::Key,
     _level: prodash::progress::key::Level,
+    _adjacency: prodash::progress::key::Adjacency,
+    _location: prodash::progress::key::SiblingLocation,
 ) -> prodash::progress::Id {
     prodash::progress::UNKNOWN
 }
@@ -65,4 +67,19 @@ fn tree<C, N: prodash::tree::Counters<C>>(
     events: &[prodash::tree::Event],
 ) -> Result<Vec<prodash::tree::Reply>, Fail> {
     Ok(prodash::tree::run(alloc, options, events, screen)?)
+}
+
+fn tui(
+    state: &mut prodash::render::tui::State,
+    event: prodash::render::tui::Event,
+    _key: prodash::render::tui::Key,
+    _code: prodash::render::tui::KeyCode,
+    _line: &prodash::render::tui::Line,
+    _options: &prodash::render::tui::Options,
+    _size: prodash::render::tui::Rect,
+    _interrupt: prodash::render::tui::Interrupt,
+    _mode: prodash::render::tui::InterruptMode,
+) -> (prodash::render::tui::Answer, &'static str) {
+    prodash::render::tui::deferred_requests_wait();
+    (state.handle(event), prodash::render::tui::VERTICAL_LINE)
 }
