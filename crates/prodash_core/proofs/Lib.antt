@@ -8,3 +8,4 @@ pub mod PageRuns
 pub mod AllSaid
 pub mod WorkedDashboard
 pub mod DashboardLaws
+pub mod WorkedPrefixes

@@ -6,3 +6,4 @@ pub mod Sessions
 pub mod Runs
 pub mod PageRuns
 pub mod Dashboard
+pub mod Prefixes
