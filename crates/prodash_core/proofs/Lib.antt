@@ -9,3 +9,4 @@ pub mod AllSaid
 pub mod WorkedRuns
 pub mod WorkedDashboard
 pub mod DashboardLaws
+pub mod WorkedPrefixes

@@ -3,3 +3,4 @@ pub mod Trees
 pub mod Sessions
 pub mod Runs
 pub mod Dashboard
+pub mod Prefixes

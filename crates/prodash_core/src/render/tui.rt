@@ -4,10 +4,12 @@
 //! answer is `Redraw`, and leaves if it is `Stop`.
 mod event;
 mod options;
+mod prefix;
 mod state;
 
 pub use event::{Answer, Event, Interrupt, Key, KeyCode, Line, Rect};
 pub use options::Options;
+pub use prefix::level_prefix;
 pub use state::{InterruptMode, State, deferred_requests_wait};
 
 /// The vertical line that a dashboard draws between columns.

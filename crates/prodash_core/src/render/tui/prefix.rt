@@ -1,0 +1,101 @@
+ghost use Rattle.std.specs.Prelude.{◌≡◌, ◌<◌, ◌≤◌, ◌++◌, Some, length, true, IfOk, IfErr, encode_utf8_all, string_bytes};
+ghost use Rattle.std.specs.Option.{option_map};
+ghost use Rattle.prodash_base.specs.Path.{max_level};
+ghost use Rattle.prodash_base.specs.Adjacency.{IsAscending, paths_of};
+ghost use Rattle.prodash_core.specs.Prefixes.{own_branch, ancestor_branch, branches, prefix_of, prefix_at};
+
+use prodash_base::Refusal;
+use prodash_base::progress::key::{Adjacency, Level, SiblingLocation};
+use prodash_base::progress::{Key, Row};
+use std::alloc::{AllocError, Global};
+
+/// Returns the prefix of the row at `index`, which draws the branches of the tree that lead to it:
+/// a character for each of its levels, with spaces between them. The rows must be in strictly
+/// ascending order of their keys, as those of a snapshot are.
+///
+/// Fails with `Memory` if there is no memory for the prefix.
+pub fn level_prefix(alloc: Global, sorted: &[Row], index: usize) -> Result<String, Refusal>
+    requires sorted { IsAscending (paths_of sorted.now) }
+    requires inside { index < length sorted.now }
+    ensures ok { IfOk result (λ s.
+        option_map encode_utf8_all (prefix_at (paths_of sorted.now) index)
+        ≡ Some (string_bytes s)) }
+    ensures err { IfErr result (λ e. e ≡ Refusal.Memory) }
+{
+    let adjacency = Key::adjacency(sorted, index);
+    let level = sorted[index].key.level();
+    Ok(prefix(alloc, &adjacency, level)?)
+}
+
+/// Returns the prefix of a row of this level.
+fn prefix(alloc: Global, adjacency: &Adjacency, level: Level) -> Result<String, AllocError>
+    requires { level ≤ max_level }
+    ensures { IfOk result (λ s.
+        string_bytes s ≡ encode_utf8_all (prefix_of adjacency.now level)) }
+{
+    let is_orphan = adjacency.level() != level;
+    let locations = [
+        adjacency.0,
+        adjacency.1,
+        adjacency.2,
+        adjacency.3,
+        adjacency.4,
+        adjacency.5,
+    ];
+    let mut text = String::new(alloc);
+    push_branches(&mut text, is_orphan, &locations[..level as usize])?;
+    Ok(text)
+}
+
+/// Appends the characters of all levels from the first on, the last of which is the row's own.
+fn push_branches(
+    text: &mut String,
+    is_orphan: bool,
+    locations: &[SiblingLocation],
+) -> Result<(), AllocError>
+    ensures { IfOk result (λ _. string_bytes text.new
+        ≡ string_bytes text.old ++ encode_utf8_all (branches true is_orphan locations.now)) }
+{
+    let mut is_first = true;
+    let mut left = locations;
+    while let Some((location, rest)) = left.split_first() {
+        if rest.is_empty() {
+            text.push(own_branch(is_first, is_orphan, *location))?;
+        } else {
+            text.push(ancestor_branch(is_first, is_orphan, *location))?;
+            text.push(' ')?;
+        }
+        is_first = false;
+        left = rest;
+    }
+    Ok(())
+}
+
+/// Returns the character of the row's own level.
+fn own_branch(is_first: bool, is_orphan: bool, location: SiblingLocation) -> char
+    ensures { result ≡ own_branch is_first is_orphan location }
+{
+    match location {
+        SiblingLocation::AboveAndBelow => '├',
+        SiblingLocation::Above if is_first => '├',
+        SiblingLocation::Above => '└',
+        SiblingLocation::Below | SiblingLocation::NotFound if is_first => '│',
+        SiblingLocation::Below => '┌',
+        SiblingLocation::NotFound if is_orphan => ' ',
+        SiblingLocation::NotFound => '·',
+    }
+}
+
+/// Returns the character of an ancestor's level.
+fn ancestor_branch(is_first: bool, is_orphan: bool, location: SiblingLocation) -> char
+    ensures { result ≡ ancestor_branch is_first is_orphan location }
+{
+    match location {
+        SiblingLocation::AboveAndBelow => '│',
+        SiblingLocation::Above => '└',
+        SiblingLocation::Below => '┌',
+        SiblingLocation::NotFound if is_first => '│',
+        SiblingLocation::NotFound if is_orphan => '·',
+        SiblingLocation::NotFound => ' ',
+    }
+}
