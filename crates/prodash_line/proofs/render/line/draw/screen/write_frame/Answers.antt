@@ -1,4 +1,5 @@
 use Rattle.std.proofs.Common.{◌+◌, ◌++◌, take, append-nil, ap, sym, ◌∙◌, arith}
+use Rattle.std.specs.Prelude.{true, false}
 use Rattle.std.proofs.lemmas.Result.{err_from_is_err_and}
 use Rattle.prodash_line.proofs.ScreenTaken.{takes_more}
 use Rattle.prodash_line.proofs.render.line.draw.screen.write_frame.Goals as goal
@@ -13,7 +14,7 @@ returns-in_err-done-clause-err g c =
       prefix = (c.loop-done.done + h.0, t.0, t.1);
       idle = λ b. let was = c.loop-done.invariant.was_broken b in
           (c.in_err-done.ensures.stays was.0).1 ∙ c.loop-done.invariant.taken ∙ ap (λ n. (g.S.Screen.state c.args.screen.now).bytes ++ take n c.args.frame.now) was.1 ∙ append-nil _;
-      broken = sym c.in_err-done.ensures.exact;
+      broken = sym {a = true} c.in_err-done.ensures.exact;
     })
 
 pub loop-done-preserved : goal.loop-done-preserved
@@ -23,6 +24,6 @@ loop-done-preserved g c =
     record {
       within = t.0;
       taken = t.1;
-      is_broken = λ _. sym h.exact;
+      is_broken = λ _. sym {a = false} h.exact;
       was_broken = λ b. let s = (h.stays (c.loop-done.invariant.was_broken b).0).0 in let e = h.exact in absurd (grind (arith, s, e));
     }
