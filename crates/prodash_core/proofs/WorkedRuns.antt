@@ -1,6 +1,8 @@
--- A run that fits a page, and what the page shows of it: a row, a message over it, and the closing frame.
-use Rattle.std.proofs.Common.{◌≡◌, ◌∙◌, ap, sym, subst, ℕ, cond, List, [], ◌∷◌, ◌++◌, map, Option, Some, Ok, false, true, take, refl, arith}
-use Rattle.std.specs.Prelude.{codes, replicate}
+-- A run that fits a page, and what the page shows of it: a row, a message over it with two rows below, and the closing frame.
+use Rattle.std.proofs.Common.{◌≡◌, ◌∙◌, ap, sym, subst, ℕ, cond, List, [], ◌∷◌, ◌++◌, map, Option, Some, None, Ok, false, true, take, refl, arith}
+use Rattle.std.specs.Prelude.{codes, replicate, Bool}
+use Rattle.std.specs.Cmp.Lexicographic.{texts_ties}
+use Rattle.prodash_base.specs.plumbing.KeyHash.{same_path}
 use Rattle.std.specs.Str.{chars}
 use Rattle.std.specs.FinMap.{empty, get, insert, entries, from_sorted, get-empty, get-insert, get-from_sorted, entries-from_sorted, same_map, slice_cmp-IsAntisymmetric, nat_cmp-IsAntisymmetric}
 use Rattle.std.specs.Ordering.{eq_by_cmp}
@@ -37,10 +39,10 @@ abbrev id : List ℕ
 id = 0 ∷ 0 ∷ 0 ∷ 0 ∷ []
 
 abbrev events : List Event
-events = AddChild 0 (codes "a") id ∷ Tick 0 true ∷ Message 1 1 Info (codes "x") ∷ Tick 1 true ∷ Quit 2 ∷ []
+events = AddChild 0 (codes "a") id ∷ Tick 0 true ∷ Message 1 1 Info (codes "x") ∷ AddChild 0 (codes "b") id ∷ Tick 1 true ∷ Quit 2 ∷ []
 
 abbrev replies : List Reply
-replies = Made 1 ∷ Drawn ∷ Done ∷ Drawn ∷ Ended ∷ []
+replies = Made 1 ∷ Drawn ∷ Done ∷ Made 2 ∷ Drawn ∷ Ended ∷ []
 
 abbrev renderings : List Rendering
 renderings = renderings_of options events replies
@@ -48,40 +50,68 @@ renderings = renderings_of options events replies
 abbrev renderer : Renderer
 renderer = new_renderer options.draw
 
--- the slots that the first event makes, and the table, which has one entry
+-- the slots and the table after the first child, and after the second
 abbrev slots : List Slot
 slots = with_child (new_slot []) ∷ new_slot (0 ∷ []) ∷ []
 
-abbrev entry : Entry ℕ
-entry = new_entry (codes "a") id
+abbrev more_slots : List Slot
+more_slots = with_child (with_child (new_slot [])) ∷ new_slot (0 ∷ []) ∷ new_slot (1 ∷ []) ∷ []
+
+abbrev first : Entry ℕ
+first = new_entry (codes "a") id
+
+abbrev second : Entry ℕ
+second = new_entry (codes "b") id
 
 abbrev table : Table ℕ
-table = insert empty (0 ∷ []) entry
+table = insert empty (0 ∷ []) first
 
-listed : entries table ≡ (0 ∷ [], entry) ∷ []
+abbrev more_table : Table ℕ
+more_table = insert table (1 ∷ []) second
+
+named_at : (q : Path) → get table q ≡ cond (eq_by_cmp path_cmp q (0 ∷ [])) (Some first) None
+named_at q = get-insert nat_list_cmp_total empty (0 ∷ []) first q ∙ ap (cond (eq_by_cmp path_cmp q (0 ∷ [])) (Some first)) (get-empty path_cmp q)
+
+listed : entries table ≡ (0 ∷ [], first) ∷ []
 listed =
-    let same : table ≡ from_sorted ((0 ∷ [], entry) ∷ []) = same_map nat_list_cmp_total (slice_cmp-IsAntisymmetric nat_cmp-IsAntisymmetric) _ _ (λ q.
-    get-insert nat_list_cmp_total empty (0 ∷ []) entry q ∙ ap (cond (eq_by_cmp path_cmp q (0 ∷ [])) (Some entry)) (get-empty path_cmp q)
-    ∙ sym (get-from_sorted path_cmp ((0 ∷ [], entry) ∷ []) q tt)) in
-    ap entries same ∙ entries-from_sorted path_cmp ((0 ∷ [], entry) ∷ []) tt
+    let es = (0 ∷ [], first) ∷ [] in
+    let same : table ≡ from_sorted es =
+    same_map nat_list_cmp_total (slice_cmp-IsAntisymmetric nat_cmp-IsAntisymmetric) _ _ (λ q. named_at q ∙ sym (get-from_sorted path_cmp es q tt)) in
+    ap entries same ∙ entries-from_sorted path_cmp es tt
 
-named : get table (0 ∷ []) ≡ Some entry
-named = get-insert nat_list_cmp_total empty (0 ∷ []) entry (0 ∷ [])
+-- the two paths differ, so that either can be looked for first
+apart : (q : List ℕ) → q ≡ 0 ∷ [] → q ≡ 1 ∷ [] → ⊥
+apart q h k = cc
 
-abbrev rendered_with : List (Path × Entry ℕ) → Option (Entry ℕ) → List Rendering
-rendered_with es e =
+either_first : (q : Path) (a b : Bool) → eq_by_cmp path_cmp q (0 ∷ []) ≡ a → eq_by_cmp path_cmp q (1 ∷ []) ≡ b
+    → cond b (Some second) (cond a (Some first) None) ≡ cond a (Some first) (cond b (Some second) None)
+either_first q true true h k = absurd (apart q (same_path q (0 ∷ []) (texts_ties q (0 ∷ []) ∙ h)) (same_path q (1 ∷ []) (texts_ties q (1 ∷ []) ∙ k)))
+either_first q true false h k = refl
+either_first q false true h k = refl
+either_first q false false h k = refl
+
+more_listed : entries more_table ≡ (0 ∷ [], first) ∷ (1 ∷ [], second) ∷ []
+more_listed =
+    let es = (0 ∷ [], first) ∷ (1 ∷ [], second) ∷ [] in
+    let same : more_table ≡ from_sorted es = same_map nat_list_cmp_total (slice_cmp-IsAntisymmetric nat_cmp-IsAntisymmetric) _ _ (λ q.
+    get-insert nat_list_cmp_total table (1 ∷ []) second q ∙ ap (cond (eq_by_cmp path_cmp q (1 ∷ [])) (Some second)) (named_at q)
+    ∙ either_first q _ _ refl refl ∙ sym (get-from_sorted path_cmp es q tt)) in
+    ap entries same ∙ entries-from_sorted path_cmp es tt
+
+abbrev rendered_with : List (Path × Entry ℕ) → Option (Entry ℕ) → List (Path × Entry ℕ) → List Rendering
+rendered_with es e fs =
     record { input = inputs.Tick 0 true (Some (map (frozen (counter_at slots)) es, [], 0)); result = Ok answers.Drawn }
-    ∷ record { input = inputs.Tick 1 true (Some (map (frozen (counter_at slots)) es, message_of 1 Info (name_of e) (codes "x") ∷ [], 1)); result = Ok answers.Drawn }
+    ∷ record { input = inputs.Tick 1 true (Some (map (frozen (counter_at more_slots)) fs, message_of 1 Info (name_of e) (codes "x") ∷ [], 1)); result = Ok answers.Drawn }
     ∷ record { input = inputs.Quit 2; result = Ok answers.Ended } ∷ []
 
 abbrev rendered : List Rendering
-rendered = rendered_with ((0 ∷ [], entry) ∷ []) (Some entry)
+rendered = rendered_with ((0 ∷ [], first) ∷ []) (Some first) ((0 ∷ [], first) ∷ (1 ∷ [], second) ∷ [])
 
-rendered_by : renderings ≡ rendered_with (entries table) (get table (0 ∷ []))
+rendered_by : renderings ≡ rendered_with (entries table) (get table (0 ∷ [])) (entries more_table)
 rendered_by = refl
 
 is_rendered : renderings ≡ rendered
-is_rendered = rendered_by ∙ (λ i. rendered_with (listed i) (named i))
+is_rendered = rendered_by ∙ (λ i. rendered_with (listed i) (named_at (0 ∷ []) i) (more_listed i))
 
 -- what a blank page shows after the first n frames
 abbrev page_of : ℕ → List Rendering → Canvas
@@ -98,7 +128,7 @@ row_drawn : page_of 1 rendered ≡ shows (cells (codes " a") 38 ∷ blank 40 ∷
 unfolding chars str_width step past_emoji
 row_drawn = refl
 
-message_printed : page_of 2 rendered ≡ shows (cells (codes " a x") 36 ∷ blank 40 ∷ blank 40 ∷ blank 40 ∷ []) 1
+message_printed : page_of 2 rendered ≡ shows (cells (codes " a x") 36 ∷ cells (codes " a") 38 ∷ cells (codes " b") 38 ∷ blank 40 ∷ []) 1
 unfolding chars str_width step past_emoji
 message_printed = refl
 
@@ -109,7 +139,7 @@ closed = refl
 pub after_row : page_of 1 renderings ≡ shows (cells (codes " a") 38 ∷ blank 40 ∷ blank 40 ∷ blank 40 ∷ []) 0
 after_row = ap (page_of 1) is_rendered ∙ row_drawn
 
-pub after_message : page_of 2 renderings ≡ shows (cells (codes " a x") 36 ∷ blank 40 ∷ blank 40 ∷ blank 40 ∷ []) 1
+pub after_message : page_of 2 renderings ≡ shows (cells (codes " a x") 36 ∷ cells (codes " a") 38 ∷ cells (codes " b") 38 ∷ blank 40 ∷ []) 1
 after_message = ap (page_of 2) is_rendered ∙ message_printed
 
 pub after_quit : page_of 3 renderings ≡ shows (cells (codes " a x") 36 ∷ blank 40 ∷ blank 40 ∷ blank 40 ∷ []) 1
@@ -141,7 +171,7 @@ rendered_fits = record {
           },
           tt,
         );
-        body = tt;
+        body = ((record { plain = record { pieces = (one_char 32 (refl, refl) refl refl, (one_char 97 (refl, refl) refl refl, tt)); columns = refl }; within = omega arith }, (record { plain = record { pieces = (one_char 32 (refl, refl) refl refl, (one_char 98 (refl, refl) refl refl, tt)); columns = refl }; within = omega arith }, tt)), omega arith);
       },
       (record { messages = tt; body = tt }, tt),
     ),
