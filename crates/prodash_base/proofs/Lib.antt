@@ -1,5 +1,6 @@
 pub mod BranchLaws
 pub mod AdjacencyLaws
+pub mod AncestorLaws
 pub mod RingLaws
 pub mod WorkedAdjacency
 pub mod WorkedPaths

@@ -1,11 +1,11 @@
 -- Adjacency: on which sides a path and its ancestors have siblings in a list of paths.
-use Rattle.std.specs.Prelude.{◌≡◌, ℕ, ◌-◌, Bool, true, false, ◌&&◌, ◌||◌, nat_eq, nat_lt, List, [], ◌∷◌, length, take, map, find, unwrap_or, Option, Some, None, slice_get, if◌then◌else◌}
+use Rattle.std.specs.Prelude.{◌≡◌, ℕ, ◌-◌, ◌<◌, ◌≤◌, ◌⊎◌, Bool, true, false, ◌&&◌, ◌||◌, nat_eq, nat_lt, List, [], ◌∷◌, length, take, map, find, unwrap_or, Option, Some, None, slice_get, if◌then◌else◌}
 use Rattle.std.specs.List.{AllAdjacentBelow, list_any}
 use Rattle.std.specs.Option.{option_map}
 use Rattle.std.specs.declared.cmp.Ordering.TheVariants.{Less}
 use Rattle.std.specs.Ordering.{is_lt, is_gt}
 use Rattle.std.specs.Cmp.Lexicographic.{pointwise}
-use Rattle.prodash_base.specs.Path.{Path, path_cmp}
+use Rattle.prodash_base.specs.Path.{Path, path_cmp, max_level}
 use Rattle.prodash_base.specs.declared.progress.Row.{Row}
 use Rattle.prodash_base.specs.declared.progress.key.adjacency.Adjacency.{Adjacency}
 use Rattle.prodash_base.specs.declared.progress.key.adjacency.SiblingLocation.{SiblingLocation}
@@ -88,6 +88,12 @@ locations a = a.0 ∷ a.1 ∷ a.2 ∷ a.3 ∷ a.4 ∷ a.5 ∷ []
 -- the location at a level from 1 to 6
 abbrev pub location_at : Adjacency → ℕ → Option SiblingLocation
 location_at a n = if nat_eq n 0 then None else slice_get (locations a) (n - 1)
+
+-- the locations of the ancestors of p: each has siblings on both sides, or is `NotFound`
+abbrev pub AncestorsOnBothSides : Adjacency → Path → Type 0
+AncestorsOnBothSides a p =
+    (n : ℕ) → 0 < n → n < length p → n ≤ max_level
+    → (location_at a n ≡ Some AboveAndBelow) ⊎ (location_at a n ≡ Some NotFound)
 
 -- the test of a location other than `NotFound`
 abbrev pub is_found : Option SiblingLocation → Bool

@@ -1,8 +1,8 @@
-ghost use Rattle.std.specs.Prelude.{◌≡◌, ℕ, ◌<◌, ◌≤◌, ◌-◌, ◌↔◌, IsTrue, Some, length};
+ghost use Rattle.std.specs.Prelude.{◌≡◌, ℕ, ◌<◌, ◌≤◌, ◌-◌, ◌↔◌, IsTrue, IfSome, Some, length, slice_get};
 ghost use Rattle.std.specs.List.{AllWithin};
 ghost use Rattle.std.specs.Ordering.{is_lt, is_le, is_ge, is_gt};
 ghost use Rattle.prodash_base.specs.Adjacency as spec;
-ghost use Rattle.prodash_base.specs.Adjacency.{IsAscending, adjacency_at, paths_of};
+ghost use Rattle.prodash_base.specs.Adjacency.{AncestorsOnBothSides, IsAscending, adjacency_at, paths_of};
 ghost use Rattle.prodash_base.specs.plumbing.Branches.{path_at, cmp_prefix, HasLevel};
 
 use crate::progress::Row;
@@ -21,7 +21,9 @@ impl Key {
     pub fn adjacency(sorted: &[Row], index: usize) -> Adjacency
         requires sorted { IsAscending (paths_of sorted.now) }
         requires inside { index < length sorted.now }
-        ensures { adjacency_at (paths_of sorted.now) index ≡ Some result }
+        ensures value { adjacency_at (paths_of sorted.now) index ≡ Some result }
+        ensures ancestors { let own = slice_get (paths_of sorted.now) index in
+            IfSome own (AncestorsOnBothSides result) }
     {
         Adjacency(
             location(sorted, index, 1),
