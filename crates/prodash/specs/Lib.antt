@@ -20,3 +20,4 @@ pub use Rattle.prodash_core.specs.Trees
 pub use Rattle.prodash_core.specs.Sessions
 pub use Rattle.prodash_core.specs.Runs
 pub use Rattle.prodash_core.specs.Dashboard
+pub use Rattle.prodash_core.specs.Prefixes

@@ -64,7 +64,7 @@ const LOCATIONS: [(&[&[u16]], usize, [SiblingLocation; 6], Level); 21] = [
 ];
 
 /// The key of each row is less than that of the next.
-fn assert_sorted(rt: &impl Abort, rows: &[Row])
+pub(crate) fn assert_sorted(rt: &impl Abort, rows: &[Row])
     ensures { IsAscending (paths_of rows.now) }
 {
     for i in 1..rows.len() {

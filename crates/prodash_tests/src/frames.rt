@@ -34,7 +34,7 @@ const NEXT_GONE_FRAME: &str =
     " task 3/10 [=======>-------------------]\n                                        \n\x1b[2A";
 
 #[rattlefmt::skip]
-const FRAMES: [Drawing; 15] = [
+const FRAMES: [Drawing; 20] = [
     // rows that were on screen before are not drawn again
     Drawing((40, 24), &[(Show(&[TASK]), Ok(TASK_FRAME)), (Show(&[TASK]), Ok(""))]),
     // nor are rows that were hidden, until they change
@@ -50,8 +50,15 @@ const FRAMES: [Drawing; 15] = [
     // a bar with one column left, and no bar with none
     Drawing((8, 24), &[(Show(&[("t", THREE_OF_TEN)]), Ok(" t 3/10 [>]\n\x1b[1A"))]),
     Drawing((7, 24), &[(Show(&[("t", THREE_OF_TEN)]), Ok(" t 3/10\n\x1b[1A"))]),
-    // no bound, no bar
-    Drawing((40, 24), &[(Show(&[("t", Some((3, None)))]), Ok(" t 3\n\x1b[1A"))]),
+    // without a bound, a cell for each number from the step on, the last one first
+    Drawing((40, 24), &[(Show(&[("t", Some((3, None)))]), Ok(" t 3 [   ===   ===   ===   ===   ===   ]\n\x1b[1A"))]),
+    Drawing((18, 24), &[(Show(&[("t", Some((2, None)))]), Ok(" t 2 [=   ===   =]\n\x1b[1A")), (Show(&[("t", Some((3, None)))]), Ok(" t 3 [==   ===   ]\n\x1b[1A"))]),
+    // no cell from 2^64-1 on
+    Drawing((40, 24), &[(Show(&[("t", Some((18446744073709551612, None)))]), Ok(" t 18446744073709551612 [===]\n\x1b[1A"))]),
+    Drawing((40, 24), &[(Show(&[("t", Some((18446744073709551615, None)))]), Ok(" t 18446744073709551615 []\n\x1b[1A"))]),
+    // such a bar with one column left, and no bar with none
+    Drawing((5, 24), &[(Show(&[("t", Some((3, None)))]), Ok(" t 3 []\n\x1b[1A"))]),
+    Drawing((4, 24), &[(Show(&[("t", Some((3, None)))]), Ok(" t 3\n\x1b[1A"))]),
     // two characters of two columns each, then a narrower line
     Drawing((40, 24), &[
         (Show(&[("日本", None)]), Ok(" 日本\n\x1b[1A")),

@@ -14,6 +14,8 @@ mod frames;
 #[cfg(test)]
 mod keys;
 #[cfg(test)]
+mod level_prefix;
+#[cfg(test)]
 mod message_lines;
 #[cfg(test)]
 mod messages;
