@@ -8,7 +8,7 @@ use Rattle.prodash_base.specs.Path.{Path, path_cmp}
 
 -- the path at an index
 abbrev pub path_at : List Path → ℕ → Path
-path_at S i = slice_index_or S i []
+path_at paths i = slice_index_or paths i []
 
 -- the order of the first n numbers of two paths
 abbrev pub cmp_prefix : ℕ → Path → Path → Ordering
@@ -16,14 +16,16 @@ cmp_prefix n q p = path_cmp (take n q) (take n p)
 
 -- the index of the first path whose first n numbers are those of p or greater
 abbrev pub StartsBranch : List Path → Path → ℕ → ℕ → Type 0
-StartsBranch S p n =
-    IsPartitionPoint (λ q. IsTrue (is_lt (cmp_prefix n q p))) (λ q. IsTrue (is_ge (cmp_prefix n q p))) S
+StartsBranch paths p n =
+    IsPartitionPoint
+    (λ q. IsTrue (is_lt (cmp_prefix n q p))) (λ q. IsTrue (is_ge (cmp_prefix n q p))) paths
 
 -- the index of the first path whose first n numbers are greater than those of p
 abbrev pub EndsBranch : List Path → Path → ℕ → ℕ → Type 0
-EndsBranch S p n =
-    IsPartitionPoint (λ q. IsTrue (is_le (cmp_prefix n q p))) (λ q. IsTrue (is_gt (cmp_prefix n q p))) S
+EndsBranch paths p n =
+    IsPartitionPoint
+    (λ q. IsTrue (is_le (cmp_prefix n q p))) (λ q. IsTrue (is_gt (cmp_prefix n q p))) paths
 
--- a path with l numbers at an index from i up to j
+-- a path with n numbers at an index from i up to j
 abbrev pub HasLevel : List Path → ℕ → ℕ → ℕ → Type 0
-HasLevel S l i j = (k : ℕ) × (i ≤ k) × (k < j) × (length (path_at S k) ≡ l)
+HasLevel paths n i j = (k : ℕ) × (i ≤ k) × (k < j) × (length (path_at paths k) ≡ n)
