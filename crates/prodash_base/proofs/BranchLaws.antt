@@ -1,7 +1,7 @@
 -- Branches of an ascending list of paths.
 use Rattle.std.proofs.Common.{◌≡◌, ℕ, zero, suc, ◌+◌, ◌<◌, ◌≤◌, List, [], ◌∷◌, length, take, map, get_or, Bool, true, false, IsTrue, inl, inr, refl, sym, ap, subst, ◌∙◌, arith}
 use Rattle.std.specs.List.{AllWithin}
-use Rattle.std.specs.List.Sorted.{IsPartitionedBy}
+use Rattle.std.specs.List.Sorted.{IsPartitionPoint, IsPartitionedBy}
 use Rattle.std.specs.Ordering.{nat_cmp, ordering_then, ordering_reverse, is_lt, is_gt, is_le, is_ge}
 use Rattle.std.specs.declared.cmp.Ordering.{Ordering}
 use Rattle.std.specs.declared.cmp.Ordering.TheVariants.{Less, Equal, Greater}
@@ -167,10 +167,16 @@ module _ {X : Type 0} (f : X → Path) where
       let there : test (get_or (map f xs) j (f d)) ≡ true = subst (λ q. test q ≡ true) (sym (listn.get_or-map f xs j d)) at_j in
       subst (λ q. test q ≡ true) (listn.get_or-map f xs i d) (h i j (f d) ij long there)
 
-  pub paths_within : (P : Path → Type 0) (xs : List X) (i j : ℕ) → j ≤ length xs → AllWithin (λ x. P (f x)) xs i j → AllWithin P (map f xs) i j
+  paths_within : (P : Path → Type 0) (xs : List X) (i j : ℕ) → j ≤ length xs → AllWithin (λ x. P (f x)) xs i j → AllWithin P (map f xs) i j
   paths_within P [] i j jn h k d ik kj = absurd (omega arith)
   paths_within P (x ∷ xs) i j jn h k d ik kj =
       subst P (sym (get_or-map f (x ∷ xs) k x d (omega arith))) (h k x ik kj)
+
+  pub paths_parted : (test : Path → Bool) {other : Path → Bool} → ((q : Path) → test q ≡ false → other q ≡ true) → (xs : List X) (i : ℕ) → i ≤ length xs
+      → IsPartitionPoint (λ x. test (f x) ≡ true) (λ x. test (f x) ≡ false) xs i → IsPartitionPoint (λ q. test q ≡ true) (λ q. other q ≡ true) (map f xs) i
+  paths_parted test opposite xs i short at =
+      let rest = paths_within (λ q. test q ≡ false) xs i (length xs) (omega arith) at.1 in
+      (paths_within (λ q. test q ≡ true) xs 0 i short at.0, λ k d low high. opposite _ (rest k d low (subst (λ n. k < n) (length-map xs f) high)))
 
   pub path_of_row : (xs : List X) (i : ℕ) (d : X) → i < length xs → path_at (map f xs) i ≡ f (get_or xs i d)
   path_of_row xs i d h = get_or-map f xs i d [] h

@@ -1,9 +1,7 @@
 ghost use Rattle.std.specs.Prelude.{◌≡◌, ℕ, ◌<◌, ◌≤◌, ◌-◌, ◌↔◌, IsTrue, IfSome, Some, length, slice_get};
-ghost use Rattle.std.specs.List.{AllWithin};
-ghost use Rattle.std.specs.Ordering.{is_lt, is_le, is_ge, is_gt};
 ghost use Rattle.prodash_base.specs.Adjacency as spec;
 ghost use Rattle.prodash_base.specs.Adjacency.{AncestorsOnBothSides, IsAscending, adjacency_at, paths_of};
-ghost use Rattle.prodash_base.specs.plumbing.Branches.{path_at, cmp_prefix, HasLevel};
+ghost use Rattle.prodash_base.specs.plumbing.Branches.{path_at, HasLevel, StartsBranch, EndsBranch};
 
 use crate::progress::Row;
 use crate::progress::key::{Adjacency, Key, Level, SiblingLocation};
@@ -131,10 +129,7 @@ fn has_level(sorted: &[Row], start: usize, end: usize, level: Level) -> bool
 fn first_of_branch(sorted: &[Row], key: &Key, level: Level) -> usize
     requires sorted { IsAscending (paths_of sorted.now) }
     ensures bound { result ≤ length sorted.now }
-    ensures before { let paths = paths_of sorted.now in
-        AllWithin (λ q. IsTrue (is_lt (cmp_prefix level q key.now))) paths 0 result }
-    ensures rest { let paths = paths_of sorted.now in
-        AllWithin (λ q. IsTrue (is_ge (cmp_prefix level q key.now))) paths result (length paths) }
+    ensures start { StartsBranch (paths_of sorted.now) key.now level result }
 {
     sorted.partition_point(|row| row.key.cmp_prefix(key, level).is_lt())
 }
@@ -144,10 +139,7 @@ fn first_of_branch(sorted: &[Row], key: &Key, level: Level) -> usize
 fn end_of_branch(sorted: &[Row], key: &Key, level: Level) -> usize
     requires sorted { IsAscending (paths_of sorted.now) }
     ensures bound { result ≤ length sorted.now }
-    ensures before { let paths = paths_of sorted.now in
-        AllWithin (λ q. IsTrue (is_le (cmp_prefix level q key.now))) paths 0 result }
-    ensures rest { let paths = paths_of sorted.now in
-        AllWithin (λ q. IsTrue (is_gt (cmp_prefix level q key.now))) paths result (length paths) }
+    ensures end { EndsBranch (paths_of sorted.now) key.now level result }
 {
     sorted.partition_point(|row| row.key.cmp_prefix(key, level).is_le())
 }

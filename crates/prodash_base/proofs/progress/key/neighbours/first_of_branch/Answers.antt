@@ -1,25 +1,17 @@
-use Rattle.std.proofs.Common.{◌≡◌, ◌<◌, rules, arith, length, true, false, subst}
+use Rattle.std.proofs.Common.{rules}
 use Rattle.std.specs.Ordering.{is_lt}
-use Rattle.std.proofs.lemmas.List.{length-map}
 use Rattle.std.proofs.lemmas.List.Sorted.{IsPartitionPoint-from_clause}
 use Rattle.prodash_base.specs.declared.progress.Row.{Row}
+use Rattle.prodash_base.specs.Path.{Path}
 use Rattle.prodash_base.specs.plumbing.Branches.{cmp_prefix}
-use Rattle.prodash_base.proofs.BranchLaws.{parted_lt, rows_parted, paths_within, ge_if_not_lt}
+use Rattle.prodash_base.proofs.BranchLaws.{parted_lt, rows_parted, paths_parted, ge_if_not_lt}
 use Rattle.prodash_base.proofs.progress.key.neighbours.first_of_branch.Goals as goal
 
-pub returns-clause-before : goal.returns-clause-before
-returns-clause-before c =
+pub returns-clause-start : goal.returns-clause-start
+returns-clause-start c =
     let key = λ (r : Row). r.key in
     let rows = c.args.sorted.now in
-    let parted = rows_parted key (λ q. is_lt (cmp_prefix c.args.level q c.args.key.now)) rows (parted_lt _ c.requires.sorted c.args.level c.args.key.now) in
-    let point = IsPartitionPoint-from_clause (λ (r : Row). is_lt (cmp_prefix c.args.level r.key c.args.key.now)) rows c.partition_point.result c.partition_point.ensures.partitioned parted (λ a r q k. search rules) in
-    paths_within key (λ q. is_lt (cmp_prefix c.args.level q c.args.key.now) ≡ true) rows 0 c.partition_point.result c.partition_point.ensures.bound point.0
-
-pub returns-clause-rest : goal.returns-clause-rest
-returns-clause-rest c =
-    let key = λ (r : Row). r.key in
-    let rows = c.args.sorted.now in
-    let parted = rows_parted key (λ q. is_lt (cmp_prefix c.args.level q c.args.key.now)) rows (parted_lt _ c.requires.sorted c.args.level c.args.key.now) in
-    let point = IsPartitionPoint-from_clause (λ (r : Row). is_lt (cmp_prefix c.args.level r.key c.args.key.now)) rows c.partition_point.result c.partition_point.ensures.partitioned parted (λ a r q k. search rules) in
-    let within = paths_within key (λ q. is_lt (cmp_prefix c.args.level q c.args.key.now) ≡ false) rows c.partition_point.result (length rows) (omega arith) point.1 in
-    λ k d low high. ge_if_not_lt _ (within k d low (subst (λ n. k < n) (length-map rows key) high))
+    let test = λ (q : Path). is_lt (cmp_prefix c.args.level q c.args.key.now) in
+    let parted = rows_parted key test rows (parted_lt _ c.requires.sorted c.args.level c.args.key.now) in
+    let point = IsPartitionPoint-from_clause (λ (r : Row). test r.key) rows c.partition_point.result c.partition_point.ensures.partitioned parted (λ a r q k. search rules) in
+    paths_parted key test (λ q. ge_if_not_lt _) rows c.partition_point.result c.partition_point.ensures.bound point
