@@ -29,11 +29,17 @@ pub enum SiblingLocation {
 /// ```
 #[derive(Clone, Copy, Debug, Default, PartialEq, Eq, PartialOrd, Ord)]
 pub struct Adjacency(
+    /// At level 1.
     pub SiblingLocation,
+    /// At level 2.
     pub SiblingLocation,
+    /// At level 3.
     pub SiblingLocation,
+    /// At level 4.
     pub SiblingLocation,
+    /// At level 5.
     pub SiblingLocation,
+    /// At level 6.
     pub SiblingLocation,
 );
 
