@@ -1,5 +1,5 @@
 -- Adjacency: the paths that the tests of `specs/Adjacency.antt` find, as indices of the list.
-use Rattle.std.proofs.Common.{◌≡◌, ℕ, suc, ◌+◌, ◌-◌, ◌<◌, ◌≤◌, List, [], ◌∷◌, length, take, Bool, true, false, IsTrue, ◌&&◌, inl, inr, refl, sym, ap, subst, ◌∙◌, arith}
+use Rattle.std.proofs.Common.{◌≡◌, ℕ, suc, ◌+◌, ◌-◌, ◌<◌, ◌≤◌, List, [], ◌∷◌, length, take, Bool, true, false, IsTrue, ◌&&◌, ◌↔◌, get_or, inl, inr, refl, sym, ap, subst, ◌∙◌, arith}
 use Rattle.std.specs.List.{AllWithin, list_any}
 use Rattle.std.specs.Ordering.{is_lt, is_gt, is_le, is_ge}
 use Rattle.std.specs.declared.cmp.Ordering.{Ordering}
@@ -8,12 +8,13 @@ use Rattle.std.specs.Cmp.{unsigned_Decides}
 use Rattle.std.specs.Cmp.Lexicographic.{bytes_decides}
 use Rattle.std.proofs.lemmas.Cmp.{tied_itself, nat_list_cmp_total}
 use Rattle.std.proofs.lemmas.Bool.{cases_lt, or_cases, and_parts}
-use Rattle.std.proofs.lemmas.List.{take_all, length-take-le}
+use Rattle.std.proofs.lemmas.List.{take_all, length-map, length-take-le}
 use Rattle.std.proofs.lemmas.List.Folds.{list_any_at}
+use Rattle.prodash_base.specs.declared.progress.Row.{Row}
 use Rattle.prodash_base.specs.Path.{Path, path_cmp}
-use Rattle.prodash_base.specs.Adjacency.{IsAscending, is_path, is_sibling, has_sibling_before, has_parent, has_below}
-use Rattle.prodash_base.specs.plumbing.Branches.{path_at, cmp_prefix, HasLevel}
-use Rattle.prodash_base.proofs.BranchLaws.{in_order, turned, equal_if_both, same_prefix, prefix_ties, prefix_le, prefix_up}
+use Rattle.prodash_base.specs.Adjacency.{IsAscending, paths_of, is_path, is_sibling, has_sibling_before, has_parent, has_below}
+use Rattle.prodash_base.specs.plumbing.Branches.{path_at, cmp_prefix, HasLevel, StartsBranch, EndsBranch}
+use Rattle.prodash_base.proofs.BranchLaws.{in_order, turned, equal_if_both, same_prefix, prefix_ties, prefix_le, prefix_up, path_of_row, row_inside}
 
 both : (a b : Bool) → a ≡ true → b ≡ true → (a && b) ≡ true
 both a b x y i = x i && y i
@@ -176,3 +177,36 @@ module _ (S : List Path) (up : IsAscending S) (x : ℕ) (inside : x < length S) 
               absurd (cc)
           | inr ge ↦ let e : k ≡ first = omega arith in ap (λ j. length (path_at S j)) (sym e) ∙ level
         ]
+
+-- the same, of rows: `first` and `end` are the bounds of the branch of the row at index x
+module _ (rows : List Row) (up : IsAscending (paths_of rows)) (x : ℕ) (d : Row) (inside : x < length rows) (l : ℕ) where
+  own_key : path_at (paths_of rows) x ≡ (get_or rows x d).key
+  own_key = path_of_row (λ (r : Row). r.key) rows x d inside
+
+  own_inside : x < length (paths_of rows)
+  own_inside = row_inside (λ (r : Row). r.key) rows x inside
+
+  pub below_rows : (end : ℕ) → end ≤ length rows → EndsBranch (paths_of rows) (get_or rows x d).key (l - 1) end
+      → HasLevel (paths_of rows) l (x + 1) end ↔ (has_below (paths_of rows) (path_at (paths_of rows) x) l ≡ true)
+  below_rows end short branch =
+      let own = subst (λ p. EndsBranch (paths_of rows) p (l - 1) end) (sym own_key) branch in
+      let long = length-map rows (λ (r : Row). r.key) in
+      (found_after (paths_of rows) up x own_inside l end (omega arith) own.0, after_found (paths_of rows) up x own_inside l end own.1)
+
+  module _ (first : ℕ) (branch : StartsBranch (paths_of rows) (get_or rows x d).key (l - 1) first) where
+    own_branch : StartsBranch (paths_of rows) (path_at (paths_of rows) x) (l - 1) first
+    own_branch = subst (λ p. StartsBranch (paths_of rows) p (l - 1) first) (sym own_key) branch
+
+    pub sibling_rows : HasLevel (paths_of rows) l first x ↔ (has_sibling_before (paths_of rows) (path_at (paths_of rows) x) l ≡ true)
+    sibling_rows = (found_before (paths_of rows) up x own_inside l first own_branch.1, before_found (paths_of rows) up x own_inside l first own_branch.0)
+
+    pub first_inside : first < length rows
+    first_inside = let fx = first_le (paths_of rows) up x own_inside (l - 1) first own_branch.0 in omega arith
+
+    pub parent_row : (e : Row) → l ≤ length (path_at (paths_of rows) x)
+        → (length (get_or rows first e).key ≡ l - 1) ↔ (has_parent (paths_of rows) (path_at (paths_of rows) x) l ≡ true)
+    parent_row e short =
+        let at = path_of_row (λ (r : Row). r.key) rows first e first_inside in (
+          λ level. first_is_parent (paths_of rows) up x own_inside l first own_branch.0 own_branch.1 (ap length at ∙ level),
+          λ t. sym (ap length at) ∙ parent_is_first (paths_of rows) up x own_inside l first own_branch.0 own_branch.1 short t,
+        )

@@ -14,7 +14,7 @@ use Rattle.std.proofs.lemmas.List.{take_all, length-map, get_or-map}
 use Rattle.std.proofs.Math.ListN as listn
 use Rattle.prodash_base.specs.Path.{Path, path_cmp}
 use Rattle.prodash_base.specs.Adjacency.{IsAscending}
-use Rattle.prodash_base.specs.plumbing.Branches.{path_at, cmp_prefix}
+use Rattle.prodash_base.specs.plumbing.Branches.{path_at, cmp_prefix, EndsBranch}
 
 -- tests of orders
 not_greater : (o : Ordering) → (o ≡ Greater → ⊥) → is_gt o ≡ false
@@ -161,7 +161,7 @@ module _ (S : List Path) (up : IsAscending S) (l i end next after : ℕ) (inside
 
 -- tests of the paths of rows
 module _ {X : Type 0} (f : X → Path) where
-  pub rows_parted : (test : Path → Bool) (xs : List X) → IsPartitionedBy test (map f xs) → IsPartitionedBy (λ x. test (f x)) xs
+  rows_parted : (test : Path → Bool) (xs : List X) → IsPartitionedBy test (map f xs) → IsPartitionedBy (λ x. test (f x)) xs
   rows_parted test xs h i j d ij jn at_j =
       let long : j < length (map f xs) = subst (λ n. j < n) (sym (length-map xs f)) jn in
       let there : test (get_or (map f xs) j (f d)) ≡ true = subst (λ q. test q ≡ true) (sym (listn.get_or-map f xs j d)) at_j in
@@ -172,11 +172,38 @@ module _ {X : Type 0} (f : X → Path) where
   paths_within P (x ∷ xs) i j jn h k d ik kj =
       subst P (sym (get_or-map f (x ∷ xs) k x d (omega arith))) (h k x ik kj)
 
-  pub paths_parted : (test : Path → Bool) {other : Path → Bool} → ((q : Path) → test q ≡ false → other q ≡ true) → (xs : List X) (i : ℕ) → i ≤ length xs
+  paths_parted : (test : Path → Bool) {other : Path → Bool} → ((q : Path) → test q ≡ false → other q ≡ true) → (xs : List X) (i : ℕ) → i ≤ length xs
       → IsPartitionPoint (λ x. test (f x) ≡ true) (λ x. test (f x) ≡ false) xs i → IsPartitionPoint (λ q. test q ≡ true) (λ q. other q ≡ true) (map f xs) i
   paths_parted test opposite xs i short at =
       let rest = paths_within (λ q. test q ≡ false) xs i (length xs) (omega arith) at.1 in
       (paths_within (λ q. test q ≡ true) xs 0 i short at.0, λ k d low high. opposite _ (rest k d low (subst (λ n. k < n) (length-map xs f) high)))
 
+  -- the point that a test of the rows' paths finds, as a point of the paths
+  pub point_of_paths : (test : Path → Bool) {other : Path → Bool} → ((q : Path) → test q ≡ false → other q ≡ true) → (xs : List X) (i : ℕ) → i ≤ length xs
+      → (IsPartitionedBy (λ x. test (f x)) xs → IsPartitionPoint (λ x. test (f x) ≡ true) (λ x. test (f x) ≡ false) xs i)
+      → IsPartitionedBy test (map f xs) → IsPartitionPoint (λ q. test q ≡ true) (λ q. other q ≡ true) (map f xs) i
+  point_of_paths test opposite xs i short found parted = paths_parted test opposite xs i short (found (rows_parted test xs parted))
+
   pub path_of_row : (xs : List X) (i : ℕ) (d : X) → i < length xs → path_at (map f xs) i ≡ f (get_or xs i d)
   path_of_row xs i d h = get_or-map f xs i d [] h
+
+  pub row_inside : (xs : List X) (i : ℕ) → i < length xs → i < length (map f xs)
+  row_inside xs i h = subst (λ n. i < n) (sym (length-map xs f)) h
+
+  -- the step past the branch of a row
+  module _ (xs : List X) (up : IsAscending (map f xs)) (l i end next after : ℕ) (d : X) (inside : end ≤ length xs) (here : next < end)
+      (branch : EndsBranch (map f xs) (f (get_or xs next d)) l after) where
+    own_row : path_at (map f xs) next ≡ f (get_or xs next d)
+    own_row = path_of_row xs next d (omega arith)
+
+    own_branch : EndsBranch (map f xs) (path_at (map f xs) next) l after
+    own_branch = subst (λ p. EndsBranch (map f xs) p l after) (sym own_row) branch
+
+    all_inside : end ≤ length (map f xs)
+    all_inside = subst (λ n. end ≤ n) (sym (length-map xs f)) inside
+
+    pub row_past : next < after
+    row_past = branch_past (map f xs) up l i end next after all_inside here own_branch.1
+
+    pub no_row_more : (length (f (get_or xs next d)) ≡ l → ⊥) → NoneYet (map f xs) l i end next → NoneYet (map f xs) l i end after
+    no_row_more other = none_more (map f xs) up l i end next after all_inside here own_branch.0 (λ e. other (sym (ap length own_row) ∙ e))

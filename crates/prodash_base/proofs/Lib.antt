@@ -2,5 +2,17 @@ pub mod BranchLaws
 pub mod AdjacencyLaws
 pub mod AncestorLaws
 pub mod RingLaws
+pub mod SameKinds
 pub mod WorkedAdjacency
 pub mod WorkedPaths
+pub mod Prefixes
+pub mod Digits
+pub mod WorkedTexts
+pub mod MapViews
+pub mod SampleLaws
+pub mod WorkedSamples
+pub mod WorkedTrackers
+pub mod DayNumbers
+pub mod CalendarLaws
+pub mod ClockTexts
+pub mod WorkedMoments

@@ -8,7 +8,7 @@ use Rattle.prodash_base.specs.Rings.{new_ring, push, messages_since, latest_mess
 use Rattle.prodash_base.specs.declared.messages.Message.{Message}
 
 -- the last messages after one more
-keep_last-push : (a : ℕ) (xs : List Message) (m : Message) → keep_last a (keep_last a xs ++ m ∷ []) ≡ keep_last a (xs ++ m ∷ [])
+pub keep_last-push : (a : ℕ) (xs : List Message) (m : Message) → keep_last a (keep_last a xs ++ m ∷ []) ≡ keep_last a (xs ++ m ∷ [])
 keep_last-push a xs m =
     let n = length xs in
     let whole : length (xs ++ m ∷ []) ≡ n + 1 = length-append xs (m ∷ []) in

@@ -5,4 +5,15 @@ pub mod Adjacency
 pub mod Lends
 pub mod Messages
 pub mod Rings
+pub mod Numerals
+pub mod Quantities
+pub mod Shown
+pub mod Kinds
+pub mod Displays
+pub mod Units
+pub mod Parts
+pub mod ThroughputMessages
+pub mod Moments
+pub mod Samples
+pub mod Trackers
 pub mod plumbing

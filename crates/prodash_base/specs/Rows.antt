@@ -3,6 +3,7 @@ use Rattle.std.specs.Prelude.{ℕ, List, map, Option, Bool, true, false, ◌&&�
 use Rattle.std.specs.Cmp.Lexicographic.{pointwise}
 use Rattle.std.specs.Option.{option_map, option_eq}
 use Rattle.prodash_base.specs.Path.{Path}
+use Rattle.prodash_base.specs.Units.{Measure, measure_of, same_measure}
 use Rattle.prodash_base.specs.declared.progress.State.{State}
 use Rattle.prodash_base.specs.declared.progress.State.TheVariants as states
 use Rattle.prodash_base.specs.declared.progress.Value.{Value}
@@ -20,25 +21,40 @@ phase_of (states.Blocked reason eta) = Blocked reason.now eta
 phase_of (states.Halted reason eta) = Halted reason.now eta
 phase_of states.Running = Running
 
--- a progress with its counter of type C: a shared counter in the tree, a number in a row
-pub record Progress (C : Type 0) : Type 0 where
+-- a progress, with a counter of type C and perhaps a unit of type U: in the tree a shared counter and
+-- a unit of the program, in a row a number and what the unit says
+pub record Progress (C U : Type 0) : Type 0 where
   pub counter : C
   pub bound : Option ℕ
+  pub unit : Option U
   pub phase : Phase
 
 -- what a path of the tree holds: a name, an identifier, and a progress once it has one
-pub record Entry (C : Type 0) : Type 0 where
+pub record Entry (C U : Type 0) : Type 0 where
   pub name : List ℕ
   pub id : List ℕ
-  pub progress : Option (Progress C)
-
--- a path with its entry, whose counter is a number
-abbrev pub PathRow : Type 0
-PathRow = Path × Entry ℕ
+  pub progress : Option (Progress C U)
 
 -- the progress in a row
-abbrev pub progress_of : Value → Progress ℕ
-progress_of v = record { counter = v.step; bound = v.done_at; phase = phase_of v.state }
+abbrev pub RowProgress : Type 0
+RowProgress = Progress ℕ Measure
+
+-- the entry in a row
+abbrev pub RowEntry : Type 0
+RowEntry = Entry ℕ Measure
+
+-- a path with its entry
+abbrev pub PathRow : Type 0
+PathRow = Path × RowEntry
+
+-- what a value says
+abbrev pub progress_of : Value → RowProgress
+progress_of v = record {
+  counter = v.step;
+  bound = v.done_at;
+  unit = option_map measure_of v.unit;
+  phase = phase_of v.state;
+}
 
 -- the path and the entry of a row
 abbrev pub row_of : Row → PathRow
@@ -63,12 +79,14 @@ same_phase Running Running = true
 same_phase _ _ = false
 
 -- the test of equal progress
-abbrev pub same_progress : Progress ℕ → Progress ℕ → Bool
+abbrev pub same_progress : RowProgress → RowProgress → Bool
 same_progress p q =
-    nat_eq p.counter q.counter && (option_eq nat_eq p.bound q.bound && same_phase p.phase q.phase)
+    nat_eq p.counter q.counter
+    && (option_eq nat_eq p.bound q.bound
+    && (option_eq same_measure p.unit q.unit && same_phase p.phase q.phase))
 
 -- the test of equal entries
-abbrev pub same_entry : Entry ℕ → Entry ℕ → Bool
+abbrev pub same_entry : RowEntry → RowEntry → Bool
 same_entry e f =
     same_text e.name f.name && (same_text e.id f.id && option_eq same_progress e.progress f.progress)
 

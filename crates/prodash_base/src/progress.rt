@@ -7,11 +7,20 @@ mod rows;
 
 use crate::text::Text;
 use crate::time::Moment;
+use crate::unit::Unit;
 pub use key::{Key, Level};
 pub use rows::Rows;
+use std::sync::Arc;
+use std::sync::atomic::AtomicU64;
 
 /// The progress of a task, counted in a unit of its own.
 pub type Step = u64;
+
+/// A counter of steps that is changed by atomic operations.
+pub type AtomicStep = AtomicU64;
+
+/// An owner of a counter of steps. A counter has one or more.
+pub type StepShared = Arc<AtomicStep>;
 
 /// An identifier of an item, beside its name. It stays the same from run to run.
 pub type Id = [u8; 4];
@@ -40,6 +49,8 @@ pub struct Value {
     pub step: Step,
     /// The step at which the task is done, if known.
     pub done_at: Option<Step>,
+    /// The unit of the steps, if it has one.
+    pub unit: Option<Unit>,
     /// The state of the task.
     pub state: State,
 }

@@ -23,6 +23,9 @@ pub enum Refusal {
     /// The screen is broken. From now on the renderer returns this for every frame.
     #[error("output is broken")]
     Broken,
+    /// As many owners of the root as a `u64` can count exist already. Nothing has changed.
+    #[error("too many handles")]
+    TooManyHandles,
 }
 
 impl From<AllocError> for Refusal {

@@ -1,3 +1,99 @@
-//! Points in time.
+//! Moments, clocks, and moments as texts.
+ghost use Rattle.std.specs.Prelude.{◌≡◌, ℕ, ◌++◌, ◌/◌, pos, length, unsigned_abs, OnOk, IfOk, IfErr, string_bytes};
+ghost use Rattle.jiff.specs.Words.{epoch_day};
+ghost use Rattle.prodash_base.specs.plumbing.Prefixes.{IsPrefix};
+ghost use Rattle.prodash_base.specs.Moments.{CalendarDate, IsDateOf, IsDateTimeText, second_of, day_of, date_text, clock_text, time_text};
+
+use crate::appending::{push_ascii, push_last_digits};
+use crate::refusal::Refusal;
+use jiff::Timestamp;
+use jiff::civil::Date;
+use jiff::tz::Offset;
+use std::alloc::{AllocError, Global};
+
 /// A point in time: nanoseconds since 1970-01-01T00:00:00 in UTC.
 pub type Moment = u64;
+
+/// The length of a time of day in hours, minutes and seconds, as `23:34:33`.
+pub const DATE_TIME_HMS: usize = 8;
+
+/// Tells the time, and waits. No contract says what moment a clock gives, or how long it waits.
+pub trait Clock {
+    /// Returns the moment now.
+    fn now(&self) -> Moment;
+
+    /// Waits for `nanoseconds`.
+    fn sleep(&self, nanoseconds: u64);
+}
+
+/// Returns the time of day of a moment in UTC, as `23:34:33`. Parts of a second are cut.
+///
+/// # Errors
+///
+/// `Memory`, if out of memory.
+pub fn format_time_for_messages(alloc: Global, at: Moment) -> Result<String, Refusal>
+    ensures ok { IfOk result (λ text. string_bytes text ≡ time_text at) }
+    ensures length { IfOk result (λ text. length (string_bytes text) ≡ DATE_TIME_HMS) }
+    ensures err { IfErr result (λ e. e ≡ Refusal.Memory) }
+{
+    let mut time = String::new(alloc);
+    push_clock(&mut time, at / NANOSECONDS_PER_SECOND)?;
+    Ok(time)
+}
+
+/// Returns the date and the time of day of a moment in UTC, as `2554-07-21T23:34:33`. Parts of a
+/// second are cut.
+///
+/// # Errors
+///
+/// `Memory`, if out of memory.
+pub fn format_now_datetime_seconds(alloc: Global, at: Moment) -> Result<String, Refusal>
+    ensures ok { IfOk result (λ text. IsDateTimeText at (string_bytes text)) }
+    ensures err { IfErr result (λ e. e ≡ Refusal.Memory) }
+{
+    let mut text = String::new(alloc);
+    push_date(&mut text, date_of(at))?;
+    push_ascii(&mut text, b'T')?;
+    push_clock(&mut text, at / NANOSECONDS_PER_SECOND)?;
+    Ok(text)
+}
+
+const NANOSECONDS_PER_SECOND: u64 = 1_000_000_000;
+
+/// Returns the date of a moment.
+fn date_of(at: Moment) -> Date
+    ensures { epoch_day result ≡ pos (day_of at) }
+{
+    let timestamp = Timestamp::from_nanosecond(i128::from(at)).unwrap();
+    Offset::UTC.to_datetime(timestamp).date()
+}
+
+/// Appends a date, as `2554-07-21`.
+fn push_date(out: &mut String, date: Date) -> Result<(), AllocError>
+    ensures ok { OnOk result (string_bytes out.new ≡ string_bytes out.old ++ date_text
+        (record { year = unsigned_abs date.year; month = date.month; day = date.day })) }
+    ensures kept { IsPrefix (string_bytes out.old) (string_bytes out.new) }
+{
+    push_last_digits(out, 4, u128::from(date.year().unsigned_abs()))?;
+    push_ascii(out, b'-')?;
+    push_last_digits(out, 2, u128::from(date.month().unsigned_abs()))?;
+    push_ascii(out, b'-')?;
+    push_last_digits(out, 2, u128::from(date.day().unsigned_abs()))
+}
+
+/// Appends the time of day of a second since 1970, as `23:34:33`.
+fn push_clock(out: &mut String, seconds: u64) -> Result<(), AllocError>
+    ensures ok { OnOk result (string_bytes out.new ≡ string_bytes out.old ++ clock_text seconds) }
+    ensures kept { IsPrefix (string_bytes out.old) (string_bytes out.new) }
+{
+    push_last_digits(out, 2, u128::from(seconds / 3600 % 24))?;
+    push_ascii(out, b':')?;
+    push_last_digits(out, 2, u128::from(seconds / 60 % 60))?;
+    push_ascii(out, b':')?;
+    push_last_digits(out, 2, u128::from(seconds % 60))
+}
+
+/// A law of dates: no two dates have one day number.
+pub fn days_have_one_date()
+    ensures { (number : ℕ) (d e : CalendarDate) → IsDateOf number d → IsDateOf number e → d ≡ e }
+{}

@@ -2,6 +2,7 @@
 use Rattle.std.proofs.Common.{◌≡◌, true, nat_eq, refl}
 use Rattle.std.specs.Option.{option_eq}
 use Rattle.prodash_base.specs.Rows.{Phase, Blocked, Halted, Running, same_text, same_phase, same_progress, same_entry, same_rows}
+use Rattle.prodash_base.specs.plumbing.SameUnits.{measures}
 use Rattle.prodash_base.specs.plumbing.EqualityTests.{IsEqualityTest, same_pair, sound, itself, by_cases, numbers, texts, lists, options, pairs, by_parts}
 
 -- a reason, with the moment from which the task may go on
@@ -24,8 +25,9 @@ phases = by_cases phase_sound phase_itself
 
 progresses : IsEqualityTest same_progress
 progresses =
-    by_parts (λ p. (p.counter, (p.bound, p.phase))) (λ q. record { counter = q.0; bound = q.1.0; phase = q.1.1 }) (λ _. refl)
-    (pairs numbers (pairs (options numbers) phases))
+    by_parts (λ p. (p.counter, (p.bound, (p.unit, p.phase))))
+    (λ q. record { counter = q.0; bound = q.1.0; unit = q.1.1.0; phase = q.1.1.1 }) (λ _. refl)
+    (pairs numbers (pairs (options numbers) (pairs (options measures) phases)))
 
 entries : IsEqualityTest same_entry
 entries =

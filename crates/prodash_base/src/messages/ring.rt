@@ -1,4 +1,5 @@
 ghost use Rattle.std.specs.Prelude.{◌≡◌, ℕ, ◌+◌, ◌^◌, ◌<◌, ◌⊎◌, ◌↔◌, min, List, [], ◌∷◌, ◌++◌, length, drop, fold, Some, OnOk, OnErr, IfOk, IfErr};
+ghost use Rattle.circular_buffer.specs.Buffer.{buffer, keep_last};
 ghost use Rattle.prodash_base.specs.declared.messages.Message.{Message};
 ghost use Rattle.prodash_base.specs.Messages.{message_of};
 ghost use Rattle.prodash_base.specs.Rings.{new_ring, push, messages_since, latest_messages, ring_of, new_since};
@@ -167,6 +168,34 @@ impl MessageRingBuffer {
         *out = copies(alloc, &self.ring, skipped)?;
         Ok(MessageCopyState { seen: self.pushed })
     }
+
+    /// Returns a ring of the same capacity, with copies of the messages and the same count of
+    /// pushes. Returns `Refusal::Memory` if out of memory.
+    pub fn deep_clone(&self, alloc: Global) -> Result<MessageRingBuffer, Refusal>
+        ensures ok { IfOk result (λ copy. copy ≡ self.now) }
+        ensures err { IfErr result (λ e. e ≡ Refusal.Memory) }
+    {
+        Ok(MessageRingBuffer {
+            ring: copied(alloc, &self.ring)?,
+            pushed: self.pushed,
+        })
+    }
+}
+
+/// Returns a buffer of the same capacity with copies of the messages, or an `AllocError` if out of
+/// memory.
+fn copied(
+    alloc: Global,
+    ring: &HeapCircularBuffer<Message>,
+) -> Result<HeapCircularBuffer<Message>, AllocError>
+    ensures { IfOk result (λ copy. copy
+        ≡ buffer (keep_last ring.now.capacity ring.now.items) ring.now.capacity) }
+{
+    let mut copy = HeapCircularBuffer::with_capacity(alloc, ring.capacity())?;
+    for message in ring.iter() {
+        copy.push_back(message.clone()?);
+    }
+    Ok(copy)
 }
 
 /// Returns copies of all messages but the `skipped` oldest ones, or an `AllocError` if out of

@@ -6,10 +6,11 @@ use Rattle.prodash_base.specs.Rows.{row_of, rows_of, same_row, same_rows}
 use Rattle.prodash_base.specs.plumbing.EqualityTests.{exact}
 use Rattle.prodash_base.specs.plumbing.SameRows as same
 use Rattle.prodash_base.specs.contracts.progress.RowPartialEq.TheImpl as row
+use Rattle.prodash_base.proofs.SameKinds.{same_as_unit}
 use Rattle.prodash_base.proofs.progress.rows.RowsPartialEq.eq.Goals as goal
 
 same_as_row : (r s : Row) → row.ghosts.eq r s ≡ same_row (row_of r) (row_of s)
-same_as_row r s = search rules
+same_as_row r s = search (rules, same_as_unit)
 
 same_as_rows : (rows others : List Row) → pointwise row.ghosts.eq rows others ≡ same_rows (rows_of rows) (rows_of others)
 same_as_rows rows others = (λ i. pointwise (λ r s. same_as_row r s i) rows others) ∙ sym (pointwise-map row_of same_row rows others)

@@ -1,0 +1,44 @@
+-- The kinds of units, and what they show.
+use Rattle.std.specs.Prelude.{ℕ, List, Bool, true, false, ◌&&◌, nat_eq}
+use Rattle.std.specs.Cmp.Lexicographic.{pointwise}
+use Rattle.prodash_base.specs.Shown.{Shown, label_shown, range_shown, bytes_shown, duration_shown, human_shown}
+use Rattle.prodash_base.specs.declared.unit.kind.Kind.{Kind}
+use Rattle.prodash_base.specs.declared.unit.kind.Kind.TheVariants as kinds
+
+-- a kind of unit, with the bytes of its name and the number of its decimals
+pub data Quantity : Type 0 where
+  Label : List ℕ → Quantity
+  Bytes : Quantity
+  Duration : Quantity
+  Human : ℕ → List ℕ → Quantity
+  Range : List ℕ → Quantity
+
+-- the quantity of a kind
+abbrev pub quantity_of : Kind → Quantity
+quantity_of (kinds.Label name) = Label name.now
+quantity_of (kinds.Bytes _) = Bytes
+quantity_of (kinds.Duration _) = Duration
+quantity_of (kinds.Human human) = Human human.formatter.decimals human.name.now
+quantity_of (kinds.Range range) = Range range.name.now
+
+-- the texts of a quantity
+abbrev pub quantity_shown : Quantity → Shown
+quantity_shown (Label name) = label_shown name
+quantity_shown Bytes = bytes_shown
+quantity_shown Duration = duration_shown
+quantity_shown (Human decimals name) = human_shown decimals name
+quantity_shown (Range name) = range_shown name
+
+-- the texts of a kind
+abbrev pub kind_shown : Kind → Shown
+kind_shown kind = quantity_shown (quantity_of kind)
+
+-- the test of equal quantities, which is true exactly of equal values
+abbrev pub same_quantity : Quantity → Quantity → Bool
+same_quantity (Label name) (Label other) = pointwise nat_eq name other
+same_quantity Bytes Bytes = true
+same_quantity Duration Duration = true
+same_quantity (Human decimals name) (Human places other) =
+    pointwise nat_eq name other && nat_eq decimals places
+same_quantity (Range name) (Range other) = pointwise nat_eq name other
+same_quantity _ _ = false

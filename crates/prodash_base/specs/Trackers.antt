@@ -1,0 +1,105 @@
+-- Trackers of throughput: what is observed at each path, and what a call makes of it.
+use Rattle.std.specs.Prelude.{ℕ, ◌-◌, ◌∷◌, [], List, Bool, nat_eq, nat_lt, Option, Some, None, if◌then◌else◌, unwrap_or, map}
+use Rattle.std.specs.Cmp.Lexicographic.{pointwise}
+use Rattle.std.specs.List.{list_any}
+use Rattle.std.specs.Option.{option_map}
+use Rattle.std.specs.FinMap as finite
+use Rattle.prodash_base.specs.Path.{Path, path_cmp}
+use Rattle.prodash_base.specs.Rows.{PathRow}
+use Rattle.prodash_base.specs.Samples.{one_second, rate}
+use Rattle.prodash_base.specs.declared.throughput.sample.Observation.{Observation}
+use Rattle.prodash_base.specs.declared.unit.display.Throughput.{Throughput}
+
+-- from a path to all its observations, the latest first
+abbrev pub Observations : Type 0
+Observations = finite.FinMap path_cmp (List Observation)
+
+-- the latest moment, how long after the previous moment it is, and the observations
+pub record Tracker : Type 0 where
+  pub updated_at : Option ℕ
+  pub elapsed : Option ℕ
+  pub observations : Observations
+
+-- a tracker before its first moment
+abbrev pub new_tracker : Tracker
+new_tracker = record { updated_at = None; elapsed = None; observations = finite.empty }
+
+-- the time from the previous moment on; none without one, and none if the clock went back
+abbrev pub elapsed_since : Option ℕ → ℕ → Option ℕ
+elapsed_since None at = None
+elapsed_since (Some previous) at = if nat_lt at previous then None else Some (at - previous)
+
+-- the tracker at a new moment
+abbrev pub update_elapsed : Tracker → ℕ → Tracker
+update_elapsed t at =
+    record t { updated_at = Some at; elapsed = elapsed_since t.updated_at at }
+
+-- an observation, if there are both an elapsed time and a value
+abbrev pub observation_of : Option ℕ → Option ℕ → Option Observation
+observation_of (Some elapsed) (Some value) = Some (record { elapsed = elapsed; value = value })
+observation_of _ _ = None
+
+-- all observations of a path, of which an unknown path has none
+abbrev pub observations_of : Observations → Path → List Observation
+observations_of m path = unwrap_or (finite.get m path) []
+
+-- the observations with one more of a path, if there is one
+abbrev pub with_observation : Observations → Path → Option Observation → Observations
+with_observation m path None = m
+with_observation m path (Some o) = finite.insert m path (o ∷ observations_of m path)
+
+-- the rate of a path after one more observation; none without one
+abbrev pub rate_after : Observations → Path → Option Observation → Option ℕ
+rate_after m path None = None
+rate_after m path (Some o) = rate (o ∷ observations_of m path)
+
+-- the tracker after a value of a path
+abbrev pub observe : Tracker → Path → Option ℕ → Tracker
+observe t path value = record t {
+  observations = with_observation t.observations path (observation_of t.elapsed value);
+}
+
+-- a change in one second
+abbrev pub in_one_second : ℕ → Throughput
+in_one_second change = record { value_change_in_timespan = change; timespan = one_second }
+
+-- the throughput that a value of a path gives
+abbrev pub throughput_of : Tracker → Path → Option ℕ → Option Throughput
+throughput_of t path value =
+    option_map in_one_second (rate_after t.observations path (observation_of t.elapsed value))
+
+-- the paths of rows
+abbrev pub listed_paths : List PathRow → List Path
+listed_paths rows = map (λ row. row.0) rows
+
+-- the test whether one of the rows has this path
+abbrev pub is_listed : List PathRow → Path → Bool
+is_listed rows path = list_any (pointwise nat_eq path) (listed_paths rows)
+
+-- the tracker with the observations of the listed paths alone
+abbrev pub reconcile : Tracker → List PathRow → Tracker
+reconcile t rows =
+    record t { observations = finite.retain_keys t.observations (is_listed rows) }
+
+-- the step of a row, if the row has progress
+abbrev pub step_of : PathRow → Option ℕ
+step_of row = option_map (λ p. p.counter) row.1.progress
+
+-- the tracker after the steps of these rows, in order
+abbrev pub observe_rows : Tracker → List PathRow → Tracker
+observe_rows t [] = t
+observe_rows t (row ∷ rows) = observe_rows (observe t row.0 (step_of row)) rows
+
+-- the throughput that each of these rows gives, in order
+abbrev pub throughputs_of : Tracker → List PathRow → List (Option Throughput)
+throughputs_of t [] = []
+throughputs_of t (row ∷ rows) =
+    throughput_of t row.0 (step_of row) ∷ throughputs_of (observe t row.0 (step_of row)) rows
+
+-- the throughputs that a frame at a moment shows of the rows that it draws
+abbrev pub frame_throughputs : Tracker → ℕ → List PathRow → List (Option Throughput)
+frame_throughputs t at drawn = throughputs_of (update_elapsed t at) drawn
+
+-- the tracker after a frame at a moment that draws `drawn` of these rows
+abbrev pub after_frame : Tracker → ℕ → List PathRow → List PathRow → Tracker
+after_frame t at drawn rows = reconcile (observe_rows (update_elapsed t at) drawn) rows

@@ -1,0 +1,68 @@
+-- The tests of equality of units and their parts are true exactly of equal values.
+use Rattle.std.proofs.Common.{◌≡◌, Bool, true, false, nat_eq, refl, ap}
+use Rattle.std.specs.Bool.{beq}
+use Rattle.std.specs.Cmp.Lexicographic.{pointwise}
+use Rattle.prodash_base.specs.Kinds.{Quantity, Label, Bytes, Duration, Human, Range, same_quantity}
+use Rattle.prodash_base.specs.Displays.{same_location}
+use Rattle.prodash_base.specs.Units.{same_mode, same_measure}
+use Rattle.prodash_base.specs.declared.unit.display.Location.{Location}
+use Rattle.prodash_base.specs.declared.unit.display.Location.TheVariants.{BeforeValue, AfterUnit}
+use Rattle.prodash_base.specs.plumbing.EqualityTests.{IsEqualityTest, same_pair, sound, itself, by_cases, numbers, texts, options, pairs, by_parts}
+
+-- a name, with a number of decimals
+named : IsEqualityTest (same_pair (pointwise nat_eq) nat_eq)
+named = pairs texts numbers
+
+quantity_sound : (a b : Quantity) → same_quantity a b ≡ true → a ≡ b
+quantity_sound (Label name) (Label other) h = ap Label (sound texts name other h)
+quantity_sound Bytes Bytes h = refl
+quantity_sound Duration Duration h = refl
+quantity_sound (Human decimals name) (Human places other) h =
+    λ i. let both = sound named (name, decimals) (other, places) h i in Human both.1 both.0
+quantity_sound (Range name) (Range other) h = ap Range (sound texts name other h)
+quantity_sound _ _ h = cc
+
+quantity_itself : (a : Quantity) → same_quantity a a ≡ true
+quantity_itself (Label name) = itself texts name
+quantity_itself Bytes = refl
+quantity_itself Duration = refl
+quantity_itself (Human decimals name) = itself named (name, decimals)
+quantity_itself (Range name) = itself texts name
+
+quantities : IsEqualityTest same_quantity
+quantities = by_cases quantity_sound quantity_itself
+
+bool_sound : (a b : Bool) → beq a b ≡ true → a ≡ b
+bool_sound true true h = refl
+bool_sound false false h = refl
+bool_sound _ _ h = cc
+
+bool_itself : (a : Bool) → beq a a ≡ true
+bool_itself true = refl
+bool_itself false = refl
+
+bools : IsEqualityTest beq
+bools = by_cases bool_sound bool_itself
+
+location_sound : (a b : Location) → same_location a b ≡ true → a ≡ b
+location_sound BeforeValue BeforeValue h = refl
+location_sound AfterUnit AfterUnit h = refl
+location_sound _ _ h = cc
+
+location_itself : (a : Location) → same_location a a ≡ true
+location_itself BeforeValue = refl
+location_itself AfterUnit = refl
+
+locations : IsEqualityTest same_location
+locations = by_cases location_sound location_itself
+
+modes : IsEqualityTest same_mode
+modes =
+    by_parts (λ m. (m.location, (m.percentage, m.throughput)))
+    (λ q. record { location = q.0; percentage = q.1.0; throughput = q.1.1 }) (λ _. refl)
+    (pairs locations (pairs bools bools))
+
+pub measures : IsEqualityTest same_measure
+measures =
+    by_parts (λ u. (u.quantity, u.mode)) (λ q. record { quantity = q.0; mode = q.1 }) (λ _. refl)
+    (pairs quantities (options modes))

@@ -1,0 +1,124 @@
+//! Texts and numerals that are appended to a string.
+//!
+//! A call named `push_..` may have appended a part of its text if it is out of memory: what was in
+//! the string is a prefix of what is in it then. A call named `append_..` appends all or nothing.
+ghost use Rattle.std.specs.Prelude.{◌≡◌, ◌+◌, ◌*◌, ◌/◌, ◌%◌, ◌^◌, ◌<◌, ◌≤◌, ◌∷◌, [], ◌++◌, max, min, OnOk, OnErr, string_bytes, take};
+ghost use Rattle.std.specs.Fmt.{decimal};
+ghost use Rattle.std.specs.String.Boundary.{IsSplitPoint};
+ghost use Rattle.prodash_base.specs.plumbing.Prefixes.{IsPrefix};
+ghost use Rattle.prodash_base.specs.Numerals.{last_digits, without_zeros, after_point, cut, fraction_text};
+
+use itoa::Buffer;
+use std::alloc::AllocError;
+
+/// Truncates the string to the length that it had before a call that appended to it, if that call
+/// was refused. Returns what the call returned.
+pub(crate) fn undo_if_refused(
+    out: &mut String,
+    length: usize,
+    appended: Result<(), AllocError>,
+) -> Result<(), AllocError>
+    requires { IsSplitPoint (string_bytes out.old) length }
+    ensures same { result ≡ appended }
+    ensures ok { OnOk result (string_bytes out.new ≡ string_bytes out.old) }
+    ensures err { OnErr result (string_bytes out.new ≡ take length (string_bytes out.old)) }
+{
+    if appended.is_err() {
+        out.truncate(length);
+    }
+    appended
+}
+
+/// Appends a text.
+pub(crate) fn push_text(out: &mut String, text: &str) -> Result<(), AllocError>
+    ensures ok { OnOk result (string_bytes out.new ≡ string_bytes out.old ++ text.now) }
+    ensures kept { IsPrefix (string_bytes out.old) (string_bytes out.new) }
+{
+    out.push_str(text)
+}
+
+/// Appends an ASCII character.
+pub(crate) fn push_ascii(out: &mut String, byte: u8) -> Result<(), AllocError>
+    requires { byte < 128 }
+    ensures ok { OnOk result (string_bytes out.new ≡ string_bytes out.old ++ byte ∷ []) }
+    ensures kept { IsPrefix (string_bytes out.old) (string_bytes out.new) }
+{
+    out.push(byte as char)
+}
+
+/// Appends a number in decimal digits.
+pub(crate) fn push_decimal(out: &mut String, n: u64) -> Result<(), AllocError>
+    ensures ok { OnOk result (string_bytes out.new ≡ string_bytes out.old ++ decimal n) }
+    ensures kept { IsPrefix (string_bytes out.old) (string_bytes out.new) }
+{
+    push_text(out, Buffer::new().format(n))
+}
+
+/// Appends a number in decimal digits, or nothing.
+pub(crate) fn append_decimal(out: &mut String, n: u128) -> Result<(), AllocError>
+    ensures ok { OnOk result (string_bytes out.new ≡ string_bytes out.old ++ decimal n) }
+    ensures err { OnErr result (string_bytes out.new ≡ string_bytes out.old) }
+{
+    out.push_str(Buffer::new().format(n))
+}
+
+/// Appends the last digits of a number, with leading zeros if it has fewer than `places`.
+pub(crate) fn push_last_digits(out: &mut String, places: u8, n: u128) -> Result<(), AllocError>
+    ensures ok { OnOk result (string_bytes out.new ≡ string_bytes out.old ++ last_digits places n) }
+    ensures kept { IsPrefix (string_bytes out.old) (string_bytes out.new) }
+{
+    if places == 0 {
+        return Ok(());
+    }
+    push_last_digits(out, places - 1, n / 10)?;
+    push_ascii(out, b'0' + (n % 10) as u8)
+}
+
+/// Appends a decimal point and the last digits of a number, or nothing if `places` is 0.
+pub(crate) fn push_after_point(out: &mut String, places: u8, n: u128) -> Result<(), AllocError>
+    ensures ok { OnOk result
+        (string_bytes out.new ≡ string_bytes out.old ++ after_point (last_digits places n)) }
+    ensures kept { IsPrefix (string_bytes out.old) (string_bytes out.new) }
+{
+    if places == 0 {
+        return Ok(());
+    }
+    push_ascii(out, b'.')?;
+    push_last_digits(out, places, n)
+}
+
+/// Appends a decimal point and the last digits of a number, without the zeros at their end.
+pub(crate) fn push_without_zeros(out: &mut String, places: u8, n: u128) -> Result<(), AllocError>
+    ensures ok { OnOk result (string_bytes out.new
+        ≡ string_bytes out.old ++ after_point (without_zeros (last_digits places n))) }
+    ensures kept { IsPrefix (string_bytes out.old) (string_bytes out.new) }
+{
+    if places > 0 && n % 10 == 0 {
+        push_without_zeros(out, places - 1, n / 10)
+    } else {
+        push_after_point(out, places, n)
+    }
+}
+
+/// Appends a quotient with exactly as many decimals as `places`, rounded down.
+pub(crate) fn push_cut(out: &mut String, places: u8, a: u64, b: u64) -> Result<(), AllocError>
+    requires some { 0 < b }
+    requires few { places ≤ 6 }
+    ensures ok { OnOk result (string_bytes out.new ≡ string_bytes out.old ++ cut places a b) }
+    ensures kept { IsPrefix (string_bytes out.old) (string_bytes out.new) }
+{
+    push_decimal(out, a / b)?;
+    let shifted = u128::from(a) * 10_u128.pow(u32::from(places));
+    push_after_point(out, places, shifted / u128::from(b))
+}
+
+/// Appends a quotient with at most three decimals, rounded down, without zeros at the end. The
+/// divisor 0 counts as 1.
+pub(crate) fn push_fraction(out: &mut String, a: u64, b: u64) -> Result<(), AllocError>
+    ensures ok { OnOk result (string_bytes out.new ≡ string_bytes out.old ++ fraction_text a b) }
+    ensures kept { IsPrefix (string_bytes out.old) (string_bytes out.new) }
+{
+    let b = b.max(1);
+    push_decimal(out, a / b)?;
+    push_without_zeros(out, 3, u128::from(a) * 1000 / u128::from(b))
+}

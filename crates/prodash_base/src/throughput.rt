@@ -1,0 +1,201 @@
+//! The throughput of the tasks that a renderer draws.
+ghost use Rattle.std.specs.Prelude.{◌≡◌, ◌<◌, ◌∷◌, List, OnOk, OnErr, IfOk, IfErr, IsSome, None, Some, Contains};
+ghost use Rattle.std.specs.FinMap as finite;
+ghost use Rattle.prodash_base.specs.Path.{Path};
+ghost use Rattle.prodash_base.specs.Rows.{rows_of};
+ghost use Rattle.prodash_base.specs.Samples.{one_second, duration, latest_over, IsShortestOver};
+ghost use Rattle.prodash_base.specs.Trackers.{new_tracker, elapsed_since, update_elapsed, observation_of, with_observation, rate_after, observe, throughput_of, is_listed, listed_paths, reconcile};
+ghost use Rattle.prodash_base.specs.plumbing.ObservedTables.{observations_in};
+ghost use Rattle.prodash_base.specs.declared.throughput.sample.Sample.{Sample};
+
+mod rate;
+mod sample;
+
+use crate::progress::{Key, Row, Step};
+use crate::refusal::Refusal;
+use crate::time::Moment;
+use crate::unit::display;
+use rate::{ONE_SECOND, push_observation};
+use sample::Observation;
+use std::alloc::{AllocError, Global};
+use std::collections::{BTreeMap, VecDeque};
+use std::marker::Model;
+
+/// The observations of each key, the latest first.
+type Observed = BTreeMap<Key, VecDeque<Observation>>;
+
+/// Measures the throughput of values, each under a key, which are observed at each frame. Contracts
+/// see the latest moment, the time elapsed, and a finite map from paths to all observations.
+///
+/// The first observation of a key is a mark, and so is each one that comes more than a second after
+/// the previous mark. The throughput changes at marks only: it is the rise over the fewest of the
+/// latest observations that take more than a second together.
+///
+/// ```rust
+/// let mut tracker = Throughput::new(alloc);
+/// tracker.update_elapsed(0);
+/// tracker.update_elapsed(400_000_000);
+/// assert_eq!(rt; tracker.update_and_get(alloc, &key, Some(10))?, None);
+/// tracker.update_elapsed(1_600_000_000);
+/// let throughput = tracker.update_and_get(alloc, &key, Some(50))?;
+/// assert_eq!(rt; throughput, Some(display::Throughput::new(33, 1_000_000_000)));
+/// ```
+#[derive(Debug, Drop)]
+pub struct Throughput {
+    updated_at: Option<Moment>,
+    elapsed: Option<u64>,
+    observed: Observed,
+}
+
+impl Model for Throughput {
+    ghost use Rattle.std.specs.FinMap as finite;
+    ghost use Rattle.std.specs.Coded.{codes};
+    ghost use Rattle.prodash_base.specs.Trackers.{Tracker};
+    ghost use Rattle.prodash_base.specs.plumbing.ObservedTables.{observations_in};
+
+    ghost Value = { Tracker };
+
+    ghost coded = { Prim.hlevel (codes, finite.code) };
+
+    ghost view = { λ t. record {
+      updated_at = t.updated_at;
+      elapsed = t.elapsed;
+      observations = observations_in t.observed.entries;
+    } };
+}
+
+impl Throughput {
+    /// Returns a tracker that has observed nothing.
+    pub fn new(alloc: Global) -> Throughput
+        ensures { result ≡ new_tracker }
+    {
+        Throughput {
+            updated_at: None,
+            elapsed: None,
+            observed: BTreeMap::new(alloc),
+        }
+    }
+
+    /// Returns an equal tracker. `_rows` are those whose steps it is to observe next.
+    ///
+    /// # Errors
+    ///
+    /// `Memory`, if out of memory.
+    pub fn copy(&self, _alloc: Global, _rows: &[Row]) -> Result<Throughput, Refusal>
+        ensures ok { IfOk result (λ copy. copy ≡ self.now) }
+        ensures err { IfErr result (λ e. e ≡ Refusal.Memory) }
+    {
+        Ok(Throughput {
+            updated_at: self.updated_at,
+            elapsed: self.elapsed,
+            observed: self.observed.clone()?,
+        })
+    }
+
+    /// Takes the moment of the values that follow. The time elapsed is that since the previous
+    /// moment. There is none at the first moment, or if the clock went back.
+    pub fn update_elapsed(&mut self, at: Moment)
+        ensures { self.new ≡ update_elapsed self.old at }
+    {
+        self.elapsed = elapsed_since(self.updated_at, at);
+        self.updated_at = Some(at);
+    }
+
+    /// Observes the step of a key, and returns its throughput, with a timespan of one second.
+    /// Nothing is recorded without an elapsed time or a step, and the call then returns `None`, as
+    /// it does before the second mark of the key.
+    ///
+    /// # Errors
+    ///
+    /// `Memory`, if out of memory. The tracker is then unchanged.
+    pub fn update_and_get(
+        &mut self,
+        alloc: Global,
+        key: &Key,
+        step: Option<Step>,
+    ) -> Result<Option<display::Throughput>, Refusal>
+        ensures value { IfOk result (λ shown. shown ≡ throughput_of self.old key.now step) }
+        ensures ok { OnOk result (self.new ≡ observe self.old key.now step) }
+        ensures err { OnErr result (self.new ≡ self.old) }
+        ensures reason { IfErr result (λ e. e ≡ Refusal.Memory) }
+        ensures recorded { OnErr result (IsSome (observation_of self.old.elapsed step)) }
+    {
+        let Some(observation) = observation_of(self.elapsed, step) else {
+            return Ok(None);
+        };
+        let rate = add_observation(&mut self.observed, alloc, *key, observation)?;
+        Ok(rate.map(|change| display::Throughput::new(change, ONE_SECOND)))
+    }
+
+    /// Keeps the observations of the keys of `rows`, and of no others.
+    pub fn reconcile(&mut self, rows: &[Row])
+        ensures value { self.new ≡ reconcile self.old (rows_of rows.now) }
+        ensures listed { (path : Path) → Contains (listed_paths (rows_of rows.now)) path
+            → finite.get self.new.observations path ≡ finite.get self.old.observations path }
+        ensures others { (path : Path) → ¬ Contains (listed_paths (rows_of rows.now)) path
+            → finite.get self.new.observations path ≡ None }
+    {
+        self.observed.retain(|key, _| is_listed(rows, key));
+    }
+}
+
+/// Returns the time since the previous moment, or `None` if there is none or the clock went back.
+fn elapsed_since(previous: Option<Moment>, at: Moment) -> Option<u64>
+    ensures { result ≡ elapsed_since previous at }
+{
+    match previous {
+        Some(previous) if at >= previous => Some(at - previous),
+        _ => None,
+    }
+}
+
+/// Returns an observation, if there are both an elapsed time and a value.
+fn observation_of(elapsed: Option<u64>, value: Option<Step>) -> Option<Observation>
+    ensures { result ≡ observation_of elapsed value }
+{
+    match (elapsed, value) {
+        (Some(elapsed), Some(value)) => Some(Observation { elapsed, value }),
+        _ => None,
+    }
+}
+
+/// Adds an observation of a key, and returns the rate. Returns an `AllocError` if out of memory,
+/// and then leaves the observations unchanged.
+fn add_observation(
+    observed: &mut Observed,
+    alloc: Global,
+    key: Key,
+    observation: Observation,
+) -> Result<Option<u64>, AllocError>
+    ensures rate { IfOk result (λ r.
+        r ≡ rate_after (observations_in observed.old.entries) key (Some observation)) }
+    ensures ok { OnOk result (observations_in observed.new.entries
+        ≡ with_observation (observations_in observed.old.entries) key (Some observation)) }
+    ensures err { OnErr result
+        (observations_in observed.new.entries ≡ observations_in observed.old.entries) }
+{
+    match observed.get_mut(&key) {
+        Some(known) => push_observation(known, observation),
+        None => {
+            let mut first = VecDeque::new(alloc);
+            let rate = push_observation(&mut first, observation)?;
+            observed.insert(key, first)?;
+            Ok(rate)
+        }
+    }
+}
+
+/// Returns whether one of the rows has this key. If they ascend by key, halving finds it; else they
+/// are searched one by one.
+fn is_listed(rows: &[Row], key: &Key) -> bool
+    ensures { result ≡ is_listed (rows_of rows.now) key.now }
+{
+    rows.binary_search_by_key(key, |row| row.key).is_ok() || rows.iter().any(|row| *key == row.key)
+}
+
+/// A law of rates: a rate is measured over the shortest of the ends of the samples that take more
+/// than a second.
+pub fn rates_are_over_the_shortest_end()
+    ensures { (samples : List Sample) → one_second < duration samples
+        → IsShortestOver one_second samples (latest_over one_second samples) }
+{}

@@ -1,0 +1,325 @@
+//! Values of any kind, with their bounds, units, percentages and throughputs, appended to a string.
+ghost use Rattle.std.specs.Prelude.{◌≡◌, ◌++◌, OnOk, OnErr, IfErr, string_bytes};
+ghost use Rattle.prodash_base.specs.plumbing.Prefixes.{IsPrefix};
+ghost use Rattle.prodash_base.specs.Displays.{same_location, percentage_at, throughput_at, percentage_before, throughput_before, percentage_after, throughput_after, bound_text, values_text, after_text, unit_text, spaced, all_text};
+
+use super::{Location, Mode, Throughput};
+use crate::appending::{push_ascii, undo_if_refused};
+use crate::progress::Step;
+use crate::refusal::Refusal;
+use crate::unit::DisplayValue;
+use crate::unit::quantities::percentage_of;
+use std::alloc::AllocError;
+
+/// Appends a value of any kind in full: the value with its bound, a space and the unit if the unit
+/// is not empty, and the percentage and the throughput as `mode` says. There is no percentage
+/// without a bound.
+///
+/// # Errors
+///
+/// `Refusal::Memory` if out of memory. Then `out` is unchanged.
+pub fn append<K: DisplayValue>(
+    out: &mut String,
+    kind: &K,
+    mode: Option<Mode>,
+    value: Step,
+    bound: Option<Step>,
+    throughput: Option<Throughput>,
+) -> Result<(), Refusal>
+    ensures ok { OnOk result (string_bytes out.new ≡ string_bytes out.old
+        ++ all_text (K.shown kind.now) mode value bound throughput) }
+    ensures err { OnErr result (string_bytes out.new ≡ string_bytes out.old) }
+    ensures reason { IfErr result (λ e. e ≡ Refusal.Memory) }
+{
+    let length = out.len();
+    let appended = push_all(kind, out, mode, value, bound, throughput);
+    undo_if_refused(out, length, appended)?;
+    Ok(())
+}
+
+/// Appends a value of any kind with its bound, after the percentage and the throughput if `mode`
+/// shows them before the value.
+///
+/// # Errors
+///
+/// `Refusal::Memory` if out of memory. Then `out` is unchanged.
+pub fn append_values<K: DisplayValue>(
+    out: &mut String,
+    kind: &K,
+    mode: Option<Mode>,
+    value: Step,
+    bound: Option<Step>,
+    throughput: Option<Throughput>,
+) -> Result<(), Refusal>
+    ensures ok { OnOk result (string_bytes out.new ≡ string_bytes out.old
+        ++ values_text (K.shown kind.now) mode value bound throughput) }
+    ensures err { OnErr result (string_bytes out.new ≡ string_bytes out.old) }
+    ensures reason { IfErr result (λ e. e ≡ Refusal.Memory) }
+{
+    let length = out.len();
+    let appended = push_values(kind, out, mode, value, bound, throughput);
+    undo_if_refused(out, length, appended)?;
+    Ok(())
+}
+
+/// Appends the unit of a value of any kind, before the percentage and the throughput if `mode`
+/// shows them after the unit.
+///
+/// # Errors
+///
+/// `Refusal::Memory` if out of memory. Then `out` is unchanged.
+pub fn append_unit<K: DisplayValue>(
+    out: &mut String,
+    kind: &K,
+    mode: Option<Mode>,
+    value: Step,
+    bound: Option<Step>,
+    throughput: Option<Throughput>,
+) -> Result<(), Refusal>
+    ensures ok { OnOk result (string_bytes out.new ≡ string_bytes out.old
+        ++ unit_text (K.shown kind.now) mode value bound throughput) }
+    ensures err { OnErr result (string_bytes out.new ≡ string_bytes out.old) }
+    ensures reason { IfErr result (λ e. e ≡ Refusal.Memory) }
+{
+    let length = out.len();
+    let appended = push_unit(kind, out, mode, value, bound, throughput);
+    undo_if_refused(out, length, appended)?;
+    Ok(())
+}
+
+/// Returns whether two locations are the same.
+fn same_location(a: Location, b: Location) -> bool
+    ensures { result ≡ same_location a b }
+{
+    matches!(
+        (a, b),
+        (Location::BeforeValue, Location::BeforeValue) | (Location::AfterUnit, Location::AfterUnit)
+    )
+}
+
+/// Returns the percentage that is shown at a location, if any.
+fn percentage_at(
+    mode: Option<Mode>,
+    location: Location,
+    value: Step,
+    bound: Option<Step>,
+) -> Option<u64>
+    ensures { result ≡ percentage_at mode location value bound }
+{
+    let mode = mode?;
+    let bound = bound?;
+    if mode.percentage && same_location(mode.location, location) {
+        Some(percentage_of(value, bound))
+    } else {
+        None
+    }
+}
+
+/// Returns the throughput that is shown at a location, if any.
+fn throughput_at(
+    mode: Option<Mode>,
+    location: Location,
+    throughput: Option<Throughput>,
+) -> Option<Throughput>
+    ensures { result ≡ throughput_at mode location throughput }
+{
+    let mode = mode?;
+    if mode.throughput && same_location(mode.location, location) {
+        throughput
+    } else {
+        None
+    }
+}
+
+/// Appends a percentage and a space, if there is a percentage.
+fn push_percentage_before<K: DisplayValue>(
+    kind: &K,
+    out: &mut String,
+    percentage: Option<u64>,
+) -> Result<(), AllocError>
+    ensures ok { OnOk result (string_bytes out.new
+        ≡ string_bytes out.old ++ percentage_before (K.shown kind.now) percentage) }
+    ensures kept { IsPrefix (string_bytes out.old) (string_bytes out.new) }
+{
+    let Some(percentage) = percentage else {
+        return Ok(());
+    };
+    kind.display_percentage(out, percentage)?;
+    push_ascii(out, b' ')
+}
+
+/// Appends a throughput and a space, if there is a throughput.
+fn push_throughput_before<K: DisplayValue>(
+    kind: &K,
+    out: &mut String,
+    throughput: Option<Throughput>,
+) -> Result<(), AllocError>
+    ensures ok { OnOk result (string_bytes out.new
+        ≡ string_bytes out.old ++ throughput_before (K.shown kind.now) throughput) }
+    ensures kept { IsPrefix (string_bytes out.old) (string_bytes out.new) }
+{
+    let Some(throughput) = throughput else {
+        return Ok(());
+    };
+    kind.display_throughput(out, &throughput)?;
+    push_ascii(out, b' ')
+}
+
+/// Appends a space and a percentage, if there is a percentage.
+fn push_percentage_after<K: DisplayValue>(
+    kind: &K,
+    out: &mut String,
+    percentage: Option<u64>,
+) -> Result<(), AllocError>
+    ensures ok { OnOk result (string_bytes out.new
+        ≡ string_bytes out.old ++ percentage_after (K.shown kind.now) percentage) }
+    ensures kept { IsPrefix (string_bytes out.old) (string_bytes out.new) }
+{
+    let Some(percentage) = percentage else {
+        return Ok(());
+    };
+    push_ascii(out, b' ')?;
+    kind.display_percentage(out, percentage)
+}
+
+/// Appends a space and a throughput, if there is a throughput.
+fn push_throughput_after<K: DisplayValue>(
+    kind: &K,
+    out: &mut String,
+    throughput: Option<Throughput>,
+) -> Result<(), AllocError>
+    ensures ok { OnOk result (string_bytes out.new
+        ≡ string_bytes out.old ++ throughput_after (K.shown kind.now) throughput) }
+    ensures kept { IsPrefix (string_bytes out.old) (string_bytes out.new) }
+{
+    let Some(throughput) = throughput else {
+        return Ok(());
+    };
+    push_ascii(out, b' ')?;
+    kind.display_throughput(out, &throughput)
+}
+
+/// Appends the separator and the bound, if there is a bound.
+fn push_bound<K: DisplayValue>(
+    kind: &K,
+    out: &mut String,
+    value: Step,
+    bound: Option<Step>,
+) -> Result<(), AllocError>
+    ensures ok { OnOk result
+        (string_bytes out.new ≡ string_bytes out.old ++ bound_text (K.shown kind.now) value bound) }
+    ensures kept { IsPrefix (string_bytes out.old) (string_bytes out.new) }
+{
+    let Some(upper) = bound else {
+        return Ok(());
+    };
+    kind.separator(out, value, bound)?;
+    kind.display_upper_bound(out, upper, value)
+}
+
+/// Appends the value.
+pub(in crate::unit) fn push_value<K: DisplayValue>(
+    kind: &K,
+    out: &mut String,
+    value: Step,
+    bound: Option<Step>,
+) -> Result<(), AllocError>
+    ensures ok { OnOk result
+        (string_bytes out.new ≡ string_bytes out.old ++ (K.shown kind.now).value value bound) }
+    ensures kept { IsPrefix (string_bytes out.old) (string_bytes out.new) }
+{
+    kind.display_current_value(out, value, bound)
+}
+
+/// Appends the value with its bound, and what is shown before it.
+fn push_values<K: DisplayValue>(
+    kind: &K,
+    out: &mut String,
+    mode: Option<Mode>,
+    value: Step,
+    bound: Option<Step>,
+    throughput: Option<Throughput>,
+) -> Result<(), AllocError>
+    ensures ok { OnOk result (string_bytes out.new ≡ string_bytes out.old
+        ++ values_text (K.shown kind.now) mode value bound throughput) }
+    ensures kept { IsPrefix (string_bytes out.old) (string_bytes out.new) }
+{
+    let before = Location::BeforeValue;
+    push_percentage_before(kind, out, percentage_at(mode, before, value, bound))?;
+    push_throughput_before(kind, out, throughput_at(mode, before, throughput))?;
+    push_value(kind, out, value, bound)?;
+    push_bound(kind, out, value, bound)
+}
+
+/// Appends what is shown after the unit.
+fn push_after<K: DisplayValue>(
+    kind: &K,
+    out: &mut String,
+    mode: Option<Mode>,
+    value: Step,
+    bound: Option<Step>,
+    throughput: Option<Throughput>,
+) -> Result<(), AllocError>
+    ensures ok { OnOk result (string_bytes out.new ≡ string_bytes out.old
+        ++ after_text (K.shown kind.now) mode value bound throughput) }
+    ensures kept { IsPrefix (string_bytes out.old) (string_bytes out.new) }
+{
+    let after = Location::AfterUnit;
+    push_percentage_after(kind, out, percentage_at(mode, after, value, bound))?;
+    push_throughput_after(kind, out, throughput_at(mode, after, throughput))
+}
+
+/// Appends the unit, and what is shown after it.
+fn push_unit<K: DisplayValue>(
+    kind: &K,
+    out: &mut String,
+    mode: Option<Mode>,
+    value: Step,
+    bound: Option<Step>,
+    throughput: Option<Throughput>,
+) -> Result<(), AllocError>
+    ensures ok { OnOk result (string_bytes out.new ≡ string_bytes out.old
+        ++ unit_text (K.shown kind.now) mode value bound throughput) }
+    ensures kept { IsPrefix (string_bytes out.old) (string_bytes out.new) }
+{
+    kind.display_unit(out, value)?;
+    push_after(kind, out, mode, value, bound, throughput)
+}
+
+/// Appends a space and the unit; nothing if the unit is empty.
+pub(in crate::unit) fn push_spaced_unit<K: DisplayValue>(
+    kind: &K,
+    out: &mut String,
+    value: Step,
+) -> Result<(), AllocError>
+    ensures ok { OnOk result
+        (string_bytes out.new ≡ string_bytes out.old ++ spaced ((K.shown kind.now).unit value)) }
+    ensures kept { IsPrefix (string_bytes out.old) (string_bytes out.new) }
+{
+    let length = out.len();
+    push_ascii(out, b' ')?;
+    let start = out.len();
+    kind.display_unit(out, value)?;
+    if out.len() == start {
+        out.truncate(length);
+    }
+    Ok(())
+}
+
+/// Appends the values, the unit, and what is shown after it.
+fn push_all<K: DisplayValue>(
+    kind: &K,
+    out: &mut String,
+    mode: Option<Mode>,
+    value: Step,
+    bound: Option<Step>,
+    throughput: Option<Throughput>,
+) -> Result<(), AllocError>
+    ensures ok { OnOk result (string_bytes out.new ≡ string_bytes out.old
+        ++ all_text (K.shown kind.now) mode value bound throughput) }
+    ensures kept { IsPrefix (string_bytes out.old) (string_bytes out.new) }
+{
+    push_values(kind, out, mode, value, bound, throughput)?;
+    push_spaced_unit(kind, out, value)?;
+    push_after(kind, out, mode, value, bound, throughput)
+}

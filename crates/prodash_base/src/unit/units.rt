@@ -1,0 +1,183 @@
+ghost use Rattle.std.specs.Prelude.{◌≡◌, ◌++◌, Some, None, OnOk, OnErr, IfErr, string_bytes};
+ghost use Rattle.prodash_base.specs.Units.{display_text};
+
+use super::Kind;
+use super::display::{Mode, Throughput, append, append_unit, append_values};
+use crate::progress::Step;
+use crate::refusal::Refusal;
+use std::alloc::Global;
+use std::fmt;
+
+/// A unit of values: a kind, and whether a percentage and a throughput are shown with its values.
+#[derive(Debug, Clone, Copy, PartialEq, Eq)]
+pub struct Unit {
+    pub(super) kind: Kind,
+    mode: Option<Mode>,
+}
+
+/// Returns a unit that shows plain numbers and a name, without percentage and throughput.
+pub fn label(name: &'static str) -> Unit
+    ensures { result ≡ record { kind = Kind.Label name.entry; mode = None } }
+{
+    dynamic(Kind::Label(name))
+}
+
+/// Returns a unit that shows plain numbers and a name, and what `mode` says.
+pub fn label_and_mode(name: &'static str, mode: Mode) -> Unit
+    ensures { result ≡ record { kind = Kind.Label name.entry; mode = Some mode } }
+{
+    dynamic_and_mode(Kind::Label(name), mode)
+}
+
+/// Returns a unit of a kind, without percentage and throughput.
+pub fn dynamic(kind: Kind) -> Unit
+    ensures { result ≡ record { kind = kind; mode = None } }
+{
+    Unit { kind, mode: None }
+}
+
+/// Returns a unit of a kind that also shows what `mode` says.
+pub fn dynamic_and_mode(kind: Kind, mode: Mode) -> Unit
+    ensures { result ≡ record { kind = kind; mode = Some mode } }
+{
+    Unit {
+        kind,
+        mode: Some(mode),
+    }
+}
+
+impl From<&'static str> for Unit {
+    ghost use Rattle.prodash_base.specs.declared.unit.kind.Kind.TheVariants.{Label};
+
+    ghost from_gives = { λ name unit. unit ≡ record { kind = Label name; mode = None } };
+
+    fn from(name: &'static str) -> Unit {
+        label(name)
+    }
+}
+
+impl Unit {
+    /// Returns a display of a value in this unit, with its bound and its throughput if known. The
+    /// throughput is shown if the mode of the unit says so. `alloc` is used by `Display` alone.
+    pub fn display(
+        &self,
+        alloc: Global,
+        value: Step,
+        bound: Option<Step>,
+        throughput: Option<Throughput>,
+    ) -> UnitDisplay
+        ensures { result ≡ record {
+          unit = self.now;
+          value = value;
+          bound = bound;
+          throughput = throughput;
+          part = Part.All;
+          alloc = alloc;
+        } }
+    {
+        UnitDisplay {
+            unit: *self,
+            value,
+            bound,
+            throughput,
+            part: Part::All,
+            alloc,
+        }
+    }
+
+    /// Returns the kind of this unit.
+    pub fn as_display_value(&self) -> &Kind
+        ensures { result.now ≡ self.now.kind }
+    {
+        &self.kind
+    }
+}
+
+/// The part of a value that is displayed.
+#[derive(Clone, Copy)]
+enum Part {
+    All,
+    Values,
+    UnitAlone,
+}
+
+/// A value in a unit, as it is displayed.
+#[derive(Drop)]
+pub struct UnitDisplay {
+    unit: Unit,
+    value: Step,
+    bound: Option<Step>,
+    throughput: Option<Throughput>,
+    part: Part,
+    alloc: Global,
+}
+
+impl UnitDisplay {
+    ghost use Rattle.std.specs.Borrow.{sem};
+    ghost use Rattle.prodash_base.specs.Parts.{EndsShowing};
+
+    /// Displays the values and the unit from now on.
+    pub fn all(&mut self) -> &Self
+        ensures* kept { sem 𝓛 (EndsShowing self.entry Part.All) }
+        ensures shown { result.now ≡ record self.old { part = Part.All } }
+    {
+        self.part = Part::All;
+        self
+    }
+
+    /// Displays the values alone from now on.
+    pub fn values(&mut self) -> &Self
+        ensures* kept { sem 𝓛 (EndsShowing self.entry Part.Values) }
+        ensures shown { result.now ≡ record self.old { part = Part.Values } }
+    {
+        self.part = Part::Values;
+        self
+    }
+
+    /// Displays the unit alone from now on.
+    pub fn unit(&mut self) -> &Self
+        ensures* kept { sem 𝓛 (EndsShowing self.entry Part.UnitAlone) }
+        ensures shown { result.now ≡ record self.old { part = Part.UnitAlone } }
+    {
+        self.part = Part::UnitAlone;
+        self
+    }
+
+    /// Appends what is displayed, which is also what `Display` writes.
+    ///
+    /// # Errors
+    ///
+    /// `Refusal::Memory` if out of memory. Then `out` is unchanged.
+    pub fn append_to(&self, out: &mut String) -> Result<(), Refusal>
+        ensures ok { OnOk result
+            (string_bytes out.new ≡ string_bytes out.old ++ display_text self.now) }
+        ensures err { OnErr result (string_bytes out.new ≡ string_bytes out.old) }
+        ensures reason { IfErr result (λ e. e ≡ Refusal.Memory) }
+    {
+        let (kind, mode) = (&self.unit.kind, self.unit.mode);
+        match self.part {
+            Part::All => append(out, kind, mode, self.value, self.bound, self.throughput),
+            Part::Values => append_values(out, kind, mode, self.value, self.bound, self.throughput),
+            Part::UnitAlone => append_unit(
+                out,
+                kind,
+                mode,
+                self.value,
+                self.bound,
+                self.throughput,
+            ),
+        }
+    }
+}
+
+impl fmt::Display for UnitDisplay {
+    ghost output = { λ d. Some (display_text d) };
+
+    fn fmt<W: fmt::Write>(&self, f: &mut fmt::Formatter<W>) -> fmt::Result {
+        let mut text = String::new(self.alloc);
+        if self.append_to(&mut text).is_err() {
+            return Err(fmt::Error);
+        }
+        f.write_str(text.as_str())
+    }
+}
