@@ -12,7 +12,8 @@ use Rattle.prodash_line.specs.Shows.{cells_of, ShowsLines, Shows}
 use Rattle.prodash_line.specs.Fits.{LineFits, LinesFit, BodyFits, FrameFits}
 use Rattle.prodash_line.proofs.Lists.{AllByRecursion-append, AllByRecursion-replicate, AllByRecursion-drop}
 use Rattle.prodash_line.proofs.CursorRow.{at, page_after-append}
-use Rattle.prodash_line.proofs.OrderlyFrames.{IsOpening, IsEnding, EndsOrderly, IsOrderly}
+use Rattle.prodash_line.proofs.UnseenSigns.{IsUnseen, after_unseen}
+use Rattle.prodash_line.proofs.OrderlyFrames.{IsEnding, EndsOrderly, IsOrderly}
 use Rattle.prodash_line.proofs.Overwriting.{rows_after, length-rows_after, ShowsLines-rows_after, overwrite_at}
 
 -- up to the row in which the rows xs begin
@@ -83,7 +84,7 @@ ending_at (CarriageReturn ∷ ss) columns height above below h = ending_at ss co
 ending_at (EraseLine ∷ ss) columns height above below h =
     ap (λ (rows : List (List ℕ)). page_after ss (record { columns = columns; height = height; rows = rows; row = length above; column = 0 })) (set_at above (blank columns) below (blank columns) (length above) refl)
     ∙ ending_at ss columns height above below h.1
-ending_at (_ ∷ ss) columns height above below h = absurd h.0
+ending_at (s ∷ ss) columns height above below h = ap (page_after ss) (after_unseen s (at columns height above (blank columns ∷ below)) h.0) ∙ ending_at ss columns height above below h.1
 
 -- nor if no line is on screen
 pub ending_shows : (signs : List Sign) (columns height : ℕ) (above below : List (List ℕ)) → AllByRecursion IsEnding signs → ShowsLines columns [] below → 0 < length below
@@ -154,18 +155,16 @@ Home-messages columns height above old p messages h m =
       few = omega arith;
     }
 
--- signs that open a frame change nothing
-pub opening_at : (signs : List Sign) (columns height : ℕ) (above below : List (List ℕ)) → AllByRecursion IsOpening signs
-    → page_after signs (at columns height above below) ≡ at columns height above below
-opening_at [] columns height above below h = refl
-opening_at (CarriageReturn ∷ ss) columns height above below h = opening_at ss columns height above below h.1
-opening_at (_ ∷ ss) columns height above below h = absurd h.0
+-- signs that a page doesn't show change nothing
+pub after_all_unseen : (signs : List Sign) (p : Canvas) → AllByRecursion IsUnseen signs → page_after signs p ≡ p
+after_all_unseen [] p h = refl
+after_all_unseen (s ∷ ss) p h = ap (page_after ss) (after_unseen s p h.0) ∙ after_all_unseen ss p h.1
 
-pub Home-opening : (columns height : ℕ) (above : List (List ℕ)) (old : List Line) (p : Canvas) (signs : List Sign) → AllByRecursion IsOpening signs
+pub Home-opening : (columns height : ℕ) (above : List (List ℕ)) (old : List Line) (p : Canvas) (signs : List Sign) → AllByRecursion IsUnseen signs
     → Home columns height above old p → Home columns height above old (page_after signs p)
 Home-opening columns height above old p signs o h = record {
   below = h.below;
-  is = ap (page_after signs) h.is ∙ opening_at signs columns height above h.below o;
+  is = after_all_unseen signs p o ∙ h.is;
   shown = h.shown;
   inside = h.inside;
   window = h.window;

@@ -1,10 +1,11 @@
 -- Lines of messages.
-use Rattle.std.proofs.Common.{◌≡◌, ℕ, List, [], ◌∷◌, ◌++◌, map, refl, ap, ◌∙◌, arith}
+use Rattle.std.proofs.Common.{◌≡◌, ℕ, true, false, None, List, [], ◌∷◌, ◌++◌, map, refl, ap, ◌∙◌, arith}
 use Rattle.std.specs.Prelude.{codes, max}
 use Rattle.unicode_width.proofs.Computing.{unicode_width}
 use Rattle.prodash_base.specs.declared.messages.Message.{Message}
 use Rattle.prodash_base.specs.declared.messages.MessageLevel.TheVariants.{Info}
 use Rattle.prodash_base.specs.Messages.{message_of}
+use Rattle.prodash_line.specs.declared.render.line.draw.input.Options.{Options}
 use Rattle.prodash_line.specs.Lines.{line_text}
 use Rattle.prodash_line.specs.MessageLines.{greatest_width, message_lines, latest_origin_widths}
 
@@ -12,17 +13,29 @@ pub greatest_width-append : (widths : List ℕ) (width : ℕ) → greatest_width
 greatest_width-append [] width = omega arith
 greatest_width-append (w ∷ widths) width = ap (max w) (greatest_width-append widths width) ∙ (let e : max w (max (greatest_width widths) width) ≡ max (max w (greatest_width widths)) width = omega arith in e)
 
+-- neither colours nor times
+abbrev plain : Options
+plain = record {
+  level_filter = None;
+  terminal_dimensions = (40, 4);
+  keep_running_if_progress_is_empty = true;
+  output_is_terminal = true;
+  colored = false;
+  timestamp = false;
+  hide_cursor = false;
+}
+
 -- three messages: of `ab`, of `task`, of `c`
 abbrev three : List Message
 three = message_of 0 Info (codes "ab") (codes "x") ∷ message_of 1 Info (codes "task") (codes "y") ∷ message_of 2 Info (codes "c") (codes "z") ∷ []
 
 -- each is aligned to the greatest width up to its own
-lines_three : map line_text (message_lines [] three) ≡ codes " ab x" ∷ codes " task y" ∷ codes "    c z" ∷ []
+lines_three : map line_text (message_lines plain [] three) ≡ codes " ab x" ∷ codes " task y" ∷ codes "    c z" ∷ []
 unfolding unicode_width
 lines_three = refl
 
 -- behind an origin of three columns and one of one
-lines_behind : map line_text (message_lines (3 ∷ 1 ∷ []) three) ≡ codes "  ab x" ∷ codes " task y" ∷ codes "    c z" ∷ []
+lines_behind : map line_text (message_lines plain (3 ∷ 1 ∷ []) three) ≡ codes "  ab x" ∷ codes " task y" ∷ codes "    c z" ∷ []
 unfolding unicode_width
 lines_behind = refl
 

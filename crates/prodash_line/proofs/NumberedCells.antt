@@ -1,5 +1,5 @@
 -- The cells of a bar without a bound, written one after another.
-use Rattle.std.proofs.Common.{◌≡◌, ℕ, suc, ◌+◌, ◌-◌, ◌%◌, ◌≤◌, Bool, true, false, cond, [], ◌∷◌, ◌++◌, map, refl, sym, ap, ◌∙◌, arith}
+use Rattle.std.proofs.Common.{◌≡◌, ℕ, suc, ◌+◌, ◌-◌, ◌%◌, ◌≤◌, Bool, true, false, cond, [], ◌∷◌, ◌++◌, length, map, refl, sym, ap, ◌∙◌, arith, length-append}
 use Rattle.std.specs.Prelude.{zero, nat_lt, reverse}
 use Rattle.std.specs.List.{range_with_len}
 use Rattle.std.proofs.lemmas.List.{map-append}
@@ -24,11 +24,16 @@ numbered_cells-suc number n =
     let above = range_with_len (number + 1) n in
     ap (map numbered_cell) (reverse_onto above number []) ∙ map-append numbered_cell (reverse above) (number ∷ [])
 
-printable-numbered_cells : (number n : ℕ) → is_printable (numbered_cells number n) ≡ true
+pub printable-numbered_cells : (number n : ℕ) → is_printable (numbered_cells number n) ≡ true
 printable-numbered_cells number zero = refl
 printable-numbered_cells number (suc n) =
     ap is_printable (numbered_cells-suc number n)
     ∙ printable-append (numbered_cells (number + 1) n) (numbered_cell number ∷ []) (printable-numbered_cells (number + 1) n) (printable-numbered_cell number)
+
+pub length-numbered_cells : (number n : ℕ) → length (numbered_cells number n) ≡ n
+length-numbered_cells number zero = refl
+length-numbered_cells number (suc n) =
+    omega (arith, ap length (numbered_cells-suc number n), length-append (numbered_cells (number + 1) n) (numbered_cell number ∷ []), length-numbered_cells (number + 1) n)
 
 -- none yet
 pub no_cells_appended : (w : LineWriter) (end : ℕ) → Appends w (piece (numbered_cells end (end - end)) ∷ []) w

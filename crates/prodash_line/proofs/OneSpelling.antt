@@ -1,7 +1,7 @@
 -- No sign's spelling begins another's, so proper signs have one spelling.
-use Rattle.std.proofs.Common.{◌≡◌, ℕ, ◌+◌, ◌<◌, ◌≤◌, Bool, true, false, cond, List, [], ◌∷◌, ◌++◌, length, get_or, take, drop, refl, sym, ap, ◌∙◌, append_assoc, length-append, arith}
+use Rattle.std.proofs.Common.{◌≡◌, ℕ, ◌+◌, ◌<◌, ◌≤◌, Bool, true, false, cond, List, [], ◌∷◌, ◌++◌, length, get_or, take, drop, map, Option, Some, None, refl, sym, ap, ◌∙◌, append_assoc, length-append, arith}
 use Rattle.std.specs.Prelude.{◌==◌}
-use Rattle.std.specs.List.{AllByRecursion, prefix_len}
+use Rattle.std.specs.List.{AllByRecursion, join_with_byte, prefix_len}
 use Rattle.std.specs.Str.Parse.{digits_value, AllDigits}
 use Rattle.std.specs.Char.{encode_utf8, is_control, digit_value}
 use Rattle.std.specs.Fmt.{decimal}
@@ -11,13 +11,25 @@ use Rattle.std.proofs.lemmas.List.{take_at, get_or_at, append_cancel_left}
 use Rattle.std.proofs.lemmas.Str.{encode_same, char_from_byte, length-encode, len_utf8_bounds}
 use Rattle.std.proofs.lemmas.Bool.Decides.{nat_tests}
 use Rattle.prodash_line.specs.declared.render.line.page.sign.Sign.{Sign}
-use Rattle.prodash_line.specs.declared.render.line.page.sign.Sign.TheVariants.{Char, LineFeed, CarriageReturn, Up, EraseLine}
-use Rattle.prodash_line.specs.Signs.{spelling_of, spelling, IsProper}
+use Rattle.prodash_line.specs.declared.render.line.page.sign.Sign.TheVariants.{Char, LineFeed, CarriageReturn, Up, EraseLine, HideCursor, ShowCursor, Open, Reset}
+use Rattle.prodash_line.specs.declared.render.line.page.style.Style.{Style}
+use Rattle.prodash_line.specs.Styles.{style_codes, style_parameters}
+use Rattle.prodash_line.specs.Signs.{spelling_of, spelling, sequence, IsProper}
 use Rattle.prodash_line.specs.Reading.{is_parameter, NoSignAt, AreProper}
+use Rattle.prodash_line.proofs.Lists.{AllByRecursion-append}
+use Rattle.prodash_line.proofs.StyleCodes.{IsCode, are_codes, style_of, style_of-codes}
+use Rattle.prodash_line.proofs.StyleParameters.{parts_of, codes_of_parameters}
+
+-- the sign that begins a style, or ends all if there is none
+abbrev styled : Option Style → Sign
+styled None = Reset
+styled (Some style) = Open style
 
 -- the sign that has this sequence, if one does
 abbrev pub candidate : List ℕ → ℕ → Sign
-candidate parameters final_byte = cond (final_byte == 65) (Up (digits_value 10 parameters)) EraseLine
+candidate parameters final_byte =
+    cond (final_byte == 65) (Up (digits_value 10 parameters)) (cond (final_byte == 75) EraseLine (cond (final_byte == 108) HideCursor (cond (final_byte == 104) ShowCursor
+    (styled (style_of (map (digits_value 10) (parts_of parameters)))))))
 
 -- the sign other than a character that the bytes begin with, if they do
 abbrev pub unspell : List ℕ → Sign
@@ -43,6 +55,26 @@ pub digits_parameters : (p : List ℕ) → AllDigits 10 p → AllByRecursion (λ
 digits_parameters [] h = tt
 digits_parameters (c ∷ p) h = (digit_parameter c h.0, digits_parameters p h.1)
 
+-- and so are codes in decimal, and `;`
+codes_parameters : (codes : List ℕ) → AllByRecursion IsCode codes → AllByRecursion (λ b. is_parameter b ≡ true) (join_with_byte 59 (map decimal codes))
+codes_parameters [] h = tt
+codes_parameters (code ∷ []) h = digits_parameters (decimal code) (decimal_is_IsNumeral code (omega arith)).0.1
+codes_parameters (code ∷ next ∷ codes) h =
+    AllByRecursion-append (λ b. is_parameter b ≡ true) (decimal code) _ (digits_parameters (decimal code) (decimal_is_IsNumeral code (omega arith)).0.1) (refl, codes_parameters (next ∷ codes) h.1)
+
+pub style_is_parameters : (s : Style) → AllByRecursion (λ b. is_parameter b ≡ true) (style_parameters s)
+style_is_parameters s = codes_parameters (style_codes s) (are_codes s)
+
+-- a sequence, read back from its bytes
+unspell_sequence : (parameters : List ℕ) (final_byte : ℕ) (x : List ℕ) → AllByRecursion (λ b. is_parameter b ≡ true) parameters → is_parameter final_byte ≡ false → unspell (sequence parameters final_byte ++ x) ≡ candidate parameters final_byte
+unspell_sequence parameters final_byte x each other =
+    let text : (parameters ++ final_byte ∷ []) ++ x ≡ parameters ++ final_byte ∷ x = append_assoc parameters (final_byte ∷ []) x in
+    let size : prefix_len is_parameter (parameters ++ final_byte ∷ x) ≡ length parameters = prefix_parameters parameters final_byte x each other in
+    ap (λ (t : List ℕ). candidate (take (prefix_len is_parameter t) t) (get_or t (prefix_len is_parameter t) 0)) text
+    ∙ ap (λ (k : ℕ). candidate (take k (parameters ++ final_byte ∷ x)) (get_or (parameters ++ final_byte ∷ x) k 0)) size
+    ∙ ap (λ (t : List ℕ). candidate t (get_or (parameters ++ final_byte ∷ x) (length parameters) 0)) (take_at parameters (final_byte ∷ x) (length parameters) refl)
+    ∙ ap (candidate parameters) (get_or_at parameters final_byte x 0 (length parameters) refl)
+
 -- a sign that is no character, read back from its bytes
 pub unspell_other : (s : Sign) (x : List ℕ) → IsOther s → IsProper s → unspell (spelling_of s ++ x) ≡ s
 unspell_other (Char c) x o p = absurd o
@@ -50,14 +82,12 @@ unspell_other LineFeed x o p = refl
 unspell_other CarriageReturn x o p = refl
 unspell_other (Up n) x o p =
     let numeral = decimal_is_IsNumeral n (omega arith) in
-    let text : (decimal n ++ 65 ∷ []) ++ x ≡ decimal n ++ 65 ∷ x = append_assoc (decimal n) (65 ∷ []) x in
-    let size : prefix_len is_parameter (decimal n ++ 65 ∷ x) ≡ length (decimal n) = prefix_parameters (decimal n) 65 x (digits_parameters (decimal n) numeral.0.1) refl in
-    ap (λ (t : List ℕ). candidate (take (prefix_len is_parameter t) t) (get_or t (prefix_len is_parameter t) 0)) text
-    ∙ ap (λ (k : ℕ). candidate (take k (decimal n ++ 65 ∷ x)) (get_or (decimal n ++ 65 ∷ x) k 0)) size
-    ∙ ap (λ (t : List ℕ). candidate t (get_or (decimal n ++ 65 ∷ x) (length (decimal n)) 0)) (take_at (decimal n) (65 ∷ x) (length (decimal n)) refl)
-    ∙ ap (candidate (decimal n)) (get_or_at (decimal n) 65 x 0 (length (decimal n)) refl)
-    ∙ ap (λ (m : ℕ). Up m) numeral.1
+    unspell_sequence (decimal n) 65 x (digits_parameters (decimal n) numeral.0.1) refl ∙ ap (λ (m : ℕ). Up m) numeral.1
 unspell_other EraseLine x o p = refl
+unspell_other HideCursor x o p = refl
+unspell_other ShowCursor x o p = refl
+unspell_other (Open style) x o p = unspell_sequence (style_parameters style) 109 x (style_is_parameters style) refl ∙ ap (λ (codes : List ℕ). styled (style_of codes)) (codes_of_parameters style p) ∙ ap styled (style_of-codes style)
+unspell_other Reset x o p = refl
 
 -- the first byte of a sign other than a character is that of a control character
 first_other : (s : Sign) (x : List ℕ) → IsOther s → (get_or (spelling_of s ++ x) 0 0 < 128) × (0 < length (spelling_of s ++ x)) × (is_control (get_or (spelling_of s ++ x) 0 0) ≡ true)

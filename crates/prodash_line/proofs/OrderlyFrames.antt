@@ -1,52 +1,84 @@
--- Frames whose first and last signs change nothing on a page, as those of a renderer do.
-use Rattle.std.proofs.Common.{Bool, true, false, cond, List, [], ◌∷◌, ◌++◌, Some, None, Result, Ok, Err}
-use Rattle.std.specs.Prelude.{⊤}
+-- Frames whose first and last signs change nothing on a page, and whose styles have codes, as those of a renderer do.
+use Rattle.std.proofs.Common.{ℕ, Bool, true, false, cond, List, [], ◌∷◌, ◌++◌, Some, None, Result, Ok, Err}
+use Rattle.std.specs.Prelude.{⊤, ◌&&◌}
 use Rattle.std.specs.List.{AllByRecursion}
+use Rattle.prodash_base.specs.Rows.{PathRow}
 use Rattle.prodash_base.specs.declared.refusal.Refusal.{Refusal}
 use Rattle.prodash_base.specs.declared.refusal.Refusal.TheVariants as refusals
 use Rattle.prodash_line.specs.declared.render.line.draw.input.Input.{Input}
-use Rattle.prodash_line.specs.declared.render.line.draw.input.Input.TheVariants.{Tick, Quit}
+use Rattle.prodash_line.specs.declared.render.line.draw.input.Input.TheVariants.{Tick, Resize, Quit}
 use Rattle.prodash_line.specs.declared.render.line.draw.input.Answer.{Answer}
 use Rattle.prodash_line.specs.declared.render.line.page.sign.Sign.{Sign}
-use Rattle.prodash_line.specs.declared.render.line.page.sign.Sign.TheVariants.{CarriageReturn, EraseLine}
+use Rattle.prodash_line.specs.declared.render.line.page.sign.Sign.TheVariants.{CarriageReturn, EraseLine, HideCursor, ShowCursor}
 use Rattle.prodash_line.specs.Lines.{Line}
 use Rattle.prodash_line.specs.Frames.{Body, Unchanged, Draws, Closes, Frame}
-use Rattle.prodash_line.specs.ProgressRows.{row_lines}
-use Rattle.prodash_line.specs.Renderer.{Renderer, is_drawn, frame_at}
+use Rattle.prodash_line.specs.Renderer.{Renderer, hides_cursor, is_cursor_hidden, ending_of, is_drawn, closes_at, drawn_rows, drawn_lines, latest_rows, resized, closing_frame, frame_at}
 use Rattle.prodash_line.specs.Renderings.{Rendering, renderer_after, Attempt, attempt_of, attempts_of, frames_of, drawn_frames}
-
--- a sign that changes nothing if the cursor is at the beginning of a row
-abbrev pub IsOpening : Sign → Type 0
-IsOpening CarriageReturn = ⊤
-IsOpening _ = ⊥
+use Rattle.prodash_line.proofs.StyledLines.{HaveCodes, rows_have, messages_have}
+use Rattle.prodash_line.proofs.UnseenSigns.{IsUnseen}
 
 -- a sign that changes nothing if the cursor is at the beginning of a blank row
 abbrev pub IsEnding : Sign → Type 0
 IsEnding CarriageReturn = ⊤
 IsEnding EraseLine = ⊤
-IsEnding _ = ⊥
+IsEnding s = IsUnseen s
 
 abbrev pub EndsOrderly : Body → Type 0
 EndsOrderly Unchanged = ⊤
-EndsOrderly (Draws lines) = ⊤
+EndsOrderly (Draws lines) = HaveCodes lines
 EndsOrderly (Closes ending) = AllByRecursion IsEnding ending
 
--- a frame that opens and ends with such signs
+-- a frame that opens with signs that a page doesn't show, ends with such signs, and whose styles have codes
 pub record IsOrderly (f : Frame) : Type 0 where
-  pub opening : AllByRecursion IsOpening f.opening
+  pub opening : AllByRecursion IsUnseen f.opening
+  pub messages : HaveCodes f.messages
   pub body : EndsOrderly f.body
 
+-- a frame that hides the cursor or not
+opens : (hides : Bool) → AllByRecursion IsUnseen (cond hides (HideCursor ∷ []) [])
+opens true = (tt, tt)
+opens false = tt
+
+-- and shows it or not, on a terminal or not
+ends : (hidden terminal : Bool) → AllByRecursion IsEnding (cond hidden (ShowCursor ∷ []) [] ++ cond terminal (EraseLine ∷ CarriageReturn ∷ []) [])
+ends true true = (tt, (tt, (tt, tt)))
+ends true false = (tt, tt)
+ends false true = (tt, (tt, tt))
+ends false false = tt
+
+closes : (r : Renderer) → AllByRecursion IsEnding (ending_of r)
+closes r = ends (is_cursor_hidden r) r.options.output_is_terminal
+
 -- lines that are drawn or not
-drawn_or_not : (drawn : Bool) (lines : List Line) → EndsOrderly (cond drawn (Draws lines) Unchanged)
-drawn_or_not true lines = tt
-drawn_or_not false lines = tt
+drawn_or_not : (drawn : Bool) (lines : List Line) → HaveCodes lines → EndsOrderly (cond drawn (Draws lines) Unchanged)
+drawn_or_not true lines h = h
+drawn_or_not false lines h = tt
+
+closed_or_not : (r : Renderer) (closed drawn : Bool) (lines : List Line) → HaveCodes lines → EndsOrderly (cond closed (Closes (ending_of r)) (cond drawn (Draws lines) Unchanged))
+closed_or_not r true drawn lines h = closes r
+closed_or_not r false drawn lines h = drawn_or_not drawn lines h
+
+lines_have : (r : Renderer) (at : ℕ) (rows : List PathRow) → HaveCodes (drawn_lines r at rows)
+lines_have r at rows = rows_have r.options r.midpoint (drawn_rows r at rows)
+
+closes_orderly : (r : Renderer) → IsOrderly (closing_frame r)
+closes_orderly r = record { opening = opens (hides_cursor r); messages = tt; body = closes r }
 
 -- each frame of a renderer
 pub orderly_at : (r : Renderer) (input : Input) → IsOrderly (frame_at r input)
 orderly_at r (Tick at show (Some seen)) =
-    record { opening = tt; body = drawn_or_not (is_drawn r show seen.0) (row_lines r.options.terminal_dimensions.0 r.midpoint seen.0) }
-orderly_at r (Tick at show None) = record { opening = tt; body = (tt, (tt, tt)) }
-orderly_at r (Quit at) = record { opening = tt; body = (tt, (tt, tt)) }
+    record {
+      opening = opens (hides_cursor r);
+      messages = messages_have r.options r.origin_widths seen.1;
+      body = closed_or_not r (closes_at r seen.0) (is_drawn r show seen.0) (drawn_lines r at seen.0) (lines_have r at seen.0);
+    }
+orderly_at r (Tick at show None) = closes_orderly r
+orderly_at r (Resize at show columns height) = record {
+  opening = opens (hides_cursor r);
+  messages = tt;
+  body = drawn_or_not (show && r.options.output_is_terminal) (drawn_lines (resized r columns height) at (latest_rows r.last_rows)) (lines_have (resized r columns height) at (latest_rows r.last_rows));
+}
+orderly_at r (Quit at) = closes_orderly r
 
 -- with the frames after it
 then_orderly : (frame : Frame) (result : Result Answer Refusal) (attempts : List Attempt) → IsOrderly frame
@@ -57,6 +89,7 @@ then_orderly frame (Err refusals.Memory) attempts h hs = hs
 then_orderly frame (Err refusals.Closed) attempts h hs = hs
 then_orderly frame (Err refusals.Gone) attempts h hs = hs
 then_orderly frame (Err refusals.TooManyMessages) attempts h hs = hs
+then_orderly frame (Err refusals.TooManyHandles) attempts h hs = hs
 
 -- the frames of a list of inputs
 pub orderly_frames : (r : Renderer) (xs : List Rendering) → AllByRecursion IsOrderly (drawn_frames r xs)

@@ -1,17 +1,15 @@
 -- Lines over those on screen: their bytes are the spelling of a frame's signs.
-use Rattle.std.proofs.Common.{◌≡◌, ℕ, suc, ◌+◌, ◌-◌, ◌<◌, ◌≤◌, Bool, true, false, cond, List, [], ◌∷◌, ◌++◌, length, drop, replicate, refl, sym, ap, ◌∙◌, append_assoc, append-nil, arith, ⊎_elim, get_or, drop-cons, length-drop}
+use Rattle.std.proofs.Common.{◌≡◌, ℕ, suc, ◌+◌, ◌-◌, ◌<◌, ◌≤◌, List, [], ◌∷◌, ◌++◌, length, drop, replicate, refl, sym, ap, ◌∙◌, append_assoc, append-nil, arith, ⊎_elim, get_or, drop-cons, length-drop}
 use Rattle.std.specs.Prelude.{min, max}
 use Rattle.std.proofs.lemmas.Bool.{cases_lt}
 use Rattle.std.proofs.lemmas.List.{drop-drop, drop_all}
-use Rattle.prodash_base.specs.Rows.{PathRow}
 use Rattle.prodash_base.specs.declared.messages.Message.{Message}
 use Rattle.prodash_line.specs.declared.render.line.page.sign.Sign.TheVariants.{LineFeed}
 use Rattle.prodash_line.specs.Signs.{spelling}
 use Rattle.prodash_line.specs.Lines.{Line, spaces, columns_of}
-use Rattle.prodash_line.specs.Frames.{Body, Unchanged, Draws, Frame, line_signs, piece_signs, overwrite_line, first_width, overwrite, cursor_up, redraw, body_signs, frame_signs, widths_after}
-use Rattle.prodash_line.specs.ProgressRows.{row_lines}
-use Rattle.prodash_line.specs.MessageLines.{message_line, message_lines, origin_width, widths_of_origins, greatest_width}
-use Rattle.prodash_line.specs.Renderer.{Renderer, is_drawn, tick_frame}
+use Rattle.prodash_line.specs.Frames.{Frame, line_signs, piece_signs, overwrite_line, first_width, overwrite, cursor_up, redraw, body_signs, frame_signs}
+use Rattle.prodash_line.specs.declared.render.line.draw.input.Options.{Options}
+use Rattle.prodash_line.specs.MessageLines.{drawn_message_line, message_lines, origin_width, widths_of_origins, greatest_width}
 use Rattle.prodash_line.specs.plumbing.Writing.{line_bytes}
 use Rattle.prodash_line.specs.plumbing.OverwriteBytes.{row_end, overwrite_line_bytes, overwrite_bytes, blank_bytes}
 use Rattle.prodash_line.proofs.Columns.{printable-spaces}
@@ -91,19 +89,19 @@ pub left_from : (messages : List Message) (i : ℕ) (m : Message) → i < length
 left_from messages i m h e = drop-cons messages i m h ∙ ap (λ x. x ∷ drop (suc i) messages) (sym e) ∙ ap (λ k. m ∷ drop k messages) (let next : suc i ≡ i + 1 = omega arith in next)
 
 -- one message more, of these that are left
-pub message_more : (widths kept new_kept old new total : List ℕ) (m : Message) (messages left : List Message) (greatest own width : ℕ) (others : List ℕ)
+pub message_more : (options : Options) (widths kept new_kept old new total : List ℕ) (m : Message) (messages left : List Message) (greatest own width : ℕ) (others : List ℕ)
     → own ≡ origin_width m.origin → greatest ≡ max (greatest_width kept) own → new_kept ≡ kept ++ own ∷ [] → width ≡ first_width widths → others ≡ drop 1 widths
-    → new ≡ old ++ overwrite_line_bytes width (message_line greatest m)
-    → left ≡ m ∷ messages → old ++ overwrite_bytes widths (message_lines kept left) ≡ total
-    → new ++ overwrite_bytes others (message_lines new_kept messages) ≡ total
-message_more widths kept new_kept old new total m messages left greatest own width others o g k w l n f e =
+    → new ≡ old ++ overwrite_line_bytes width (drawn_message_line options greatest m)
+    → left ≡ m ∷ messages → old ++ overwrite_bytes widths (message_lines options kept left) ≡ total
+    → new ++ overwrite_bytes others (message_lines options new_kept messages) ≡ total
+message_more options widths kept new_kept old new total m messages left greatest own width others o g k w l n f e =
     let all : new_kept ≡ kept ++ origin_width m.origin ∷ [] = k ∙ ap (λ x. kept ++ x ∷ []) o in
     let size : greatest ≡ greatest_width (kept ++ origin_width m.origin ∷ []) = g ∙ ap (max (greatest_width kept)) o ∙ sym (greatest_width-append kept (origin_width m.origin)) in
-    let here = overwrite_line_bytes (first_width widths) (message_line (greatest_width (kept ++ origin_width m.origin ∷ [])) m) in
-    let there = overwrite_bytes (drop 1 widths) (message_lines (kept ++ origin_width m.origin ∷ []) messages) in
-    ap (λ t. new ++ overwrite_bytes t (message_lines new_kept messages)) l ∙ ap (λ t. new ++ overwrite_bytes (drop 1 widths) (message_lines t messages)) all
-    ∙ ap (λ t. t ++ there) (n ∙ ap (λ x. old ++ overwrite_line_bytes x (message_line greatest m)) w ∙ ap (λ x. old ++ overwrite_line_bytes (first_width widths) (message_line x m)) size)
-    ∙ append_assoc old here there ∙ ap (λ ms. old ++ overwrite_bytes widths (message_lines kept ms)) (sym f) ∙ e
+    let here = overwrite_line_bytes (first_width widths) (drawn_message_line options (greatest_width (kept ++ origin_width m.origin ∷ [])) m) in
+    let there = overwrite_bytes (drop 1 widths) (message_lines options (kept ++ origin_width m.origin ∷ []) messages) in
+    ap (λ t. new ++ overwrite_bytes t (message_lines options new_kept messages)) l ∙ ap (λ t. new ++ overwrite_bytes (drop 1 widths) (message_lines options t messages)) all
+    ∙ ap (λ t. t ++ there) (n ∙ ap (λ x. old ++ overwrite_line_bytes x (drawn_message_line options greatest m)) w ∙ ap (λ x. old ++ overwrite_line_bytes (first_width widths) (drawn_message_line options x m)) size)
+    ∙ append_assoc old here there ∙ ap (λ ms. old ++ overwrite_bytes widths (message_lines options kept ms)) (sym f) ∙ e
 
 -- and its origin
 pub origin_more : (kept new_kept total : List ℕ) (m : Message) (messages left : List Message) (own : ℕ) → own ≡ origin_width m.origin → new_kept ≡ kept ++ own ∷ []
@@ -112,44 +110,19 @@ origin_more kept new_kept total m messages left own o k f e =
     ap (λ t. t ++ widths_of_origins messages) (k ∙ ap (λ n. kept ++ n ∷ []) o) ∙ append_assoc kept (origin_width m.origin ∷ []) (widths_of_origins messages)
     ∙ ap (λ ms. kept ++ widths_of_origins ms) (sym f) ∙ e
 
-length-message_lines : (widths : List ℕ) (messages : List Message) → length (message_lines widths messages) ≡ length messages
-length-message_lines widths [] = refl
-length-message_lines widths (m ∷ messages) = ap suc (length-message_lines (widths ++ origin_width m.origin ∷ []) messages)
+pub length-message_lines : (options : Options) (widths : List ℕ) (messages : List Message) → length (message_lines options widths messages) ≡ length messages
+length-message_lines options widths [] = refl
+length-message_lines options widths (m ∷ messages) = ap suc (length-message_lines options (widths ++ origin_width m.origin ∷ []) messages)
 
 -- ---- whole frames
 
-abbrev frame_of : List Line → Body → Frame
-frame_of messages body = record { opening = []; messages = messages; body = body }
-
--- the messages over the lines on screen, and the body over those that are left
-with_body : (widths left a : List ℕ) (messages : List Line) (count : ℕ) (body : Body) → a ≡ overwrite_bytes widths messages → left ≡ drop count widths → count ≡ length messages
-    → a ++ spelling (body_signs left body) ≡ spelling (frame_signs widths (frame_of messages body))
-with_body widths left a messages count body e l n =
-    ap (λ t. t ++ spelling (body_signs left body)) (e ∙ overwritten widths messages)
-    ∙ ap (λ w. spelling (overwrite widths messages) ++ spelling (body_signs w body)) (l ∙ ap (λ k. drop k widths) n)
-    ∙ sym (spelling-append (overwrite widths messages) (body_signs (drop (length messages) widths) body))
-
-abbrev pub lines_at : Renderer → List PathRow → List Line
-lines_at r rows = row_lines r.options.terminal_dimensions.0 r.midpoint rows
-
-abbrev pub frame_if : Renderer → List PathRow → List Message → Bool → Frame
-frame_if r rows messages drawn = frame_of (message_lines r.origin_widths messages) (cond drawn (Draws (lines_at r rows)) Unchanged)
-
-pub drawn_bytes : (r : Renderer) (at : ℕ) (show : Bool) (rows : List PathRow) (messages : List Message) (left a d : List ℕ) (count : ℕ) → is_drawn r show rows ≡ true
-    → a ≡ overwrite_bytes r.widths (message_lines r.origin_widths messages) → left ≡ drop count r.widths → count ≡ length messages
-    → d ≡ a ++ spelling (redraw left (lines_at r rows)) → d ≡ spelling (frame_signs r.widths (tick_frame r at show rows messages))
-drawn_bytes r at show rows messages left a d count h e l n x =
-    x ∙ with_body r.widths left a (message_lines r.origin_widths messages) count (Draws (lines_at r rows)) e l (n ∙ sym (length-message_lines r.origin_widths messages))
-    ∙ ap (λ b. spelling (frame_signs r.widths (frame_if r rows messages b))) (sym h)
-
-pub unchanged_bytes : (r : Renderer) (at : ℕ) (show : Bool) (rows : List PathRow) (messages : List Message) (a : List ℕ) → is_drawn r show rows ≡ false
-    → a ≡ overwrite_bytes r.widths (message_lines r.origin_widths messages) → a ≡ spelling (frame_signs r.widths (tick_frame r at show rows messages))
-unchanged_bytes r at show rows messages a h e =
-    sym (append-nil a)
-    ∙ with_body r.widths (drop (length messages) r.widths) a (message_lines r.origin_widths messages) (length messages) Unchanged e refl (sym (length-message_lines r.origin_widths messages))
-    ∙ ap (λ b. spelling (frame_signs r.widths (frame_if r rows messages b))) (sym h)
-
-pub unchanged_widths : (r : Renderer) (at : ℕ) (show : Bool) (rows : List PathRow) (messages : List Message) (widths : List ℕ) → is_drawn r show rows ≡ false
-    → widths ≡ drop (length messages) r.widths → widths ≡ widths_after r.widths (tick_frame r at show rows messages)
-unchanged_widths r at show rows messages widths h w =
-    w ∙ ap (λ n. drop n r.widths) (sym (length-message_lines r.origin_widths messages)) ∙ ap (λ b. widths_after r.widths (frame_if r rows messages b)) (sym h)
+-- what it begins with, the messages over the lines on screen, and the body over those that are left
+pub frame_bytes_of : (f : Frame) (widths left o a b : List ℕ) (count : ℕ) → o ≡ spelling f.opening → a ≡ o ++ overwrite_bytes widths f.messages → left ≡ drop count widths
+    → count ≡ length f.messages → b ≡ a ++ spelling (body_signs left f.body) → b ≡ spelling (frame_signs widths f)
+frame_bytes_of f widths left o a b count eo ea l n eb =
+    let end = body_signs (drop (length f.messages) widths) f.body in
+    eb ∙ ap (λ t. t ++ spelling (body_signs left f.body)) (ea ∙ ap (λ t. t ++ overwrite_bytes widths f.messages) eo ∙ ap (λ t. spelling f.opening ++ t) (overwritten widths f.messages))
+    ∙ ap (λ w. (spelling f.opening ++ spelling (overwrite widths f.messages)) ++ spelling (body_signs w f.body)) (l ∙ ap (λ k. drop k widths) n)
+    ∙ append_assoc (spelling f.opening) (spelling (overwrite widths f.messages)) (spelling end)
+    ∙ ap (λ t. spelling f.opening ++ t) (sym (spelling-append (overwrite widths f.messages) end))
+    ∙ sym (spelling-append f.opening (overwrite widths f.messages ++ end))

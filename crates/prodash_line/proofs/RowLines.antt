@@ -1,46 +1,81 @@
 -- The line of a row, from what was appended to it.
-use Rattle.std.proofs.Common.{◌≡◌, ℕ, ◌+◌, ◌-◌, false, true, List, [], ◌∷◌, ◌++◌, Some, length, replicate, ap, sym, ◌∙◌, arith, length-append}
+use Rattle.std.proofs.Common.{◌≡◌, ℕ, ◌+◌, ◌-◌, ◌%◌, ◌^◌, ◌<◌, Bool, false, true, List, [], ◌∷◌, ◌++◌, Option, Some, None, length, replicate, ap, sym, ◌∙◌, arith, length-append}
+use Rattle.std.specs.Prelude.{codes}
+use Rattle.std.specs.Fmt.{decimal}
+use Rattle.std.proofs.lemmas.Fmt.{decimal_by_steps}
 use Rattle.unicode_width.specs.Width.{str_width}
-use Rattle.prodash_base.specs.Rows.{PathRow, Progress}
+use Rattle.prodash_base.specs.Rows.{PathRow, RowProgress}
+use Rattle.prodash_base.specs.declared.unit.display.Throughput.{Throughput}
 use Rattle.prodash_line.specs.declared.render.line.draw.line.LineWriter.{LineWriter}
-use Rattle.prodash_line.specs.Lines.{Line, piece, spaces, capped, columns_of}
-use Rattle.prodash_line.specs.ProgressRows.{fraction_of, head_of, padded, bar, midpoint_with, row_line_with}
+use Rattle.prodash_line.specs.declared.render.line.page.style.Style.{Style}
+use Rattle.prodash_line.specs.Lines.{Line, piece, spaces, capped, columns_of, in_color}
+use Rattle.prodash_line.specs.TextStyles.{row_style}
+use Rattle.prodash_line.specs.ProgressRows.{fraction_of, values_of, head_of, padded, bar, midpoint_with, row_line_with}
+use Rattle.prodash_line.specs.plumbing.Padding.{end_of_values, padded_values}
 use Rattle.prodash_line.specs.plumbing.Writing.{is_printable, Appends, Begun}
 use Rattle.prodash_line.proofs.Columns.{columns_of-append, printable-append, width-printable, width-repeated}
+use Rattle.prodash_line.proofs.Coloring.{in_color-append, columns_of-in_color}
 use Rattle.prodash_line.proofs.LineWriting.{appends_as, appends_then, appends_joined, begun_then, begun_as}
 
--- the values, part by part
-pub values_append : {a b c d : LineWriter} (p : Progress ℕ) (step slash bound : List ℕ) → fraction_of p.counter p.bound ≡ step ++ (slash ++ bound)
+-- a fraction, part by part
+pub fraction_appends : {a b c d : LineWriter} (text step slash bound : List ℕ) → text ≡ step ++ (slash ++ bound)
     → is_printable step ≡ true → is_printable slash ≡ true → is_printable bound ≡ true
-    → Appends a (piece step ∷ []) b → Appends b (piece slash ∷ []) c → Appends c (piece bound ∷ []) d → Appends a (piece (fraction_of p.counter p.bound) ∷ []) d
-values_append p step slash bound v q1 q2 q3 h1 h2 h3 =
+    → Appends a (piece step ∷ []) b → Appends b (piece slash ∷ []) c → Appends c (piece bound ∷ []) d → Appends a (piece text ∷ []) d
+fraction_appends text step slash bound v q1 q2 q3 h1 h2 h3 =
     appends_as (ap (λ t. piece t ∷ []) (sym v)) (appends_joined step (slash ++ bound) q1 (printable-append slash bound q2 q3) h1 (appends_joined slash bound q2 q3 h2 h3))
 
--- how far they go
-pub own_midpoint : {old w : LineWriter} (row : PathRow) (p : Progress ℕ) (step slash bound : List ℕ) (width own : ℕ) → Begun old (head_of row) w
-    → fraction_of p.counter p.bound ≡ step ++ (slash ++ bound) → is_printable step ≡ true → is_printable slash ≡ true → is_printable bound ≡ true
-    → width ≡ length step + length slash + length bound → own ≡ capped (capped (w.width + 1) + width) → own ≡ midpoint_with row (Some p)
-own_midpoint row p step slash bound width own h v q1 q2 q3 e o =
+-- it has a digit
+digits_some : (n : ℕ) → n < 2 ^ 64 → 0 < length (decimal n)
+digits_some n small =
+    decimal_by_steps (λ n ds. 0 < length ds) (λ n h. omega arith) (λ n ds h e. omega (arith, length-append ds ((48 + n % 10) ∷ []))) n small
+
+pub fraction_some : (step : ℕ) (bound : Option ℕ) → step < 2 ^ 64 → 0 < length (fraction_of step bound)
+fraction_some step None small = digits_some step small
+fraction_some step (Some bound) small = omega (arith, digits_some step small, length-append (decimal step) (codes "/" ++ decimal bound))
+
+-- where it ends
+pub fraction_end : (text step slash bound : List ℕ) (before width own : ℕ) → text ≡ step ++ (slash ++ bound)
+    → is_printable step ≡ true → is_printable slash ≡ true → is_printable bound ≡ true
+    → width ≡ length step + length slash + length bound → own ≡ capped (capped (before + 1) + width) → own ≡ end_of_values before (piece text ∷ [])
+fraction_end text step slash bound before width own v q1 q2 q3 e o =
     let values = step ++ (slash ++ bound) in
-    let tail : Line = spaces 1 ∷ piece values ∷ [] in
-    let more : columns_of (head_of row ++ tail) ≡ capped (columns_of (head_of row) + columns_of tail) = columns_of-append (head_of row) tail in
     let one : str_width false (replicate 1 32) ≡ 1 = width-repeated 1 32 (omega arith) (omega arith) in
-    let text : str_width false values ≡ length values = width-printable values (printable-append step (slash ++ bound) q1 (printable-append slash bound q2 q3)) in
+    let columns : str_width false values ≡ length values = width-printable values (printable-append step (slash ++ bound) q1 (printable-append slash bound q2 q3)) in
     let size : length values ≡ length step + length slash + length bound = omega (arith, length-append step (slash ++ bound), length-append slash bound) in
-    let head = h.writes.width in
-    let same : own ≡ columns_of (head_of row ++ tail) = omega arith in
-    same ∙ ap (λ t. columns_of (head_of row ++ (spaces 1 ∷ piece t ∷ []))) (sym v)
+    let same : own ≡ end_of_values before (piece values ∷ []) = omega arith in
+    same ∙ ap (λ t. end_of_values before (piece t ∷ [])) (sym v)
+
+-- where values and a unit end
+pub unit_end : (values unit : List ℕ) (before first second own : ℕ) → first ≡ columns_of (piece values ∷ []) → second ≡ columns_of (piece unit ∷ [])
+    → own ≡ capped (capped (capped (capped (before + 1) + first) + 1) + second) → own ≡ end_of_values before (piece values ∷ spaces 1 ∷ piece unit ∷ [])
+unit_end values unit before first second own f s o =
+    let one : str_width false (replicate 1 32) ≡ 1 = width-repeated 1 32 (omega arith) (omega arith) in
+    omega arith
+
+-- a space, padding and values
+pub padded_appends : {a b c d : LineWriter} (colored : Bool) (midpoint own pad : ℕ) (values : Line) → own ≡ end_of_values a.width values → pad ≡ midpoint - own
+    → Appends a (spaces 1 ∷ []) b → Appends b (spaces pad ∷ []) c → Appends c (in_color colored values) d → Appends a (in_color colored (padded_values midpoint a.width values)) d
+padded_appends colored midpoint own pad values o p one two three =
+    appends_as (ap (λ n. spaces 1 ∷ spaces n ∷ in_color colored values) (p ∙ ap (λ n. midpoint - n) o)) (appends_then one (appends_then two three))
+
+-- the midpoint of a row, from where its values end behind its head
+pub row_midpoint : {old w : LineWriter} (colored : Bool) (row : PathRow) (p : RowProgress) (t : Option Throughput) → Begun old (in_color colored (head_of row)) w
+    → end_of_values w.width (values_of p t) ≡ midpoint_with row (Some p) t
+row_midpoint colored row p t h =
+    ap (λ n. end_of_values n (values_of p t)) h.writes.width ∙ sym (columns_of-append (head_of row) (spaces 1 ∷ values_of p t))
 
 -- the line up to the values
-pub padded_begun : {old w1 w2 w3 w4 : LineWriter} (row : PathRow) (p : Progress ℕ) (midpoint pad own : ℕ) → Begun old (head_of row) w1 → own ≡ midpoint_with row (Some p)
-    → pad ≡ midpoint - own → Appends w1 (spaces 1 ∷ []) w2 → Appends w2 (spaces pad ∷ []) w3 → Appends w3 (piece (fraction_of p.counter p.bound) ∷ []) w4
-    → Begun old (padded midpoint row p) w4
-padded_begun row p midpoint pad own h o e one two three =
-    begun_as (ap (λ n. head_of row ++ (spaces 1 ∷ spaces n ∷ piece (fraction_of p.counter p.bound) ∷ [])) (e ∙ ap (λ n. midpoint - n) o))
-    (begun_then h (appends_then one (appends_then two three)))
+pub padded_begun : {old w1 w2 : LineWriter} (colored : Bool) (row : PathRow) (p : RowProgress) (t : Option Throughput) (midpoint : ℕ) → Begun old (in_color colored (head_of row)) w1
+    → Appends w1 (in_color colored (padded_values midpoint w1.width (values_of p t))) w2 → Begun old (in_color colored (padded midpoint row p t)) w2
+padded_begun colored row p t midpoint h values =
+    begun_as (ap (λ n. in_color colored (head_of row ++ (spaces 1 ∷ spaces (midpoint - n) ∷ values_of p t))) (row_midpoint colored row p t h)) (begun_then h values)
 
 -- with the bar
-pub row_begun : {old w4 w5 : LineWriter} (row : PathRow) (p : Progress ℕ) (width midpoint left : ℕ) → Begun old (padded midpoint row p) w4 → left ≡ width - w4.width
-    → Appends w4 (bar left p.counter p.bound) w5 → Begun old (row_line_with width midpoint row (Some p)) w5
-row_begun row p width midpoint left h l b =
-    begun_then h (appends_as (ap (λ n. bar n p.counter p.bound) (l ∙ ap (λ n. width - n) h.writes.width)) b)
+pub row_begun : {old w1 w2 : LineWriter} (colored : Bool) (row : PathRow) (p : RowProgress) (t : Option Throughput) (width midpoint left : ℕ) (style : Style)
+    → Begun old (in_color colored (padded midpoint row p t)) w1 → left ≡ width - w1.width → style ≡ row_style p
+    → Appends w1 (in_color colored (bar style left p.counter p.bound)) w2 → Begun old (in_color colored (row_line_with width midpoint row (Some p) t)) w2
+row_begun colored row p t width midpoint left style h l s b =
+    let values = padded midpoint row p t in
+    let columns = l ∙ ap (λ n. width - n) (h.writes.width ∙ columns_of-in_color colored values) in
+    begun_as (sym (in_color-append colored values (bar (row_style p) (width - columns_of values) p.counter p.bound)))
+    (begun_then h (appends_as (ap (λ x. in_color colored (bar x left p.counter p.bound)) s ∙ ap (λ n. in_color colored (bar (row_style p) n p.counter p.bound)) columns) b))

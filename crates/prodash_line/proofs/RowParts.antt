@@ -1,14 +1,25 @@
 -- One line on a page, over the line on screen in its row.
-use Rattle.std.proofs.Common.{◌≡◌, ℕ, ◌+◌, ◌-◌, ◌≤◌, List, [], ◌∷◌, ◌++◌, length, drop, map, sym, ap, ◌∙◌, append_assoc, length-append, length-drop, arith}
+use Rattle.std.proofs.Common.{◌≡◌, ℕ, ◌+◌, ◌-◌, ◌≤◌, List, [], ◌∷◌, ◌++◌, Option, Some, None, length, drop, map, sym, ap, ◌∙◌, append_assoc, length-append, length-drop, arith}
 use Rattle.std.specs.Prelude.{replicate}
 use Rattle.std.proofs.lemmas.List.{append-nil, drop-drop, drop-replicate, replicate-append-replicate, length-replicate}
-use Rattle.prodash_line.specs.declared.render.line.page.sign.Sign.TheVariants.{Char, LineFeed}
+use Rattle.prodash_line.specs.declared.render.line.page.sign.Sign.TheVariants.{Char, LineFeed, Reset}
+use Rattle.prodash_line.specs.declared.render.line.page.style.Style.{Style}
 use Rattle.prodash_line.specs.Lines.{Line, columns_of, line_text}
-use Rattle.prodash_line.specs.Frames.{piece_signs, line_signs, overwrite_line}
+use Rattle.prodash_line.specs.Frames.{styled_signs, piece_signs, line_signs, overwrite_line}
 use Rattle.prodash_line.specs.Page.{after_sign, page_after}
 use Rattle.prodash_line.specs.Shows.{cells_of}
 use Rattle.prodash_line.specs.Fits.{LineFits}
 use Rattle.prodash_line.proofs.CursorRow.{at, inside, page_after-append, text_inside, some_row, feed_inside}
+
+-- a text in a style, as far as the row goes
+piece_inside : (columns height : ℕ) (above : List (List ℕ)) (written rest : List ℕ) (below : List (List ℕ)) (style : Option Style) (text : List ℕ)
+    → length written + length rest ≡ columns → length text ≤ length rest
+    → page_after (styled_signs style text) (inside columns height above written rest below) ≡ inside columns height above (written ++ text) (drop (length text) rest) below
+piece_inside columns height above written rest below None text e fits = text_inside columns height above written text rest below e fits
+piece_inside columns height above written rest below (Some style) [] e fits = text_inside columns height above written [] rest below e fits
+piece_inside columns height above written rest below (Some style) (c ∷ text) e fits =
+    page_after-append (map Char (c ∷ text)) (Reset ∷ []) (inside columns height above written rest below)
+    ∙ text_inside columns height above written (c ∷ text) rest below e fits
 
 -- a line, as far as the row goes
 pub line_inside : (columns height : ℕ) (above : List (List ℕ)) (written rest : List ℕ) (below : List (List ℕ)) (line : Line)
@@ -20,7 +31,7 @@ line_inside columns height above written rest below (p ∷ ps) e fits =
     let left : length (drop (length p.text) rest) ≡ length rest - length p.text = length-drop (length p.text) rest in
     let more : length (written ++ p.text) ≡ length written + length p.text = length-append written p.text in
     page_after-append (piece_signs p) (line_signs ps) (inside columns height above written rest below)
-    ∙ ap (page_after (line_signs ps)) (text_inside columns height above written p.text rest below e (omega arith))
+    ∙ ap (page_after (line_signs ps)) (piece_inside columns height above written rest below p.style p.text e (omega arith))
     ∙ line_inside columns height above (written ++ p.text) (drop (length p.text) rest) below ps (omega arith) (omega arith)
     ∙ ap (λ (w : List ℕ). inside columns height above w (drop (length (line_text ps)) (drop (length p.text) rest)) below) (append_assoc written p.text (line_text ps))
     ∙ ap (λ (r : List ℕ). inside columns height above (written ++ line_text (p ∷ ps)) r below) (drop-drop (length (line_text ps)) (length p.text) rest ∙ ap (λ (n : ℕ). drop n rest) (sym sum))

@@ -1,20 +1,28 @@
--- The definitions of frames and of what fits, computed on a row without progress.
-use Rattle.std.proofs.Common.{◌≡◌, ℕ, Bool, length, List, [], ◌∷◌, ◌++◌, map, Some, None, true, false, refl, arith}
+-- The definitions of frames and of what fits, computed.
+use Rattle.std.proofs.Common.{◌≡◌, ℕ, Bool, length, List, [], ◌∷◌, ◌++◌, map, Option, Some, None, true, false, refl, arith}
 use Rattle.std.specs.Prelude.{codes}
 use Rattle.std.specs.Str.{chars}
+use Rattle.std.specs.Fmt.{digits}
 use Rattle.unicode_width.specs.Width.{str_width, char_width, step, past_emoji}
-use Rattle.prodash_base.specs.Rows.{PathRow}
+use Rattle.prodash_base.specs.Rows.{PathRow, Phase, Running, Halted, Blocked}
+use Rattle.prodash_base.specs.Numerals.{last_digits}
 use Rattle.prodash_base.specs.Messages.{message_of}
 use Rattle.prodash_base.specs.declared.messages.Message.{Message}
-use Rattle.prodash_base.specs.declared.messages.MessageLevel.TheVariants.{Info}
+use Rattle.prodash_base.specs.declared.messages.MessageLevel.TheVariants.{Info, Failure}
 use Rattle.prodash_line.specs.declared.render.line.page.sign.Sign.{Sign}
-use Rattle.prodash_line.specs.declared.render.line.page.sign.Sign.TheVariants.{Char, LineFeed, CarriageReturn, Up, EraseLine}
+use Rattle.prodash_line.specs.declared.render.line.page.sign.Sign.TheVariants.{Char, LineFeed, CarriageReturn, Up, EraseLine, HideCursor, ShowCursor, Open, Reset}
+use Rattle.prodash_line.specs.declared.render.line.draw.input.Options.{Options}
 use Rattle.prodash_line.specs.declared.render.line.draw.input.Input.{Input}
-use Rattle.prodash_line.specs.declared.render.line.draw.input.Input.TheVariants.{Tick, Quit}
+use Rattle.prodash_line.specs.declared.render.line.draw.input.Input.TheVariants.{Tick, Resize, Quit}
+use Rattle.prodash_base.specs.declared.refusal.Refusal.TheVariants.{Closed}
 use Rattle.prodash_line.specs.Frames.{frame_signs}
 use Rattle.prodash_line.specs.Renderer.{Renderer, new_renderer, frame_at, next}
 use Rattle.prodash_line.specs.Fits.{FrameFits}
 use Rattle.prodash_line.specs.Lines.{line_text}
+use Rattle.prodash_line.specs.TextStyles.{of_color, dimmed, row_style}
+use Rattle.prodash_line.specs.declared.render.line.page.style.Color.TheVariants.{Red, Green, Yellow, Cyan, White}
+use Rattle.prodash_line.specs.declared.render.line.page.style.Color.{Color}
+use Rattle.prodash_line.specs.declared.render.line.page.style.Style.{Style}
 use Rattle.prodash_line.specs.ProgressRows.{bar}
 
 -- a task below the root, without progress
@@ -28,8 +36,12 @@ tick at show rows messages = Tick at show (Some (rows, messages, length messages
 abbrev signs_at : Renderer → Input → List Sign
 signs_at r input = frame_signs r.widths (frame_at r input)
 
+abbrev options : Options
+options =
+    record { level_filter = None; terminal_dimensions = (40, 4); keep_running_if_progress_is_empty = true; output_is_terminal = true; colored = false; timestamp = false; hide_cursor = false }
+
 abbrev terminal : Renderer
-terminal = new_renderer (record { terminal_dimensions = (40, 4) })
+terminal = new_renderer options false
 
 -- its name after a space, a line feed, and up by one row
 pub drawn : signs_at terminal (tick 0 true (row (codes "task") ∷ []) []) ≡ map Char (codes " task") ++ LineFeed ∷ Up 1 ∷ []
@@ -59,6 +71,75 @@ hidden = refl
 pub unchanged : signs_at (next terminal (tick 0 false (row (codes "task") ∷ []) [])) (tick 1 true (row (codes "task") ∷ []) []) ≡ []
 unchanged = refl
 
+-- A tick that sees no rows, if the renderer isn't to keep running: it closes after its message; with the cursor hidden; without a terminal.
+abbrev idle : Options
+idle = record options { keep_running_if_progress_is_empty = false }
+
+abbrev last_message : Input
+last_message = tick 0 true [] (message_of 0 Info (codes "t") (codes "one") ∷ [])
+
+pub closing_tick : signs_at (new_renderer idle false) last_message ≡ map Char (codes " t one") ++ LineFeed ∷ EraseLine ∷ CarriageReturn ∷ []
+unfolding chars str_width step past_emoji
+closing_tick = refl
+
+pub closing_tick_shows_cursor : signs_at (new_renderer (record idle { hide_cursor = true }) false) last_message
+    ≡ HideCursor ∷ map Char (codes " t one") ++ LineFeed ∷ ShowCursor ∷ EraseLine ∷ CarriageReturn ∷ []
+unfolding chars str_width step past_emoji
+closing_tick_shows_cursor = refl
+
+pub closing_tick_plain : signs_at (new_renderer (record idle { output_is_terminal = false; hide_cursor = true }) false) last_message ≡ map Char (codes " t one") ++ LineFeed ∷ []
+unfolding chars str_width step past_emoji
+closing_tick_plain = refl
+
+pub closes_after_tick : (next (new_renderer idle false) last_message).ended ≡ Some Closed
+unfolding chars str_width step past_emoji
+closes_after_tick = refl
+
+-- the cursor is hidden by the first frame, and shown by a closing one
+abbrev hiding : Renderer
+hiding = new_renderer (record options { hide_cursor = true }) false
+
+pub hidden_once : signs_at hiding (tick 0 false [] []) ≡ HideCursor ∷ []
+hidden_once = refl
+
+pub hidden_before : signs_at (next hiding (tick 0 false [] [])) (tick 1 true [] []) ≡ []
+hidden_before = refl
+
+pub shown_again : signs_at (next hiding (tick 0 false [] [])) (Quit 1) ≡ ShowCursor ∷ EraseLine ∷ CarriageReturn ∷ []
+shown_again = refl
+
+pub hidden_and_shown : signs_at hiding (Quit 0) ≡ HideCursor ∷ ShowCursor ∷ EraseLine ∷ CarriageReturn ∷ []
+hidden_and_shown = refl
+
+-- a row of the second level alone
+abbrev below : List ℕ → PathRow
+below name = (0 ∷ 0 ∷ [], record { name = name; id = 0 ∷ 0 ∷ 0 ∷ 0 ∷ []; progress = None })
+
+pub second_level : signs_at (new_renderer (record options { level_filter = Some (2, 2) }) false) (tick 0 true (row (codes "a") ∷ below (codes "b") ∷ []) [])
+    ≡ map Char (codes "  b") ++ LineFeed ∷ Up 1 ∷ []
+unfolding chars str_width step past_emoji
+second_level = refl
+
+-- a resize draws the rows of the latest tick if it is shown, over those on screen; nothing before a tick, and nothing without a terminal
+pub resized_row : signs_at (next terminal (tick 0 true (row (codes "task") ∷ []) [])) (Resize 1 true 30 4) ≡ map Char (codes " task") ++ LineFeed ∷ Up 1 ∷ []
+unfolding chars str_width step past_emoji
+resized_row = refl
+
+pub resized_hidden : signs_at (next terminal (tick 0 true (row (codes "task") ∷ []) [])) (Resize 1 false 30 4) ≡ []
+unfolding chars str_width step past_emoji
+resized_hidden = refl
+
+pub resized_first : signs_at terminal (Resize 1 true 30 4) ≡ []
+resized_first = refl
+
+pub resized_plain : signs_at (next (new_renderer (record options { output_is_terminal = false }) false) (tick 0 true (row (codes "task") ∷ []) [])) (Resize 1 true 30 4) ≡ []
+unfolding chars str_width step past_emoji
+resized_plain = refl
+
+-- it keeps as many of the latest origin widths as the terminal has rows by then
+pub resized_origins : (next (record terminal { origin_widths = 4 ∷ 1 ∷ 2 ∷ [] }) (Resize 1 true 30 2)).origin_widths ≡ 1 ∷ 2 ∷ []
+resized_origins = refl
+
 -- what a page of that size takes
 pub fits : FrameFits 40 4 (frame_at terminal (tick 0 true (row (codes "a") ∷ []) []))
 unfolding chars str_width char_width step past_emoji
@@ -83,30 +164,107 @@ fits = record {
 }
 
 -- bars on the columns that are left: three tenths of 26 cells; a bound of 0; brackets and arrow alone; none
-pub three_tenths : line_text (bar 30 3 (Some 10)) ≡ codes " [=======>-------------------]"
+pub three_tenths : line_text (bar (of_color Yellow) 30 3 (Some 10)) ≡ codes " [=======>-------------------]"
 three_tenths = refl
 
-pub bound_of_zero : line_text (bar 14 0 (Some 0)) ≡ codes " [==========>]"
+pub bound_of_zero : line_text (bar (of_color Yellow) 14 0 (Some 0)) ≡ codes " [==========>]"
 bound_of_zero = refl
 
-pub no_cell : line_text (bar 1 3 (Some 10)) ≡ codes " [>]"
+pub no_cell : line_text (bar (of_color Yellow) 1 3 (Some 10)) ≡ codes " [>]"
 no_cell = refl
 
-pub no_column : line_text (bar 0 3 (Some 10)) ≡ []
+pub no_column : line_text (bar (of_color Yellow) 0 3 (Some 10)) ≡ []
 no_column = refl
 
 -- bars without a bound: eleven cells from 2; as many as there are numbers below 2^64-1; brackets alone; none
-pub from_two : line_text (bar 14 2 None) ≡ codes " [=   ===   =]"
+pub from_two : line_text (bar (of_color Yellow) 14 2 None) ≡ codes " [=   ===   =]"
 from_two = refl
 
-pub three_numbers_left : line_text (bar 40 18446744073709551612 None) ≡ codes " [===]"
+pub three_numbers_left : line_text (bar (of_color Yellow) 40 18446744073709551612 None) ≡ codes " [===]"
 three_numbers_left = refl
 
-pub no_number_left : line_text (bar 40 18446744073709551615 None) ≡ codes " []"
+pub no_number_left : line_text (bar (of_color Yellow) 40 18446744073709551615 None) ≡ codes " []"
 no_number_left = refl
 
-pub no_numbered_cell : line_text (bar 1 2 None) ≡ codes " []"
+pub no_numbered_cell : line_text (bar (of_color Yellow) 1 2 None) ≡ codes " []"
 no_numbered_cell = refl
 
-pub no_column_without_bound : line_text (bar 0 2 None) ≡ []
+pub no_column_without_bound : line_text (bar (of_color Yellow) 0 2 None) ≡ []
 no_column_without_bound = refl
+
+-- ---- colours and times
+
+abbrev colored : Renderer
+colored = new_renderer (record options { colored = true }) false
+
+abbrev timed : Options
+timed = record options { timestamp = true }
+
+-- a text in a style
+abbrev in_style : Style → List ℕ → List Sign
+in_style style text = Open style ∷ map Char text ++ Reset ∷ []
+
+abbrev style : Bool → Bool → Option Color → Bool → Style
+style bold dim color on_yellow = record { bold = bold; dim = dim; color = color; on_yellow = on_yellow }
+
+abbrev task : Phase → Option ℕ → PathRow
+task phase bound = (0 ∷ [], record { name = codes "task"; id = 0 ∷ 0 ∷ 0 ∷ 0 ∷ []; progress = Some (record { counter = 3; bound = bound; unit = None; phase = phase }) })
+
+-- three tenths: the bar in yellow, what is left of it dimmed
+pub colored_row : signs_at colored (tick 0 true (task Running (Some 10) ∷ []) [])
+    ≡ Char 32 ∷ in_style (style true false (Some Cyan) false) (codes "task")
+    ++ Char 32 ∷ in_style (style true true None false) (codes "3/10")
+    ++ map Char (codes " [") ++ in_style (style false false (Some Yellow) false) (codes "=======")
+    ++ in_style (style false false (Some Yellow) false) (codes ">")
+    ++ in_style (style false true (Some Yellow) false) (codes "-------------------")
+    ++ map Char (codes "]") ++ LineFeed ∷ Up 1 ∷ []
+unfolding chars str_width step past_emoji digits
+colored_row = refl
+
+-- without progress its name alone
+pub colored_name : signs_at colored (tick 0 true (row (codes "task") ∷ []) []) ≡ Char 32 ∷ in_style (style true false (Some White) false) (codes "task") ++ LineFeed ∷ Up 1 ∷ []
+unfolding chars str_width step past_emoji
+colored_name = refl
+
+-- a row without a name: no style is begun or ended
+pub colored_empty : signs_at colored (tick 0 true (row [] ∷ []) []) ≡ Char 32 ∷ LineFeed ∷ Up 1 ∷ []
+unfolding chars str_width step past_emoji
+colored_empty = refl
+
+-- a message one hour, two minutes and three seconds into a day, with its time; in colour; both
+abbrev message_at : Input
+message_at = tick 0 true [] (message_of 3723000000000 Failure (codes "task") (codes "one") ∷ [])
+
+pub time_shown : signs_at (new_renderer timed false) message_at ≡ map Char (codes " 01:02:03 task one") ++ LineFeed ∷ []
+unfolding chars str_width step past_emoji last_digits
+time_shown = refl
+
+pub colored_message : signs_at colored message_at
+    ≡ Char 32 ∷ in_style (style false true None false) (codes "task") ++ Char 32 ∷ in_style (style true false (Some Red) false) (codes "one") ++ LineFeed ∷ []
+unfolding chars str_width step past_emoji
+colored_message = refl
+
+pub colored_time : signs_at (new_renderer (record timed { colored = true }) false) message_at
+    ≡ Char 32 ∷ in_style (style false true (Some Red) true) (codes "01:02:03")
+    ++ Char 32 ∷ in_style (style false true None false) (codes "task") ++ Char 32 ∷ in_style (style true false (Some Red) false) (codes "one") ++ LineFeed ∷ []
+unfolding chars str_width step past_emoji last_digits
+colored_time = refl
+
+-- the style of a row: green above four fifths, yellow up to it, white without a bound; dim red if it is halted, red if it is blocked
+pub nine_tenths : row_style (record { counter = 9; bound = Some 10; unit = None; phase = Running }) ≡ of_color Green
+nine_tenths = refl
+
+pub four_fifths : row_style (record { counter = 8; bound = Some 10; unit = None; phase = Running }) ≡ of_color Yellow
+four_fifths = refl
+
+pub without_bound : row_style (record { counter = 9; bound = None; unit = None; phase = Running }) ≡ of_color White
+without_bound = refl
+
+pub halted : row_style (record { counter = 9; bound = Some 10; unit = None; phase = Halted (codes "now") None }) ≡ style false true (Some Red) false
+halted = refl
+
+pub halted_dimmed : dimmed (style false true (Some Red) false) ≡ style false true (Some Red) false
+halted_dimmed = refl
+
+pub blocked : row_style (record { counter = 9; bound = Some 10; unit = None; phase = Blocked (codes "now") None }) ≡ of_color Red
+blocked = refl

@@ -1,7 +1,7 @@
 -- The definitions of a page and of what it shows, computed.
-use Rattle.std.proofs.Common.{◌≡◌, List, [], ◌∷◌, ap, refl, arith}
+use Rattle.std.proofs.Common.{◌≡◌, true, false, None, List, [], ◌∷◌, ap, refl, arith}
 use Rattle.unicode_width.specs.Width.{str_width, step, past_emoji}
-use Rattle.prodash_line.specs.declared.render.line.page.sign.Sign.TheVariants.{Char, LineFeed, Up, EraseLine}
+use Rattle.prodash_line.specs.declared.render.line.page.sign.Sign.TheVariants.{Char, LineFeed, Up, EraseLine, HideCursor, ShowCursor, Open, Reset}
 use Rattle.prodash_line.specs.Lines.{Line, piece}
 use Rattle.prodash_line.specs.Frames.{Draws, Frame, signs_of, all_lines_after}
 use Rattle.prodash_line.specs.Page.{blank_page, page_after}
@@ -21,6 +21,10 @@ last_column = refl
 pub erased : page_after (Char 97 ∷ EraseLine ∷ Char 98 ∷ []) (blank_page 2 1)
     ≡ record { columns = 2; height = 1; rows = (32 ∷ 98 ∷ []) ∷ []; row = 0; column = 2 }
 erased = refl
+
+-- styles, and whether the cursor is hidden, change no cell, and a character after them is where it would be without them
+pub styled : page_after (HideCursor ∷ Open (record { bold = true; dim = false; color = None; on_yellow = false }) ∷ Char 97 ∷ Reset ∷ Char 98 ∷ ShowCursor ∷ []) (blank_page 2 1) ≡ page_after (Char 97 ∷ Char 98 ∷ []) (blank_page 2 1)
+styled = refl
 
 -- a frame that draws these lines
 abbrev drawing : List Line → Frame

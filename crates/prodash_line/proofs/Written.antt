@@ -1,16 +1,17 @@
 -- What lists of signs and lines spell.
-use Rattle.std.proofs.Common.{◌≡◌, ℕ, true, List, [], ◌∷◌, ◌++◌, map, chars, refl, sym, ap, ◌∙◌, append-nil}
+use Rattle.std.proofs.Common.{◌≡◌, ℕ, zero, suc, ◌<◌, true, List, [], ◌∷◌, ◌++◌, ◌+◌, Option, Some, None, length, map, chars, refl, sym, ap, ◌∙◌, append-nil, append_assoc, length-append, arith}
 use Rattle.std.proofs.lemmas.List.{map-append}
 use Rattle.std.specs.Str.{IsUtf8, encode_utf8_all}
 use Rattle.std.specs.Char.{encode_utf8}
-use Rattle.std.proofs.lemmas.Str.{encodes-chars}
+use Rattle.std.proofs.lemmas.Str.{encodes-chars, length-encode, len_utf8_bounds}
 use Rattle.std.proofs.lemmas.Grind.{flat_map-append}
 use Rattle.prodash_line.specs.declared.render.line.page.sign.Sign.{Sign}
-use Rattle.prodash_line.specs.declared.render.line.page.sign.Sign.TheVariants.{Char}
+use Rattle.prodash_line.specs.declared.render.line.page.sign.Sign.TheVariants.{Char, Open, Reset}
 use Rattle.prodash_line.specs.Signs.{spelling, spelling_of}
-use Rattle.prodash_line.specs.Lines.{Line, piece}
+use Rattle.prodash_line.specs.declared.render.line.page.style.Style.{Style}
+use Rattle.prodash_line.specs.Lines.{Line, piece, styled}
 use Rattle.prodash_line.specs.Frames.{piece_signs, line_signs}
-use Rattle.prodash_line.specs.plumbing.Writing.{is_printable, line_bytes}
+use Rattle.prodash_line.specs.plumbing.Writing.{is_printable, line_bytes, style_of_length, open_bytes, reset_bytes}
 use Rattle.prodash_line.proofs.Columns.{chars-printable, utf8-printable}
 
 pub spelling-append : (xs ys : List Sign) → spelling (xs ++ ys) ≡ spelling xs ++ spelling ys
@@ -49,3 +50,38 @@ line_bytes-joined a b =
     ∙ sym (spelling-append (map Char a) (map Char b))
     ∙ ap spelling (sym (map-append Char a b))
     ∙ sym (line_bytes-piece (a ++ b))
+
+style_of_some : (style : Style) (n : ℕ) → 0 < n → style_of_length (Some style) n ≡ Some style
+style_of_some style zero h = absurd (omega arith)
+style_of_some style (suc n) h = refl
+
+pub style_of_each : (style : Option Style) (n : ℕ) → 0 < n → style_of_length style n ≡ style
+style_of_each None n h = refl
+style_of_each (Some style) n h = style_of_some style n h
+
+-- a text in a style: what begins the style, the bytes of the text, and what ends it; of an empty text nothing
+pub line_bytes-styled : (style : Option Style) (cs b : List ℕ) → line_bytes (piece cs ∷ []) ≡ b
+    → line_bytes (styled style cs ∷ []) ≡ open_bytes (style_of_length style (length b)) ++ (b ++ reset_bytes (style_of_length style (length b)))
+unfolding line_bytes
+line_bytes-styled None cs b e = e ∙ sym (append-nil b)
+line_bytes-styled (Some style) [] b e = ap (λ (t : List ℕ). open_bytes (style_of_length (Some style) (length t)) ++ (t ++ reset_bytes (style_of_length (Some style) (length t)))) e
+line_bytes-styled (Some style) (c ∷ cs) b e =
+    let text = map Char (c ∷ cs) in
+    let is : spelling text ≡ b = sym (line_bytes-piece (c ∷ cs)) ∙ e in
+    let sum : length (spelling text) ≡ length (encode_utf8 c) + length (spelling (map Char cs)) = length-append (encode_utf8 c) (spelling (map Char cs)) in
+    let bounds = len_utf8_bounds c in
+    let some : 0 < length b = omega (arith, ap length is, length-encode c) in
+    ap spelling (append-nil (Open style ∷ (text ++ Reset ∷ [])))
+    ∙ ap (λ t. spelling_of (Open style) ++ t) (spelling-append text (Reset ∷ []) ∙ ap (λ t. t ++ spelling_of Reset) is)
+    ∙ ap (λ shown. open_bytes shown ++ (b ++ reset_bytes shown)) (sym (style_of_some style (length b) some))
+
+-- a text between what begins a style and what ends it
+pub styled_bytes : (old o w new : List ℕ) (style : Option Style) (cs b : List ℕ) (n : ℕ) → line_bytes (piece cs ∷ []) ≡ b → n ≡ length b
+    → o ≡ old ++ open_bytes (style_of_length style n) → w ≡ o ++ b → new ≡ w ++ reset_bytes (style_of_length style n) → new ≡ old ++ line_bytes (styled style cs ∷ [])
+styled_bytes old o w new style cs b n e size eo ew en =
+    let shown = style_of_length style n in
+    en ∙ ap (λ t. t ++ reset_bytes shown) (ew ∙ ap (λ t. t ++ b) eo)
+    ∙ append_assoc (old ++ open_bytes shown) b (reset_bytes shown)
+    ∙ append_assoc old (open_bytes shown) (b ++ reset_bytes shown)
+    ∙ ap (λ (k : ℕ). old ++ (open_bytes (style_of_length style k) ++ (b ++ reset_bytes (style_of_length style k)))) size
+    ∙ ap (λ t. old ++ t) (sym (line_bytes-styled style cs b e))

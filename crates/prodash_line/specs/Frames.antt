@@ -1,12 +1,19 @@
 -- Frames: messages over the lines on screen, and then perhaps lines drawn anew.
-use Rattle.std.specs.Prelude.{ℕ, zero, suc, ◌-◌, min, max, List, [], ◌∷◌, ◌++◌, length, map, drop, replicate}
+use Rattle.std.specs.Prelude.{ℕ, zero, suc, ◌-◌, min, max, List, [], ◌∷◌, ◌++◌, length, map, drop, replicate, Option, Some, None}
 use Rattle.std.specs.List.{flat_map}
 use Rattle.prodash_line.specs.Lines.{Piece, Line, spaces, columns_of}
 use Rattle.prodash_line.specs.declared.render.line.page.sign.Sign.{Sign}
-use Rattle.prodash_line.specs.declared.render.line.page.sign.Sign.TheVariants.{Char, LineFeed, Up}
+use Rattle.prodash_line.specs.declared.render.line.page.style.Style.{Style}
+use Rattle.prodash_line.specs.declared.render.line.page.sign.Sign.TheVariants.{Char, LineFeed, Up, Open, Reset}
+
+-- the signs of a text in a style; an empty text has none
+abbrev pub styled_signs : Option Style → List ℕ → List Sign
+styled_signs None text = map Char text
+styled_signs (Some style) [] = []
+styled_signs (Some style) (c ∷ text) = Open style ∷ (map Char (c ∷ text) ++ Reset ∷ [])
 
 abbrev pub piece_signs : Piece → List Sign
-piece_signs p = map Char p.text
+piece_signs p = styled_signs p.style p.text
 
 abbrev pub line_signs : Line → List Sign
 line_signs line = flat_map piece_signs line

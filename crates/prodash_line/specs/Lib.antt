@@ -1,9 +1,12 @@
+pub mod Styles
 pub mod Signs
 pub mod Lines
+pub mod TextStyles
 pub mod Frames
 pub mod ProgressRows
 pub mod MessageLines
 pub mod Screens
+pub mod Writers
 pub mod Renderer
 pub mod Page
 pub mod Reading

@@ -1,17 +1,25 @@
 -- Lines, and how many columns they take.
-use Rattle.std.specs.Prelude.{ℕ, false, List, min, replicate, sum_by}
+use Rattle.std.specs.Prelude.{ℕ, Bool, false, List, map, Option, Some, None, min, replicate, sum_by}
+use Rattle.std.specs.Bool.{then_some}
 use Rattle.std.specs.List.{flat_map}
 use Rattle.unicode_width.specs.Width.{str_width}
+use Rattle.prodash_line.specs.declared.render.line.page.style.Style.{Style}
 
--- a part of a line: its characters
+-- a part of a line: its style, if it has one, and its characters
 pub record Piece : Type 0 where
+  pub style : Option Style
   pub text : List ℕ
 
 abbrev pub Line : Type 0
 Line = List Piece
 
+-- a text in a style, or in none
+abbrev pub styled : Option Style → List ℕ → Piece
+styled style text = record { style = style; text = text }
+
+-- a text without a style
 abbrev pub piece : List ℕ → Piece
-piece text = record { text = text }
+piece text = styled None text
 
 -- n spaces
 abbrev pub spaces : ℕ → Piece
@@ -32,3 +40,12 @@ columns_of line = capped (sum_by width_of line)
 -- the characters of a line
 abbrev pub line_text : Line → List ℕ
 line_text line = flat_map (λ p. p.text) line
+
+-- the style in which a text is drawn: none without colour
+abbrev pub shown_style : Bool → Option Style → Option Style
+shown_style colored None = None
+shown_style colored (Some style) = then_some colored style
+
+-- a line as it is drawn: without colour no text has a style
+abbrev pub in_color : Bool → Line → Line
+in_color colored line = map (λ p. styled (shown_style colored p.style) p.text) line

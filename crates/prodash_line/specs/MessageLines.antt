@@ -1,7 +1,10 @@
--- The line of a message: its origin, aligned with those of other messages, and its text.
-use Rattle.std.specs.Prelude.{ℕ, ◌-◌, max, List, [], ◌∷◌, ◌++◌, length, drop, map, replicate, chars}
+-- The line of a message: its time, its origin, aligned with those of other messages, and its text.
+use Rattle.std.specs.Prelude.{ℕ, ◌-◌, max, List, [], ◌∷◌, ◌++◌, length, drop, map, replicate, chars, Bool, Some, if◌then◌else◌}
+use Rattle.prodash_base.specs.Moments.{time_text}
 use Rattle.prodash_base.specs.declared.messages.Message.{Message}
-use Rattle.prodash_line.specs.Lines.{Line, piece, spaces, columns_of}
+use Rattle.prodash_line.specs.declared.render.line.draw.input.Options.{Options}
+use Rattle.prodash_line.specs.Lines.{Line, piece, styled, spaces, columns_of, in_color}
+use Rattle.prodash_line.specs.TextStyles.{origin_style, message_style, time_style}
 
 -- the width of an origin
 abbrev pub origin_width : List ℕ → ℕ
@@ -11,9 +14,21 @@ origin_width origin = columns_of (piece (chars origin) ∷ [])
 abbrev pub aligned_origin : ℕ → List ℕ → List ℕ
 aligned_origin width origin = replicate (width - origin_width origin) 32 ++ chars origin
 
--- a space, the origin right-aligned to this width, a space, the text
-abbrev pub message_line : ℕ → Message → Line
-message_line width m = spaces 1 ∷ piece (aligned_origin width m.origin) ∷ spaces 1 ∷ piece (chars m.message) ∷ []
+-- the time of day of a message and a space, if times are shown
+abbrev pub time_of : Bool → Message → Line
+time_of timestamp m = if timestamp then styled (Some (time_style m.level)) (chars (time_text m.time)) ∷ spaces 1 ∷ [] else []
+
+-- the origin right-aligned to this width, a space, the text
+abbrev pub text_of : ℕ → Message → Line
+text_of width m = styled (Some origin_style) (aligned_origin width m.origin) ∷ spaces 1 ∷ styled (Some (message_style m.level)) (chars m.message) ∷ []
+
+-- a space, the time if times are shown, the origin right-aligned to this width, a space, the text
+abbrev pub message_line : Bool → ℕ → Message → Line
+message_line timestamp width m = spaces 1 ∷ time_of timestamp m ++ text_of width m
+
+-- the line of a message as it is drawn
+abbrev pub drawn_message_line : Options → ℕ → Message → Line
+drawn_message_line options width m = in_color options.colored (message_line options.timestamp width m)
 
 -- the greatest of some widths, 0 if there are none
 abbrev pub greatest_width : List ℕ → ℕ
@@ -21,10 +36,10 @@ greatest_width [] = 0
 greatest_width (width ∷ widths) = max width (greatest_width widths)
 
 -- the lines of a frame's messages after earlier origins of these widths: each origin is aligned to the greatest width up to its own
-abbrev pub message_lines : List ℕ → List Message → List Line
-message_lines widths [] = []
-message_lines widths (m ∷ messages) =
-    let all = widths ++ origin_width m.origin ∷ [] in message_line (greatest_width all) m ∷ message_lines all messages
+abbrev pub message_lines : Options → List ℕ → List Message → List Line
+message_lines options widths [] = []
+message_lines options widths (m ∷ messages) =
+    let all = widths ++ origin_width m.origin ∷ [] in drawn_message_line options (greatest_width all) m ∷ message_lines options all messages
 
 -- the width of each message's origin
 abbrev pub widths_of_origins : List Message → List ℕ

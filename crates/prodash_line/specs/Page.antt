@@ -1,7 +1,7 @@
 -- A page: all rows ever, of which the last are the window, and a cursor.
 use Rattle.std.specs.Prelude.{Bool, false, ◌&&◌, nat_le, ℕ, ◌+◌, ◌-◌, max, List, [], ◌∷◌, ◌++◌, length, replicate, slice_index_or, slice_set, nat_lt, if◌then◌else◌}
 use Rattle.prodash_line.specs.declared.render.line.page.sign.Sign.{Sign}
-use Rattle.prodash_line.specs.declared.render.line.page.sign.Sign.TheVariants.{Char, LineFeed, CarriageReturn, Up, EraseLine}
+use Rattle.prodash_line.specs.declared.render.line.page.sign.Sign.TheVariants.{Char, LineFeed, CarriageReturn, Up, EraseLine, HideCursor, ShowCursor, Open, Reset}
 
 -- how many columns it has, the height of its window, its rows from the first ever on, and the row and column of the cursor
 pub record Canvas : Type 0 where
@@ -35,13 +35,18 @@ with_char row column c rows = slice_set rows row (slice_set (slice_index_or rows
 abbrev pub put : ℕ → Canvas → Canvas
 put c p = record p { rows = with_char p.row p.column c p.rows; column = p.column + 1 }
 
--- the page after one sign: a character past the last column goes to the next row, and the cursor goes up no further than the window's top
+-- The page after one sign: a character past the last column goes to the next row, and the cursor goes up no further than the window's top.
+-- Styles, and whether the cursor is hidden, change no cell.
 abbrev pub after_sign : Sign → Canvas → Canvas
 after_sign (Char c) p = if nat_lt p.column p.columns then put c p else put c (next_row p)
 after_sign LineFeed p = next_row p
 after_sign CarriageReturn p = record p { column = 0 }
 after_sign (Up n) p = record p { row = max (length p.rows - p.height) (p.row - n) }
 after_sign EraseLine p = record p { rows = slice_set p.rows p.row (blank p.columns) }
+after_sign HideCursor p = p
+after_sign ShowCursor p = p
+after_sign (Open style) p = p
+after_sign Reset p = p
 
 -- does the sign lead to a row that isn't there yet?
 abbrev pub adds_row : Sign → Canvas → Bool
@@ -50,6 +55,10 @@ adds_row LineFeed p = nat_le (length p.rows) (p.row + 1)
 adds_row CarriageReturn p = false
 adds_row (Up n) p = false
 adds_row EraseLine p = false
+adds_row HideCursor p = false
+adds_row ShowCursor p = false
+adds_row (Open style) p = false
+adds_row Reset p = false
 
 -- the page after these signs
 abbrev pub page_after : List Sign → Canvas → Canvas

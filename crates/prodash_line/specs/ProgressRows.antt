@@ -1,30 +1,61 @@
 -- The line of a row: its name, and with progress its values and a bar.
-use Rattle.std.specs.Prelude.{ℕ, ◌-◌, ◌*◌, ◌/◌, ◌%◌, ◌^◌, min, max, List, [], ◌∷◌, ◌++◌, length, map, replicate, reverse, codes, chars, if◌then◌else◌, ◌==◌, nat_lt, Option, Some, None}
-use Rattle.std.specs.List.{range_with_len}
+use Rattle.std.specs.Prelude.{ℕ, ◌-◌, ◌*◌, ◌/◌, ◌%◌, ◌^◌, min, max, List, [], ◌∷◌, ◌++◌, length, map, zip, replicate, reverse, codes, chars, if◌then◌else◌, ◌==◌, nat_lt, nat_le, Bool, true, ◌&&◌, Option, Some, None}
+use Rattle.std.specs.List.{range_with_len, filter}
 use Rattle.std.specs.Fmt.{decimal}
-use Rattle.prodash_base.specs.Rows.{Progress, PathRow}
-use Rattle.prodash_line.specs.Lines.{Line, piece, spaces, columns_of}
+use Rattle.prodash_base.specs.Kinds.{quantity_shown}
+use Rattle.prodash_base.specs.Displays.{values_text, unit_text}
+use Rattle.prodash_base.specs.Units.{Measure}
+use Rattle.prodash_base.specs.Rows.{RowProgress, PathRow}
+use Rattle.prodash_base.specs.Trackers.{Tracker, frame_throughputs}
+use Rattle.prodash_base.specs.declared.unit.display.Throughput.{Throughput}
+use Rattle.prodash_line.specs.declared.render.line.draw.input.Options.{Options}
+use Rattle.prodash_line.specs.declared.render.line.page.style.Style.{Style}
+use Rattle.prodash_line.specs.Lines.{Line, piece, styled, spaces, columns_of, in_color}
+use Rattle.prodash_line.specs.TextStyles.{dimmed, name_style, values_style, row_style}
 
 -- `step/bound`, or the step alone if there is no bound
 abbrev pub fraction_of : ℕ → Option ℕ → List ℕ
 fraction_of step None = decimal step
 fraction_of step (Some bound) = decimal step ++ (codes "/" ++ decimal bound)
 
--- the values of a progress
-abbrev pub values_of : Progress ℕ → Line
-values_of p = piece (fraction_of p.counter p.bound) ∷ []
+-- a row that is drawn, with the throughput that is shown in it, if there is one
+abbrev pub DrawnRow : Type 0
+DrawnRow = PathRow × Option Throughput
+
+-- the values of a progress in a unit, a space and the unit
+abbrev pub values_in : Measure → RowProgress → Option Throughput → Line
+values_in unit p throughput =
+    let shown = quantity_shown unit.quantity in
+    styled (Some values_style) (chars (values_text shown unit.mode p.counter p.bound throughput))
+    ∷ spaces 1
+    ∷ piece (chars (unit_text shown unit.mode p.counter p.bound throughput))
+    ∷ []
+
+abbrev pub values_by : Option Measure → RowProgress → Option Throughput → Line
+values_by None p throughput = styled (Some values_style) (fraction_of p.counter p.bound) ∷ []
+values_by (Some unit) p throughput = values_in unit p throughput
+
+-- the values of a progress, in its unit if it has one
+abbrev pub values_of : RowProgress → Option Throughput → Line
+values_of p throughput = values_by p.unit p throughput
 
 -- how many of a bar's cells are filled
 abbrev pub filled_cells : ℕ → ℕ → ℕ → ℕ
 filled_cells cells step bound = if bound == 0 then cells else cells * min step bound / bound
 
--- a bar of n cells, of which these are filled: brackets around the cells, an arrow after the filled ones
-abbrev pub bar_with : ℕ → ℕ → Line
-bar_with cells filled = piece (codes " [") ∷ piece (replicate filled 61) ∷ piece (codes ">") ∷ piece (replicate (cells - filled) 45) ∷ piece (codes "]") ∷ []
+-- a bar of n cells, of which these are filled: brackets around the cells, an arrow after the filled ones, the others dimmed
+abbrev pub bar_with : Style → ℕ → ℕ → Line
+bar_with style cells filled =
+    piece (codes " [")
+    ∷ styled (Some style) (replicate filled 61)
+    ∷ styled (Some style) (codes ">")
+    ∷ styled (Some (dimmed style)) (replicate (cells - filled) 45)
+    ∷ piece (codes "]")
+    ∷ []
 
 -- the bar of a progress with a bound: the space and the brackets take three columns, and the arrow takes one
-abbrev pub bounded_bar : ℕ → ℕ → ℕ → Line
-bounded_bar columns step bound = let cells = columns - 3 - 1 in bar_with cells (filled_cells cells step bound)
+abbrev pub bounded_bar : Style → ℕ → ℕ → ℕ → Line
+bounded_bar style columns step bound = let cells = columns - 3 - 1 in bar_with style cells (filled_cells cells step bound)
 
 -- the cell of a number: filled if its remainder by 6 is 0, 1 or 2
 abbrev pub numbered_cell : ℕ → ℕ
@@ -36,49 +67,71 @@ numbered_cells step n = map numbered_cell (reverse (range_with_len step n))
 
 -- the bar of a progress without a bound: brackets around the cells of the numbers from the step upward, as many as there are columns besides
 -- the three of the space and the brackets, and none from 2^64-1 on
-abbrev pub unbounded_bar : ℕ → ℕ → Line
-unbounded_bar columns step =
+abbrev pub unbounded_bar : Style → ℕ → ℕ → Line
+unbounded_bar style columns step =
     let n = min (columns - 3) (2 ^ 64 - 1 - step) in
-    piece (codes " [") ∷ piece (numbered_cells step n) ∷ piece (codes "]") ∷ []
+    piece (codes " [") ∷ styled (Some style) (numbered_cells step n) ∷ piece (codes "]") ∷ []
 
--- the bar on the columns that are left; none if there is no column
-abbrev pub bar : ℕ → ℕ → Option ℕ → Line
-bar columns step None = if columns == 0 then [] else unbounded_bar columns step
-bar columns step (Some bound) = if columns == 0 then [] else bounded_bar columns step bound
+-- the bar in a style on the columns that are left; none if there is no column
+abbrev pub bar : Style → ℕ → ℕ → Option ℕ → Line
+bar style columns step None = if columns == 0 then [] else unbounded_bar style columns step
+bar style columns step (Some bound) = if columns == 0 then [] else bounded_bar style columns step bound
 
 -- as many spaces as the path is long, and the name
 abbrev pub head_of : PathRow → Line
-head_of row = spaces (length row.0) ∷ piece (chars row.1.name) ∷ []
+head_of row = spaces (length row.0) ∷ styled (Some (name_style row.1.progress)) (chars row.1.name) ∷ []
 
 -- a row up to its values, without padding
-abbrev pub unpadded : PathRow → Progress ℕ → Line
-unpadded row p = head_of row ++ (spaces 1 ∷ values_of p)
+abbrev pub unpadded : PathRow → RowProgress → Option Throughput → Line
+unpadded row p throughput = head_of row ++ (spaces 1 ∷ values_of p throughput)
 
-abbrev pub midpoint_with : PathRow → Option (Progress ℕ) → ℕ
-midpoint_with row None = 0
-midpoint_with row (Some p) = columns_of (unpadded row p)
+abbrev pub midpoint_with : PathRow → Option RowProgress → Option Throughput → ℕ
+midpoint_with row None throughput = 0
+midpoint_with row (Some p) throughput = columns_of (unpadded row p throughput)
 
 -- the column at which a row's values end, without padding; 0 for a row without progress
-abbrev pub midpoint_of : PathRow → ℕ
-midpoint_of row = midpoint_with row row.1.progress
+abbrev pub midpoint_of : DrawnRow → ℕ
+midpoint_of drawn = midpoint_with drawn.0 drawn.0.1.progress drawn.1
 
 -- the greatest midpoint of some rows
-abbrev pub greatest_midpoint : List PathRow → ℕ
+abbrev pub greatest_midpoint : List DrawnRow → ℕ
 greatest_midpoint [] = 0
-greatest_midpoint (row ∷ rows) = max (midpoint_of row) (greatest_midpoint rows)
+greatest_midpoint (drawn ∷ others) = max (midpoint_of drawn) (greatest_midpoint others)
 
 -- a row up to its values, with spaces before them that bring their end to this midpoint
-abbrev pub padded : ℕ → PathRow → Progress ℕ → Line
-padded midpoint row p = head_of row ++ (spaces 1 ∷ spaces (midpoint - columns_of (unpadded row p)) ∷ values_of p)
+abbrev pub padded : ℕ → PathRow → RowProgress → Option Throughput → Line
+padded midpoint row p throughput =
+    head_of row
+    ++ (spaces 1 ∷ spaces (midpoint - columns_of (unpadded row p throughput)) ∷ values_of p throughput)
 
-abbrev pub row_line_with : ℕ → ℕ → PathRow → Option (Progress ℕ) → Line
-row_line_with width midpoint row None = head_of row
-row_line_with width midpoint row (Some p) = padded midpoint row p ++ bar (width - columns_of (padded midpoint row p)) p.counter p.bound
+abbrev pub row_line_with : ℕ → ℕ → PathRow → Option RowProgress → Option Throughput → Line
+row_line_with width midpoint row None throughput = head_of row
+row_line_with width midpoint row (Some p) throughput =
+    let values = padded midpoint row p throughput in
+    values ++ bar (row_style p) (width - columns_of values) p.counter p.bound
 
 -- the line of a row on a terminal of this width: without progress its head alone, else its values, brought to this midpoint, and a bar on the
 -- columns that are left
-abbrev pub row_line : ℕ → ℕ → PathRow → Line
-row_line width midpoint row = row_line_with width midpoint row row.1.progress
+abbrev pub row_line : ℕ → ℕ → DrawnRow → Line
+row_line width midpoint drawn = row_line_with width midpoint drawn.0 drawn.0.1.progress drawn.1
 
-abbrev pub row_lines : ℕ → ℕ → List PathRow → List Line
-row_lines width midpoint rows = map (row_line width midpoint) rows
+-- the line of a row as it is drawn
+abbrev pub drawn_row_line : Options → ℕ → DrawnRow → Line
+drawn_row_line options midpoint drawn = in_color options.colored (row_line options.terminal_dimensions.0 midpoint drawn)
+
+abbrev pub row_lines : Options → ℕ → List DrawnRow → List Line
+row_lines options midpoint rows = map (drawn_row_line options midpoint) rows
+
+-- is a row drawn? without a filter it is; with one if its level is between these two, both included
+abbrev pub is_row_drawn : Option (ℕ × ℕ) → PathRow → Bool
+is_row_drawn None row = true
+is_row_drawn (Some levels) row = nat_le levels.0 (length row.0) && nat_le (length row.0) levels.1
+
+-- the rows at the levels that are drawn
+abbrev pub filtered : Option (ℕ × ℕ) → List PathRow → List PathRow
+filtered levels rows = filter (is_row_drawn levels) rows
+
+-- rows with the throughputs that a tracker shows of them at a moment; without a tracker none has one
+abbrev pub with_throughputs : Option Tracker → ℕ → List PathRow → List DrawnRow
+with_throughputs None at rows = map (λ row. (row, None)) rows
+with_throughputs (Some tracker) at rows = zip rows (frame_throughputs tracker at rows)

@@ -1,12 +1,14 @@
 -- Which sign bytes begin with, and what reading bytes as signs returns.
-use Rattle.std.specs.Prelude.{◌≡◌, ℕ, Bool, ◌<◌, ◌≤◌, ⊤, List, ◌∷◌, ◌++◌, length, take, Result, Ok, Err}
+use Rattle.std.specs.Prelude.{◌≡◌, ◌≢◌, ℕ, [], Bool, ◌<◌, ◌≤◌, ⊤, List, ◌∷◌, ◌++◌, length, take, Result, Ok, Err}
 use Rattle.std.specs.Global.{Vec}
 use Rattle.std.specs.Int.{is_in_range}
 use Rattle.std.specs.List.{AllByRecursion}
 use Rattle.std.specs.Char.{encode_utf8, IsScalar}
 use Rattle.prodash_line.specs.declared.render.line.page.sign.Sign.{Sign}
+use Rattle.prodash_line.specs.declared.render.line.page.style.Style.{Style}
 use Rattle.prodash_line.specs.declared.render.line.page.reading.Fault.{Fault}
 use Rattle.prodash_line.specs.declared.render.line.page.reading.Fault.TheVariants as faults
+use Rattle.prodash_line.specs.Styles.{style_codes, style_parameters}
 use Rattle.prodash_line.specs.Signs.{spelling_of, spelling, sequence, IsProper}
 
 -- the bytes begin with no character
@@ -24,6 +26,10 @@ NoSignAt bytes = (s : Sign) (rest : List ℕ) → IsProper s → bytes ≡ spell
 -- a parameter byte of a control sequence, from `0` to `?`
 abbrev pub is_parameter : ℕ → Bool
 is_parameter b = is_in_range 48 63 b
+
+-- the parameters are the codes of no style that has one
+abbrev pub NoStyle : List ℕ → Type 0
+NoStyle parameters = (style : Style) → style_codes style ≢ [] → style_parameters style ≡ parameters → ⊥
 
 -- no proper sign's sequence has these parameters and this final byte
 abbrev pub MakesNone : List ℕ → ℕ → Type 0

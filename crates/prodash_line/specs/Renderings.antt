@@ -4,6 +4,7 @@ use Rattle.std.specs.List.{AllByRecursion}
 use Rattle.prodash_base.specs.declared.refusal.Refusal.{Refusal}
 use Rattle.prodash_base.specs.declared.refusal.Refusal.TheVariants as refusals
 use Rattle.prodash_line.specs.declared.render.line.draw.input.Input.{Input}
+use Rattle.prodash_line.specs.declared.render.line.draw.input.Input.TheVariants.{Resize}
 use Rattle.prodash_line.specs.declared.render.line.draw.input.Answer.{Answer}
 use Rattle.prodash_line.specs.declared.render.line.page.sign.Sign.{Sign}
 use Rattle.prodash_line.specs.Signs.{spelling}
@@ -90,11 +91,18 @@ WritesAttempts lines (attempt ∷ attempts) bytes =
 abbrev pub drawn_frames : Renderer → List Rendering → List Frame
 drawn_frames r xs = frames_of (attempts_of r xs)
 
--- Everything fits: the page has the size that the renderer's options say, and begins with these rows above the cursor; the cursor is at
--- column 0 inside the window, and each row from its own down is blank; each frame fits the page; and the screen isn't broken afterwards.
+-- any input but a resize to another size
+abbrev pub KeepsSize : ℕ → ℕ → Input → Type 0
+KeepsSize columns height (Resize at show width rows) = (width ≡ columns) × (rows ≡ height)
+KeepsSize columns height _ = ⊤
+
+-- Everything fits: the page has the size that the renderer's options say, and no input sets another; it begins with these rows above the
+-- cursor; the cursor is at column 0 inside the window, and each row from its own down is blank; each frame fits the page; and the screen isn't
+-- broken afterwards.
 pub record FitsPage (r : Renderer) (xs : List Rendering) (broken : Bool) (above : List (List ℕ)) (page : Canvas) : Type 0 where
   pub columns : page.columns ≡ r.options.terminal_dimensions.0
   pub height : page.height ≡ r.options.terminal_dimensions.1
+  pub sizes : AllByRecursion (λ x. KeepsSize page.columns page.height x.input) xs
   pub begins : Shows above [] page
   pub each : AllByRecursion (FrameFits page.columns page.height) (drawn_frames r xs)
   pub unbroken : broken ≡ false

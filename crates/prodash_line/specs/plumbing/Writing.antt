@@ -1,10 +1,12 @@
 -- What a line writer has written.
-use Rattle.std.specs.Prelude.{◌≡◌, ℕ, Bool, List, ◌++◌}
+use Rattle.std.specs.Prelude.{◌≡◌, ℕ, zero, suc, ◌+◌, Bool, List, [], ◌++◌, Option, Some, None}
 use Rattle.std.specs.List.{list_all}
 use Rattle.std.specs.Int.{is_in_range}
 use Rattle.prodash_line.specs.declared.render.line.draw.line.LineWriter.{LineWriter}
-use Rattle.prodash_line.specs.Signs.{spelling}
-use Rattle.prodash_line.specs.Lines.{Line, columns_of}
+use Rattle.prodash_line.specs.declared.render.line.page.sign.Sign.TheVariants.{Open, Reset}
+use Rattle.prodash_line.specs.declared.render.line.page.style.Style.{Style}
+use Rattle.prodash_line.specs.Signs.{spelling_of, spelling}
+use Rattle.prodash_line.specs.Lines.{Line, capped, columns_of}
 use Rattle.prodash_line.specs.Frames.{line_signs}
 
 -- are all of them printable ASCII characters?
@@ -20,9 +22,26 @@ pub record Writes (before : List ℕ) (line : Line) (w : LineWriter) : Type 0 wh
   pub bytes : w.bytes.items ≡ before ++ line_bytes line
   pub width : w.width ≡ columns_of line
 
+-- the style that a text of n bytes is written in: none if it is empty
+abbrev pub style_of_length : Option Style → ℕ → Option Style
+style_of_length None n = None
+style_of_length (Some style) zero = None
+style_of_length (Some style) (suc n) = Some style
+
+-- the bytes that begin a style
+abbrev pub open_bytes : Option Style → List ℕ
+open_bytes None = []
+open_bytes (Some style) = spelling_of (Open style)
+
+-- the bytes that end it
+abbrev pub reset_bytes : Option Style → List ℕ
+reset_bytes None = []
+reset_bytes (Some style) = spelling_of Reset
+
 -- whatever line was there, these pieces follow it
 pub record Appends (old : LineWriter) (pieces : Line) (new : LineWriter) : Type 0 where
-  pub writes : (before : List ℕ) (line : Line) → Writes before line old → Writes before (line ++ pieces) new
+  pub bytes : new.bytes.items ≡ old.bytes.items ++ line_bytes pieces
+  pub width : (columns : ℕ) → old.width ≡ capped columns → new.width ≡ capped (columns + columns_of pieces)
 
 -- this line follows the bytes of old
 pub record Begun (old : LineWriter) (line : Line) (new : LineWriter) : Type 0 where

@@ -1,7 +1,7 @@
 //! Frames: messages and rows, drawn over the lines on screen.
 ghost use Rattle.std.specs.Prelude.{◌≡◌, ℕ, Bool, Some, None, IfErr, OnOk, OnErr};
 ghost use Rattle.prodash_line.specs.Screens.{WritesFrame, BreaksDuring};
-ghost use Rattle.prodash_line.specs.Renderer.{Renders};
+ghost use Rattle.prodash_line.specs.Renderer.{Renders, is_cursor_hidden};
 
 mod bar;
 mod frame;
@@ -9,13 +9,16 @@ mod input;
 mod line;
 mod memory_screen;
 mod message;
+mod over_write;
 mod row;
 mod screen;
 mod state;
+mod styles;
 
-use frame::{compose, compose_closing};
+use frame::{compose, compose_closing, compose_resized};
 pub use input::{Answer, Input, Options};
 pub use memory_screen::MemoryScreen;
+pub use over_write::OverWrite;
 use prodash_base::Refusal;
 use prodash_base::messages::{MessageCopyState, Messages};
 use prodash_base::progress::Rows;
@@ -29,11 +32,18 @@ use std::alloc::Global;
 /// Draws the frame of an input: composes it, writes all its bytes to the screen and flushes them.
 /// A frame without bytes does nothing to the screen.
 ///
+/// The first frame hides the cursor, if it is to be hidden on a terminal.
+///
 /// - `Input::Tick` with a root prints the new messages, each in the row of the first line on
-///   screen, and draws the rows in place of the lines that are left if they are shown and have
-///   changed since the latest tick. It returns `Answer::Drawn`.
-/// - `Input::Tick` without a root and `Input::Quit` blank the lines on screen and return
-///   `Answer::Ended`. No further frame is drawn.
+///   screen, and draws the rows in place of the lines that are left if they are shown on a terminal
+///   and have changed since the latest tick. It returns `Answer::Drawn`. If there are no rows and
+///   the renderer isn't to keep running, it closes the renderer after its messages.
+/// - `Input::Tick` without a root and `Input::Quit` close the renderer.
+/// - `Input::Resize` sets the size, and draws the rows of the latest tick if they are shown on a
+///   terminal. It returns `Answer::Drawn`.
+///
+/// Whatever closes the renderer blanks the lines on screen, shows a hidden cursor, and returns
+/// `Answer::Ended`. No further frame is drawn.
 ///
 /// # Errors
 ///
@@ -44,12 +54,16 @@ use std::alloc::Global;
 ///
 /// ```rust
 /// let mut screen = MemoryScreen::new(alloc, 4096)?;
-/// let mut state = State::new(
-///     alloc,
-///     Options {
-///         terminal_dimensions: (80, 20),
-///     },
-/// );
+/// let options = Options {
+///     level_filter: None,
+///     terminal_dimensions: (80, 20),
+///     keep_running_if_progress_is_empty: true,
+///     output_is_terminal: true,
+///     colored: false,
+///     timestamp: false,
+///     hide_cursor: false,
+/// };
+/// let mut state = State::new(alloc, options, false);
 /// let tick = Input::Tick {
 ///     at: 0,
 ///     show: true,
@@ -76,11 +90,18 @@ pub fn all<S: Screen>(
             seen: Some(seen),
         } => tick(alloc, screen, state, at, show, seen),
         Input::Tick { seen: None, .. } => close(screen, state),
+        Input::Resize {
+            at,
+            show,
+            columns,
+            rows,
+        } => resize(alloc, screen, state, at, (columns, rows), show),
         Input::Quit { .. } => close(screen, state),
     }
 }
 
-/// Draws the frame of a tick with a root, and remembers what the tick saw.
+/// Draws the frame of a tick with a root, and remembers what the tick saw. It closes the renderer
+/// if the tick saw no rows, unless the renderer is to keep running.
 fn tick<S: Screen>(
     alloc: Global,
     screen: &mut S,
@@ -94,6 +115,7 @@ fn tick<S: Screen>(
         state.new (S.state screen.new) }
 {
     let (rows, messages, copy_state) = seen;
+    let closes = state.past.closes_at(&rows);
     let frame = compose(
         alloc,
         &mut state.frame,
@@ -105,10 +127,33 @@ fn tick<S: Screen>(
     )?;
     send(screen, &mut state.past, state.frame.bytes())?;
     state.past.remember(frame, rows, copy_state);
+    if closes {
+        state.past.close();
+        return Ok(Answer::Ended);
+    }
     Ok(Answer::Drawn)
 }
 
-/// Draws the closing frame.
+/// Draws the frame of a resize, and sets the size.
+fn resize<S: Screen>(
+    alloc: Global,
+    screen: &mut S,
+    state: &mut State,
+    at: Moment,
+    dimensions: (u16, u16),
+    show: bool,
+) -> Result<Answer, Refusal>
+    requires { state.old.ended ≡ None }
+    ensures { let input = Input.Resize at show dimensions.0 dimensions.1 in
+        Renders state.old input (S.state screen.old) result state.new (S.state screen.new) }
+{
+    let drawn = compose_resized(alloc, &mut state.frame, &state.past, at, dimensions, show)?;
+    send(screen, &mut state.past, state.frame.bytes())?;
+    state.past.resize(dimensions, drawn);
+    Ok(Answer::Drawn)
+}
+
+/// Draws the closing frame without messages.
 fn close<S: Screen>(screen: &mut S, state: &mut State) -> Result<Answer, Refusal>
     requires { state.old.ended ≡ None }
     ensures quit { (at : ℕ)
@@ -118,24 +163,27 @@ fn close<S: Screen>(screen: &mut S, state: &mut State) -> Result<Answer, Refusal
         → Renders state.old (Input.Tick at show None) (S.state screen.old) result state.new
         (S.state screen.new) }
 {
-    compose_closing(&mut state.frame, &state.past.widths)?;
+    compose_closing(&mut state.frame, &state.past)?;
     send(screen, &mut state.past, state.frame.bytes())?;
     state.past.close();
     Ok(Answer::Ended)
 }
 
-/// Writes the bytes of a frame to the screen. If the screen breaks, so does the renderer.
+/// Writes the bytes of a frame to the screen, and keeps whether the cursor is hidden then. If the
+/// screen breaks, so does the renderer.
 fn send<S: Screen>(screen: &mut S, past: &mut Past, frame: &[u8]) -> Result<(), Refusal>
     ensures ok { OnOk result
-        ((past.new ≡ past.old) × WritesFrame frame.now (S.state screen.old) (S.state screen.new)) }
+        ((past.new ≡ record past.old { cursor_hidden = is_cursor_hidden past.old })
+        × WritesFrame frame.now (S.state screen.old) (S.state screen.new)) }
     ensures err { OnErr result
         ((past.new ≡ record past.old { ended = Some Refusal.Broken })
         × BreaksDuring frame.now (S.state screen.old) (S.state screen.new)) }
     ensures reason { IfErr result (λ e. e ≡ Refusal.Broken) }
 {
     let written = write_frame(screen, frame);
-    if written.is_err() {
-        past.break_off();
+    match written {
+        Ok(()) => past.keep_cursor(),
+        Err(_) => past.break_off(),
     }
     written
 }

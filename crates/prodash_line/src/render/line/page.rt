@@ -4,8 +4,10 @@ ghost use Rattle.prodash_base.specs.declared.refusal.Refusal.TheVariants.{Memory
 ghost use Rattle.prodash_line.specs.plumbing.Cells.{cells};
 ghost use Rattle.prodash_line.specs.Page.{blank, blank_page, with_row, with_char, after_sign, adds_row};
 
+mod codes;
 mod reading;
 mod sign;
+mod style;
 mod writing;
 
 use prodash_base::Refusal;
@@ -13,6 +15,7 @@ pub use reading::{Fault, one_spelling, read};
 pub use sign::Sign;
 use std::alloc::{AllocError, Global};
 use std::marker::Model;
+pub use style::{Color, Style};
 pub(crate) use writing::push_sign;
 pub use writing::spell;
 
@@ -151,6 +154,7 @@ impl Page {
             Sign::CarriageReturn => self.column = 0,
             Sign::Up(n) => self.row = self.row.saturating_sub(n as usize).max(self.top()),
             Sign::EraseLine => erase_row(&mut self.rows, self.columns, self.row),
+            Sign::HideCursor | Sign::ShowCursor | Sign::Open(_) | Sign::Reset => {}
         }
         Ok(())
     }

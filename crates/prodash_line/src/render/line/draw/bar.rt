@@ -1,10 +1,11 @@
 //! The bar of a progress.
 ghost use Rattle.std.specs.Prelude.{◌≡◌, ◌-◌, ◌≤◌, [], ◌∷◌, OnOk};
-ghost use Rattle.prodash_line.specs.Lines.{piece};
+ghost use Rattle.prodash_line.specs.Lines.{piece, in_color};
 ghost use Rattle.prodash_line.specs.ProgressRows as rows;
 ghost use Rattle.prodash_line.specs.plumbing.Writing.{Appends};
 
-use crate::render::line::draw::line::LineWriter;
+use crate::render::line::draw::line::{LineWriter, style_of_length};
+use crate::render::line::page::Style;
 use prodash_base::progress::Step;
 use std::alloc::AllocError;
 
@@ -14,15 +15,18 @@ const BRACKETS: u16 = 3;
 /// The column of the arrow in the bar of a progress with a bound.
 const ARROW: u16 = 1;
 
-/// Appends the bar of a progress on the columns that are left in its row. It appends nothing if
-/// there are none. It fails if it is out of memory.
+/// Appends the bar of a progress on the columns that are left in its row, in this style if it is
+/// coloured. It appends nothing if there are no columns. It fails if it is out of memory.
 pub(crate) fn push_bar(
     out: &mut LineWriter,
+    colored: bool,
+    style: Style,
     columns: u16,
     step: Step,
     done_at: Option<Step>,
 ) -> Result<(), AllocError>
-    ensures { OnOk result (Appends out.old (rows.bar columns step done_at) out.new) }
+    ensures { OnOk result
+        (Appends out.old (in_color colored (rows.bar style columns step done_at)) out.new) }
 {
     if columns == 0 {
         return Ok(());
@@ -30,21 +34,36 @@ pub(crate) fn push_bar(
     match done_at {
         Some(done_at) => {
             let cells = columns.saturating_sub(BRACKETS + ARROW);
-            push_bar_with(out, cells, filled_cells(cells, step, done_at))
+            push_bar_with(
+                out,
+                colored,
+                style,
+                cells,
+                filled_cells(cells, step, done_at),
+            )
         }
-        None => push_unbounded_bar(out, columns, step),
+        None => push_unbounded_bar(out, colored, style, columns, step),
     }
 }
 
 /// Appends a bar of `cells` cells, of which the first `filled` are filled.
-fn push_bar_with(out: &mut LineWriter, cells: u16, filled: u16) -> Result<(), AllocError>
+fn push_bar_with(
+    out: &mut LineWriter,
+    colored: bool,
+    style: Style,
+    cells: u16,
+    filled: u16,
+) -> Result<(), AllocError>
     requires { filled ≤ cells }
-    ensures { OnOk result (Appends out.old (rows.bar_with cells filled) out.new) }
+    ensures { OnOk result
+        (Appends out.old (in_color colored (rows.bar_with style cells filled)) out.new) }
 {
+    let bright = colored.then_some(style);
+    let dim = colored.then_some(style.dimmed());
     out.push_printable(b" [")?;
-    out.push_repeated(b'=', filled)?;
-    out.push_printable(b">")?;
-    out.push_repeated(b'-', cells - filled)?;
+    out.push_repeated(bright, b'=', filled)?;
+    out.push_repeated(bright, b'>', 1)?;
+    out.push_repeated(dim, b'-', cells - filled)?;
     out.push_printable(b"]")?;
     Ok(())
 }
@@ -64,12 +83,22 @@ fn filled_cells(cells: u16, step: Step, done_at: Step) -> u16
 
 /// Appends the bar of a progress without a bound on these columns: a cell for each number from
 /// the step upward that is less than `Step::MAX`, as far as there are columns, in reverse order.
-fn push_unbounded_bar(out: &mut LineWriter, columns: u16, step: Step) -> Result<(), AllocError>
-    ensures { OnOk result (Appends out.old (rows.unbounded_bar columns step) out.new) }
+fn push_unbounded_bar(
+    out: &mut LineWriter,
+    colored: bool,
+    style: Style,
+    columns: u16,
+    step: Step,
+) -> Result<(), AllocError>
+    ensures { OnOk result
+        (Appends out.old (in_color colored (rows.unbounded_bar style columns step)) out.new) }
 {
-    let cells = Step::from(columns.saturating_sub(BRACKETS));
+    let end = step.saturating_add(Step::from(columns.saturating_sub(BRACKETS)));
+    let style = style_of_length(colored.then_some(style), (end - step) as usize);
     out.push_printable(b" [")?;
-    push_numbered_cells(out, step, step.saturating_add(cells))?;
+    out.open(style)?;
+    push_numbered_cells(out, step, end)?;
+    out.reset(style)?;
     out.push_printable(b"]")?;
     Ok(())
 }

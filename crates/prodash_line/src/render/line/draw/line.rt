@@ -2,11 +2,11 @@
 ghost use Rattle.std.specs.Prelude.{◌≡◌, ℕ, List, ◌∷◌, [], ◌++◌, ◌≤◌, true, chars, replicate, OnOk, IfOk, false};
 ghost use Rattle.unicode_width.specs.Width.{str_width};
 ghost use Rattle.prodash_line.specs.Signs.{spelling_of};
-ghost use Rattle.prodash_line.specs.Lines.{Line, piece, spaces, columns_of};
-ghost use Rattle.prodash_line.specs.plumbing.Writing.{is_printable, Appends, Begun};
+ghost use Rattle.prodash_line.specs.Lines.{Line, piece, styled, spaces, columns_of};
+ghost use Rattle.prodash_line.specs.plumbing.Writing.{is_printable, style_of_length, open_bytes, reset_bytes, Appends, Begun};
 ghost use Rattle.prodash_line.specs.plumbing.OverwriteBytes.{Overwrites};
 
-use crate::render::line::page::{Sign, push_sign};
+use crate::render::line::page::{Sign, Style, push_sign};
 use std::alloc::{AllocError, Global};
 use unicode_width::UnicodeWidthStr;
 
@@ -55,28 +55,33 @@ impl LineWriter {
         self.width = 0;
     }
 
-    /// Appends a text to the line. It fails if it is out of memory.
-    pub(crate) fn push(&mut self, text: &str) -> Result<(), AllocError>
-        ensures { OnOk result (Appends self.old (piece (chars text.now) ∷ []) self.new) }
+    /// Appends a text to the line, in this style if there is one. It fails if it is out of memory.
+    pub(crate) fn push(&mut self, style: Option<Style>, text: &str) -> Result<(), AllocError>
+        ensures { OnOk result (Appends self.old (styled style (chars text.now) ∷ []) self.new) }
     {
-        self.push_indented(0, text, text_width(text))
+        self.push_indented(style, 0, text, text_width(text))
     }
 
-    /// Appends `padding` spaces and then a text of this width, as one piece. It fails if it is out
-    /// of memory.
+    /// Appends `padding` spaces and then a text of this width, as one piece in this style if there
+    /// is one. It fails if it is out of memory.
     pub(crate) fn push_indented(
         &mut self,
+        style: Option<Style>,
         padding: u16,
         text: &str,
         width: u16,
     ) -> Result<(), AllocError>
         requires { width ≡ columns_of (piece (chars text.now) ∷ []) }
         ensures { OnOk result
-            (Appends self.old (piece (replicate padding 32 ++ chars text.now) ∷ []) self.new) }
+            (let whole = replicate padding 32 ++ chars text.now in
+            Appends self.old (styled style whole ∷ []) self.new) }
     {
+        let style = style_of_length(style, usize::from(padding) + text.len());
+        self.open(style)?;
         push_copies(&mut self.bytes, b' ', padding)?;
         self.bytes.extend_from_slice(text.as_bytes())?;
         self.width = self.width.saturating_add(padding).saturating_add(width);
+        self.reset(style)?;
         Ok(())
     }
 
@@ -93,22 +98,56 @@ impl LineWriter {
         Ok(())
     }
 
-    /// Appends a printable ASCII character `count` times. It fails if it is out of memory.
-    pub(crate) fn push_repeated(&mut self, character: u8, count: u16) -> Result<(), AllocError>
+    /// Appends a printable ASCII character `count` times, in this style if there is one. It fails
+    /// if it is out of memory.
+    pub(crate) fn push_repeated(
+        &mut self,
+        style: Option<Style>,
+        character: u8,
+        count: u16,
+    ) -> Result<(), AllocError>
         requires low { 32 ≤ character }
         requires high { character ≤ 126 }
-        ensures { OnOk result (Appends self.old (piece (replicate count character) ∷ []) self.new) }
+        ensures { OnOk result
+            (Appends self.old (styled style (replicate count character) ∷ []) self.new) }
     {
+        let style = style_of_length(style, usize::from(count));
+        self.open(style)?;
         push_copies(&mut self.bytes, character, count)?;
         self.width = self.width.saturating_add(count);
+        self.reset(style)?;
         Ok(())
+    }
+
+    /// Begins a style, if there is one. It fails if it is out of memory.
+    pub(crate) fn open(&mut self, style: Option<Style>) -> Result<(), AllocError>
+        ensures bytes { OnOk result
+            (self.new.bytes.items ≡ self.old.bytes.items ++ open_bytes style) }
+        ensures width { OnOk result (self.new.width ≡ self.old.width) }
+    {
+        match style {
+            Some(style) => push_sign(&mut self.bytes, Sign::Open(style)),
+            None => Ok(()),
+        }
+    }
+
+    /// Ends a style, if there is one. It fails if it is out of memory.
+    pub(crate) fn reset(&mut self, style: Option<Style>) -> Result<(), AllocError>
+        ensures bytes { OnOk result
+            (self.new.bytes.items ≡ self.old.bytes.items ++ reset_bytes style) }
+        ensures width { OnOk result (self.new.width ≡ self.old.width) }
+    {
+        match style {
+            Some(_) => push_sign(&mut self.bytes, Sign::Reset),
+            None => Ok(()),
+        }
     }
 
     /// Appends `count` spaces. It fails if it is out of memory.
     pub(crate) fn push_spaces(&mut self, count: u16) -> Result<(), AllocError>
         ensures { OnOk result (Appends self.old (spaces count ∷ []) self.new) }
     {
-        self.push_repeated(b' ', count)
+        self.push_repeated(None, b' ', count)
     }
 
     /// Ends the line over a line of this width that is on screen in its row: appends spaces as far
@@ -133,6 +172,13 @@ impl LineWriter {
     {
         push_sign(&mut self.bytes, sign)
     }
+}
+
+/// Returns the style that a text of `length` bytes is written in: none if it is empty.
+pub(crate) fn style_of_length(style: Option<Style>, length: usize) -> Option<Style>
+    ensures { result ≡ style_of_length style length }
+{
+    if length == 0 { None } else { style }
 }
 
 /// Appends a byte `count` times.

@@ -1,29 +1,79 @@
 //! The line of a message: its origin, aligned with those of other messages, and its text.
-ghost use Rattle.std.specs.Prelude.{◌≡◌, OnOk};
-ghost use Rattle.prodash_line.specs.MessageLines.{origin_width, message_line, greatest_width};
-ghost use Rattle.prodash_line.specs.plumbing.Writing.{Begun};
+ghost use Rattle.std.specs.Prelude.{◌≡◌, IfErr, OnOk};
+ghost use Rattle.prodash_line.specs.Lines.{in_color};
+ghost use Rattle.prodash_line.specs.MessageLines.{origin_width, time_of, text_of, drawn_message_line, greatest_width};
+ghost use Rattle.prodash_line.specs.plumbing.Writing.{Appends, Begun};
 
+use crate::render::line::draw::input::Options;
 use crate::render::line::draw::line::LineWriter;
+use crate::render::line::draw::styles::{message_style, origin_style, time_style};
+use prodash_base::Refusal;
 use prodash_base::messages::Message;
-use std::alloc::AllocError;
+use prodash_base::time::format_time_for_messages;
+use std::alloc::{AllocError, Global};
 
 /// Writes the line of a message whose origin has this width, right-aligned to `width`. It fails if
 /// it is out of memory.
 pub(crate) fn push_message(
+    alloc: Global,
     out: &mut LineWriter,
+    options: &Options,
+    width: u16,
+    own_width: u16,
+    message: &Message,
+) -> Result<(), Refusal>
+    requires { own_width ≡ origin_width message.now.origin }
+    ensures line { OnOk result
+        (Begun out.old (drawn_message_line options.now width message.now) out.new) }
+    ensures reason { IfErr result (λ e. e ≡ Refusal.Memory) }
+{
+    out.begin();
+    out.push_spaces(1)?;
+    push_time(alloc, out, options, message)?;
+    push_text(out, options.colored, width, own_width, message)?;
+    Ok(())
+}
+
+/// Appends the time of a message and a space, if times are shown.
+fn push_time(
+    alloc: Global,
+    out: &mut LineWriter,
+    options: &Options,
+    message: &Message,
+) -> Result<(), Refusal>
+    ensures pieces { OnOk result
+        (let pieces = time_of options.now.timestamp message.now in
+        Appends out.old (in_color options.now.colored pieces) out.new) }
+    ensures reason { IfErr result (λ e. e ≡ Refusal.Memory) }
+{
+    if !options.timestamp {
+        return Ok(());
+    }
+    let time = format_time_for_messages(alloc, message.time)?;
+    let style = options.colored.then_some(time_style(message.level));
+    out.push(style, time.as_str())?;
+    out.push_spaces(1)?;
+    Ok(())
+}
+
+/// Appends the origin of a message, right-aligned to `width`, a space and its text.
+fn push_text(
+    out: &mut LineWriter,
+    colored: bool,
     width: u16,
     own_width: u16,
     message: &Message,
 ) -> Result<(), AllocError>
     requires { own_width ≡ origin_width message.now.origin }
-    ensures { OnOk result (Begun out.old (message_line width message.now) out.new) }
+    ensures { OnOk result
+        (Appends out.old (in_color colored (text_of width message.now)) out.new) }
 {
     let padding = width.saturating_sub(own_width);
-    out.begin();
+    let origin = colored.then_some(origin_style());
+    let text = colored.then_some(message_style(message.level));
+    out.push_indented(origin, padding, message.origin.as_str(), own_width)?;
     out.push_spaces(1)?;
-    out.push_indented(padding, message.origin.as_str(), own_width)?;
-    out.push_spaces(1)?;
-    out.push(message.message.as_str())?;
+    out.push(text, message.message.as_str())?;
     Ok(())
 }
 

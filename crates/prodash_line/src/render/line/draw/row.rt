@@ -1,46 +1,54 @@
 //! The line of a row: its name, and with progress its values and a bar.
-ghost use Rattle.std.specs.Prelude.{◌≡◌, ◌≤◌, ◌+◌, ℕ, ◌++◌, true, length, OnOk, IfOk};
+ghost use Rattle.std.specs.Prelude.{◌≡◌, ◌≤◌, ◌+◌, ℕ, [], ◌∷◌, ◌++◌, true, length, Some, OnOk, IfOk, IfErr};
 ghost use Rattle.std.specs.Fmt.{decimal};
-ghost use Rattle.prodash_base.specs.Rows.{row_of};
-ghost use Rattle.prodash_line.specs.ProgressRows.{fraction_of, head_of, row_line, midpoint_of};
+ghost use Rattle.prodash_base.specs.Units.{measure_of};
+ghost use Rattle.prodash_base.specs.Rows.{row_of, progress_of};
+ghost use Rattle.prodash_line.specs.Lines.{styled, in_color};
+ghost use Rattle.prodash_line.specs.ProgressRows as rows;
+ghost use Rattle.prodash_line.specs.TextStyles.{values_style};
+ghost use Rattle.prodash_line.specs.plumbing.Padding.{end_of_values, padded_values};
 ghost use Rattle.prodash_line.specs.plumbing.Writing.{is_printable, Appends, Begun};
 
 use crate::render::line::draw::bar::push_bar;
-use crate::render::line::draw::line::LineWriter;
+use crate::render::line::draw::input::Options;
+use crate::render::line::draw::line::{LineWriter, text_width};
+use crate::render::line::draw::styles::{name_style, row_style, values_style};
 use itoa::Buffer;
-use prodash_base::progress::{Row, Step};
-use std::alloc::AllocError;
+use prodash_base::Refusal;
+use prodash_base::progress::{Level, Row, Step, Value};
+use prodash_base::unit::Unit;
+use prodash_base::unit::display::Throughput;
+use std::alloc::{AllocError, Global};
 
-/// Writes the line of a row on a terminal of `width` columns, its values padded so that they end
-/// at this midpoint. Returns the row's own midpoint: the column at which its values end without
+/// Writes the line of a row, its values padded so that they end at this midpoint, with a throughput
+/// if there is one. Returns the row's own midpoint: the column at which its values end without
 /// padding, 0 if it has no progress. It fails if it is out of memory.
 pub(crate) fn push_row(
+    alloc: Global,
     out: &mut LineWriter,
-    width: u16,
+    options: &Options,
     midpoint: u16,
     row: &Row,
-) -> Result<u16, AllocError>
-    ensures line { OnOk result (Begun out.old (row_line width midpoint (row_of row.now)) out.new) }
-    ensures midpoint { IfOk result (λ n. n ≡ midpoint_of (row_of row.now)) }
+    throughput: Option<Throughput>,
+) -> Result<u16, Refusal>
+    ensures line { OnOk result
+        (Begun out.old
+        (rows.drawn_row_line options.now midpoint (row_of row.now, throughput)) out.new) }
+    ensures midpoint { IfOk result (λ n. n ≡ rows.midpoint_of (row_of row.now, throughput)) }
+    ensures reason { IfErr result (λ e. e ≡ Refusal.Memory) }
 {
+    let (width, _) = options.terminal_dimensions;
+    let colored = options.colored;
     out.begin();
-    push_head(out, row)?;
+    push_head(out, colored, row)?;
     let Some(value) = &row.progress else {
         return Ok(0);
     };
-    let mut step_digits = Buffer::new();
-    let mut bound_digits = Buffer::new();
-    let step = step_digits.format(value.step);
-    let (slash, bound) = format_bound(&mut bound_digits, value.done_at);
-    let values = (step.len() + slash.len() + bound.len()) as u16;
-    let own = out.width().saturating_add(1).saturating_add(values);
-    out.push_spaces(1)?;
-    out.push_spaces(midpoint.saturating_sub(own))?;
-    out.push_printable(step.as_bytes())?;
-    out.push_printable(slash.as_bytes())?;
-    out.push_printable(bound.as_bytes())?;
+    let own = push_values(alloc, out, colored, midpoint, value, throughput)?;
     push_bar(
         out,
+        colored,
+        row_style(value),
         width.saturating_sub(out.width()),
         value.step,
         value.done_at,
@@ -48,10 +56,125 @@ pub(crate) fn push_row(
     Ok(own)
 }
 
+/// Appends a space and the values of a progress, padded so that they end at this midpoint. Returns
+/// the column at which they end without padding.
+fn push_values(
+    alloc: Global,
+    out: &mut LineWriter,
+    colored: bool,
+    midpoint: u16,
+    value: &Value,
+    throughput: Option<Throughput>,
+) -> Result<u16, Refusal>
+    ensures line { OnOk result
+        (let values = rows.values_of (progress_of value.now) throughput in
+        Appends out.old (in_color colored (padded_values midpoint out.old.width values)) out.new) }
+    ensures end { IfOk result
+        (λ n. let values = rows.values_of (progress_of value.now) throughput in
+        n ≡ end_of_values out.old.width values) }
+    ensures reason { IfErr result (λ e. e ≡ Refusal.Memory) }
+{
+    match value.unit {
+        None => Ok(push_fraction(out, colored, midpoint, value.step, value.done_at)?),
+        Some(unit) => push_in_unit(alloc, out, colored, midpoint, unit, value, throughput),
+    }
+}
+
+/// Appends a space and the values of a progress without a unit, padded as `push_values` says.
+fn push_fraction(
+    out: &mut LineWriter,
+    colored: bool,
+    midpoint: u16,
+    step: Step,
+    done_at: Option<Step>,
+) -> Result<u16, AllocError>
+    ensures line { OnOk result
+        (let values = styled (Some values_style) (rows.fraction_of step done_at) ∷ [] in
+        Appends out.old (in_color colored (padded_values midpoint out.old.width values)) out.new) }
+    ensures end { IfOk result
+        (λ n. let values = styled (Some values_style) (rows.fraction_of step done_at) ∷ [] in
+        n ≡ end_of_values out.old.width values) }
+{
+    let mut step_digits = Buffer::new();
+    let mut bound_digits = Buffer::new();
+    let step = step_digits.format(step);
+    let (slash, bound) = format_bound(&mut bound_digits, done_at);
+    let values = (step.len() + slash.len() + bound.len()) as u16;
+    let own = out.width().saturating_add(1).saturating_add(values);
+    let style = colored.then_some(values_style());
+    out.push_spaces(1)?;
+    out.push_spaces(midpoint.saturating_sub(own))?;
+    out.open(style)?;
+    out.push_printable(step.as_bytes())?;
+    out.push_printable(slash.as_bytes())?;
+    out.push_printable(bound.as_bytes())?;
+    out.reset(style)?;
+    Ok(own)
+}
+
+/// Appends a space, the values of a progress in a unit, a space and the unit, padded as
+/// `push_values` says.
+fn push_in_unit(
+    alloc: Global,
+    out: &mut LineWriter,
+    colored: bool,
+    midpoint: u16,
+    unit: Unit,
+    value: &Value,
+    throughput: Option<Throughput>,
+) -> Result<u16, Refusal>
+    ensures line { OnOk result
+        (let values = rows.values_in (measure_of unit) (progress_of value.now) throughput in
+        Appends out.old (in_color colored (padded_values midpoint out.old.width values)) out.new) }
+    ensures end { IfOk result
+        (λ n. let values = rows.values_in (measure_of unit) (progress_of value.now) throughput in
+        n ≡ end_of_values out.old.width values) }
+    ensures reason { IfErr result (λ e. e ≡ Refusal.Memory) }
+{
+    let mut values = String::new(alloc);
+    let mut name = String::new(alloc);
+    unit.display(alloc, value.step, value.done_at, throughput)
+        .values()
+        .append_to(&mut values)?;
+    unit.display(alloc, value.step, value.done_at, throughput)
+        .unit()
+        .append_to(&mut name)?;
+    let values_width = text_width(values.as_str());
+    let name_width = text_width(name.as_str());
+    let own = out
+        .width()
+        .saturating_add(1)
+        .saturating_add(values_width)
+        .saturating_add(1)
+        .saturating_add(name_width);
+    out.push_spaces(1)?;
+    out.push_spaces(midpoint.saturating_sub(own))?;
+    out.push_indented(
+        colored.then_some(values_style()),
+        0,
+        values.as_str(),
+        values_width,
+    )?;
+    out.push_spaces(1)?;
+    out.push_indented(None, 0, name.as_str(), name_width)?;
+    Ok(own)
+}
+
+/// Whether a row is drawn: its level is in the filter, if there is one.
+pub(crate) fn is_row_drawn(levels: Option<(Level, Level)>, row: &Row) -> bool
+    ensures { result ≡ rows.is_row_drawn levels (row_of row.now) }
+{
+    let level = row.key.level();
+    match levels {
+        None => true,
+        Some((lowest, highest)) => lowest <= level && level <= highest,
+    }
+}
+
 /// Returns what follows the digits of a step: a slash and the digits of the bound, if there is one.
 fn format_bound(digits: &mut Buffer, done_at: Option<Step>) -> (&'static str, &str)
     ensures text { (step : ℕ)
-        → fraction_of step done_at ≡ decimal step ++ (result.0.now ++ result.1.now) }
+        → rows.fraction_of step done_at ≡ decimal step ++ (result.0.now ++ result.1.now) }
     ensures slash { is_printable result.0.now ≡ true }
     ensures bound { is_printable result.1.now ≡ true }
     ensures short { length result.0.now + length result.1.now ≤ 41 }
@@ -63,10 +186,12 @@ fn format_bound(digits: &mut Buffer, done_at: Option<Step>) -> (&'static str, &s
 }
 
 /// Appends the name of a row behind as many spaces as its level.
-fn push_head(out: &mut LineWriter, row: &Row) -> Result<(), AllocError>
-    ensures { OnOk result (Appends out.old (head_of (row_of row.now)) out.new) }
+fn push_head(out: &mut LineWriter, colored: bool, row: &Row) -> Result<(), AllocError>
+    ensures { OnOk result
+        (Appends out.old (in_color colored (rows.head_of (row_of row.now))) out.new) }
 {
+    let style = colored.then_some(name_style(&row.progress));
     out.push_spaces(u16::from(row.key.level()))?;
-    out.push(row.name.as_str())?;
+    out.push(style, row.name.as_str())?;
     Ok(())
 }

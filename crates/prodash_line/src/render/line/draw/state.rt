@@ -1,30 +1,31 @@
 //! What the renderer keeps from frame to frame.
-ghost use Rattle.std.specs.Prelude.{◌≡◌, ◌⊎◌, [], Some, IfSome};
-ghost use Rattle.prodash_line.specs.Renderer.{new_renderer, is_drawn};
+ghost use Rattle.std.specs.Prelude.{◌≡◌, ◌⊎◌, [], Some, IfSome, IfOk, IfErr};
+ghost use Rattle.std.specs.Option.{option_or};
+ghost use Rattle.prodash_base.specs.Rows.{rows_of};
+ghost use Rattle.prodash_line.specs.Renderer.{new_renderer, is_drawn, closes_at, hides_cursor, is_cursor_hidden, latest_rows, resized};
+ghost use Rattle.prodash_line.specs.MessageLines.{last_of};
+ghost use Rattle.prodash_line.specs.plumbing.Observing.{tracker_at};
 
 use crate::render::line::draw::input::Options;
 use crate::render::line::draw::line::LineWriter;
 use prodash_base::Refusal;
 use prodash_base::messages::MessageCopyState;
-use prodash_base::progress::Rows;
+use prodash_base::progress::{Row, Rows};
+use prodash_base::throughput::Throughput;
+use prodash_base::time::Moment;
 use std::alloc::Global;
 use std::marker::Model;
 
 /// What the renderer keeps from frame to frame. Contracts see a `Renderer`.
 ///
 /// ```rust
-/// let state = State::new(
-///     alloc,
-///     Options {
-///         terminal_dimensions: (80, 20),
-///     },
-/// );
+/// let state = State::new(alloc, options, false);
 /// // Nothing was seen of the messages yet, so a first tick is given all that are kept.
 /// let previous = state.seen();
 /// // No frame is refused yet.
 /// let refusal = state.ended();
 /// ```
-#[derive(Debug, Drop)]
+#[derive(Drop)]
 pub struct State {
     pub(crate) past: Past,
     /// The bytes of a frame while it is composed. Each frame reuses its memory.
@@ -32,7 +33,7 @@ pub struct State {
 }
 
 /// What the next frame is composed from. Contracts see a `Renderer`.
-#[derive(Debug, Drop)]
+#[derive(Drop)]
 pub(crate) struct Past {
     pub(crate) options: Options,
     /// The width of each line on screen.
@@ -45,6 +46,10 @@ pub(crate) struct Past {
     pub(crate) origin_widths: Vec<u16>,
     /// What the latest accepted tick with a root saw of the messages.
     seen: Option<MessageCopyState>,
+    /// The tracker of throughput, if throughput is shown.
+    tracker: Option<Throughput>,
+    /// Whether a frame has hidden the cursor.
+    cursor_hidden: bool,
     /// Why every further frame is refused, if it is.
     ending: Option<Ending>,
 }
@@ -58,13 +63,23 @@ pub(crate) enum Ending {
     Broken,
 }
 
-/// What a composed frame leaves to the next one.
-#[derive(Debug, Drop)]
-pub(crate) struct Composed {
+/// What the body of a frame leaves to the next one.
+#[derive(Drop)]
+pub(crate) struct Drawn {
     /// The width of each line on screen.
     pub(crate) widths: Vec<u16>,
     /// The greatest midpoint of the frame drawn last.
     pub(crate) midpoint: u16,
+    /// The tracker, if there is one, after a frame that draws rows. A frame that draws none leaves
+    /// the tracker as it was.
+    pub(crate) tracker: Option<Throughput>,
+}
+
+/// What a composed frame leaves to the next one.
+#[derive(Drop)]
+pub(crate) struct Composed {
+    /// What its body leaves.
+    pub(crate) drawn: Drawn,
     /// The widths of the latest origins.
     pub(crate) origin_widths: Vec<u16>,
 }
@@ -87,8 +102,12 @@ impl Model for Past {
     ghost use Rattle.std.specs.Option.{option_map};
     ghost use Rattle.prodash_line.specs.Renderer.{Renderer};
     ghost use Rattle.prodash_line.specs.plumbing.Endings.{refusal_of};
+    ghost use Rattle.std.specs.Coded.{codes};
+    ghost use Rattle.std.specs.FinMap as finite;
 
     ghost Value = { Renderer };
+
+    ghost coded = { Prim.hlevel (codes, finite.code) };
 
     ghost view = { λ p. record {
       options = p.options;
@@ -97,25 +116,31 @@ impl Model for Past {
       last_rows = p.last_rows;
       origin_widths = p.origin_widths.items;
       seen = p.seen;
+      tracker = p.tracker;
+      cursor_hidden = p.cursor_hidden;
       ended = option_map refusal_of p.ending;
     } };
 }
 
 impl Model for State {
     ghost use Rattle.prodash_line.specs.Renderer.{Renderer};
+    ghost use Rattle.std.specs.Coded.{codes};
+    ghost use Rattle.std.specs.FinMap as finite;
 
     ghost Value = { Renderer };
+
+    ghost coded = { Prim.hlevel (codes, finite.code) };
 
     ghost view = { λ s. s.past };
 }
 
 impl State {
-    /// Returns the state of a renderer that has drawn nothing yet.
-    pub fn new(alloc: Global, options: Options) -> State
-        ensures { result ≡ new_renderer options }
+    /// Returns the state of a renderer that has drawn nothing yet, and whether it shows throughput.
+    pub fn new(alloc: Global, options: Options, throughput: bool) -> State
+        ensures { result ≡ new_renderer options throughput }
     {
         State {
-            past: Past::new(alloc, options),
+            past: Past::new(alloc, options, throughput),
             frame: LineWriter::new(alloc),
         }
     }
@@ -141,8 +166,8 @@ impl State {
 
 impl Past {
     /// Returns what there is before the first frame.
-    fn new(alloc: Global, options: Options) -> Past
-        ensures { result ≡ new_renderer options }
+    fn new(alloc: Global, options: Options, throughput: bool) -> Past
+        ensures { result ≡ new_renderer options throughput }
     {
         Past {
             options,
@@ -151,6 +176,12 @@ impl Past {
             last_rows: None,
             origin_widths: Vec::new(alloc),
             seen: None,
+            tracker: if throughput {
+                Some(Throughput::new(alloc))
+            } else {
+                None
+            },
+            cursor_hidden: false,
             ending: None,
         }
     }
@@ -164,32 +195,118 @@ impl Past {
         self.ending.map(Ending::refusal)
     }
 
-    /// Whether a tick draws these rows: they are shown, and the latest accepted tick with a root
-    /// saw other rows, or there was none.
+    /// Whether a tick draws these rows: they are shown on a terminal, and the latest accepted tick
+    /// with a root saw other rows, or there was none.
     pub(crate) fn draws(&self, show: bool, rows: &Rows) -> bool
         ensures { result ≡ is_drawn self.now show rows.now }
     {
-        show && match &self.last_rows {
-            None => true,
-            Some(before) => *before != *rows,
+        show && self.options.output_is_terminal
+            && match &self.last_rows {
+                None => true,
+                Some(before) => *before != *rows,
+            }
+    }
+
+    /// Whether a tick that sees these rows closes the renderer: there are none, and it isn't to
+    /// keep running.
+    pub(crate) fn closes_at(&self, rows: &Rows) -> bool
+        ensures { result ≡ closes_at self.now rows.now }
+    {
+        !self.options.keep_running_if_progress_is_empty && rows.as_slice().is_empty()
+    }
+
+    /// Whether the next frame hides the cursor: no frame has, and it is to be hidden on a terminal.
+    pub(crate) fn hides_cursor(&self) -> bool
+        ensures { result ≡ hides_cursor self.now }
+    {
+        self.options.hide_cursor && self.options.output_is_terminal && !self.cursor_hidden
+    }
+
+    /// Whether the cursor is hidden once the next frame has begun.
+    pub(crate) fn is_cursor_hidden(&self) -> bool
+        ensures { result ≡ is_cursor_hidden self.now }
+    {
+        self.cursor_hidden || self.hides_cursor()
+    }
+
+    /// Returns the rows at the latest accepted tick with a root.
+    pub(crate) fn latest_rows(&self) -> &[Row]
+        ensures { rows_of result.now ≡ latest_rows self.now.last_rows }
+    {
+        match &self.last_rows {
+            None => &[],
+            Some(rows) => rows.as_slice(),
         }
+    }
+
+    /// Returns a copy of the tracker, if there is one, at a moment. It is to observe these rows.
+    pub(crate) fn tracker_at(
+        &self,
+        alloc: Global,
+        at: Moment,
+        rows: &[Row],
+    ) -> Result<Option<Throughput>, Refusal>
+        ensures ok { IfOk result (λ tracker. tracker ≡ tracker_at at self.now.tracker) }
+        ensures reason { IfErr result (λ e. e ≡ Refusal.Memory) }
+    {
+        let Some(tracker) = &self.tracker else {
+            return Ok(None);
+        };
+        let mut tracker = tracker.copy(alloc, rows)?;
+        tracker.update_elapsed(at);
+        Ok(Some(tracker))
+    }
+
+    /// Keeps whether the cursor is hidden once a frame is written.
+    pub(crate) fn keep_cursor(&mut self)
+        ensures { self.new ≡ record self.old { cursor_hidden = is_cursor_hidden self.old } }
+    {
+        self.cursor_hidden = self.is_cursor_hidden();
     }
 
     /// Keeps what a frame has left that is written, and what its tick saw of the tree.
     pub(crate) fn remember(&mut self, frame: Composed, rows: Rows, seen: MessageCopyState)
         ensures { self.new ≡ record self.old {
-          widths = frame.widths.items;
-          midpoint = frame.midpoint;
+          widths = frame.drawn.widths.items;
+          midpoint = frame.drawn.midpoint;
+          tracker = option_or frame.drawn.tracker self.old.tracker;
           last_rows = Some rows;
           origin_widths = frame.origin_widths.items;
           seen = Some seen;
         } }
     {
-        self.widths = frame.widths;
-        self.last_progress_midpoint = frame.midpoint;
+        self.keep(frame.drawn);
         self.last_rows = Some(rows);
         self.origin_widths = frame.origin_widths;
         self.seen = Some(seen);
+    }
+
+    /// Keeps what the body of a frame has left that is written.
+    fn keep(&mut self, drawn: Drawn)
+        ensures { self.new ≡ record self.old {
+          widths = drawn.widths.items;
+          midpoint = drawn.midpoint;
+          tracker = option_or drawn.tracker self.old.tracker;
+        } }
+    {
+        self.widths = drawn.widths;
+        self.last_progress_midpoint = drawn.midpoint;
+        if drawn.tracker.is_some() {
+            self.tracker = drawn.tracker;
+        }
+    }
+
+    /// Sets the size of the terminal, and keeps what the frame has left that is written.
+    pub(crate) fn resize(&mut self, dimensions: (u16, u16), drawn: Drawn)
+        ensures { self.new ≡ record (resized self.old dimensions.0 dimensions.1) {
+          widths = drawn.widths.items;
+          midpoint = drawn.midpoint;
+          tracker = option_or drawn.tracker self.old.tracker;
+        } }
+    {
+        self.options.terminal_dimensions = dimensions;
+        self.keep(drawn);
+        keep_latest(&mut self.origin_widths, usize::from(dimensions.1));
     }
 
     /// Ends the renderer after its closing frame, which leaves no line on screen.
@@ -206,4 +323,12 @@ impl Past {
     {
         self.ending = Some(Ending::Broken);
     }
+}
+
+/// Removes all widths but the last `count`.
+pub(crate) fn keep_latest(widths: &mut Vec<u16>, count: usize)
+    ensures { widths.new.items ≡ last_of count widths.old.items }
+{
+    let gone = widths.len().saturating_sub(count);
+    widths.drain(..gone);
 }

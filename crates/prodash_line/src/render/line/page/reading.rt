@@ -1,14 +1,17 @@
 //! Reads bytes as signs.
-ghost use Rattle.std.specs.Prelude.{◌≡◌, ℕ, ◌<◌, ◌≤◌, ◌^◌, List, ◌∷◌, ◌++◌, length, take, drop, MatchOption};
+ghost use Rattle.std.specs.Prelude.{◌≡◌, ◌≢◌, ℕ, [], ◌<◌, ◌≤◌, ◌^◌, List, ◌∷◌, ◌++◌, length, take, drop, MatchOption};
 ghost use Rattle.std.specs.Char.{encode_utf8};
 ghost use Rattle.std.specs.Fmt.{decimal};
 ghost use Rattle.std.specs.List.{prefix_len};
 ghost use Rattle.std.specs.Str.{IsUtf8};
 ghost use Rattle.prodash_line.specs.Signs.{spelling_of, spelling, sequence, IsProper};
-ghost use Rattle.prodash_line.specs.Reading.{NoCharAt, NoSignAt, IsSignAt, NoSequenceAt, MakesNone, Reads, Gives, AreProper, is_parameter};
+ghost use Rattle.prodash_line.specs.Styles.{style_codes, style_parameters};
+ghost use Rattle.prodash_line.specs.Reading.{NoCharAt, NoSignAt, IsSignAt, NoSequenceAt, NoStyle, MakesNone, Reads, Gives, AreProper, is_parameter};
 ghost use Rattle.prodash_line.specs.declared.render.line.page.sign.Sign.{Sign};
 
+use super::codes::with_code;
 use super::sign::Sign;
+use super::style::Style;
 use std::alloc::{AllocError, AllocFailed, Global};
 
 /// Why bytes could not be read as signs.
@@ -77,15 +80,33 @@ fn number_of(digits: &[u8]) -> Option<u16>
     str::from_utf8(digits).ok()?.parse::<u16>().ok()
 }
 
+/// Returns the style whose codes these are, which has at least one.
+fn style_of(parameters: &[u8]) -> Option<Style>
+    ensures { MatchOption result (NoStyle parameters.now)
+        (λ style. (style_codes style ≢ []) × (style_parameters style ≡ parameters.now)) }
+{
+    let mut style = Style::new();
+    for digits in parameters.split(|b| *b == b';') {
+        style = with_code(style, number_of(digits)?)?;
+    }
+    Some(style)
+}
+
 /// Returns the sign whose sequence has these parameters and this final byte.
 fn sign_of(parameters: &[u8], final_byte: u8) -> Option<Sign>
     ensures { MatchOption result (MakesNone parameters.now final_byte)
         (λ s. IsProper s × (spelling_of s ≡ sequence parameters.now final_byte)) }
 {
     let is_two = parameters == b"2".as_slice();
+    let is_cursor = parameters == b"?25".as_slice();
+    let is_zero = parameters == b"0".as_slice();
     match final_byte {
         b'A' => Some(Sign::Up(number_of(parameters)?)),
         b'K' if is_two => Some(Sign::EraseLine),
+        b'l' if is_cursor => Some(Sign::HideCursor),
+        b'h' if is_cursor => Some(Sign::ShowCursor),
+        b'm' if is_zero => Some(Sign::Reset),
+        b'm' => Some(Sign::Open(style_of(parameters)?)),
         _ => None,
     }
 }

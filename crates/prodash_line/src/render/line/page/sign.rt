@@ -1,3 +1,5 @@
+use super::style::Style;
+
 /// A character or a control function of ECMA-48. A frame is a list of signs.
 #[derive(Clone, Copy, Debug, PartialEq, Eq)]
 pub enum Sign {
@@ -11,4 +13,12 @@ pub enum Sign {
     Up(u16),
     /// EL, `CSI 2 K`: blanks the cursor's row.
     EraseLine,
+    /// `CSI ? 25 l`: hides the cursor.
+    HideCursor,
+    /// `CSI ? 25 h`: shows the cursor.
+    ShowCursor,
+    /// SGR, `CSI n ; .. m`: begins a style, which has at least one code.
+    Open(Style),
+    /// SGR, `CSI 0 m`: ends all styles.
+    Reset,
 }

@@ -2,8 +2,11 @@
 ghost use Rattle.std.specs.Prelude.{◌≡◌, ◌++◌, IfErr, IfOk, OnOk};
 ghost use Rattle.prodash_base.specs.declared.refusal.Refusal.TheVariants.{Memory};
 ghost use Rattle.prodash_line.specs.Signs.{sequence, spelling, spelling_of};
+ghost use Rattle.prodash_line.specs.Styles.{style_parameters};
 
+use super::codes::codes_of;
 use super::sign::Sign;
+use super::style::Style;
 use itoa::Buffer;
 use prodash_base::Refusal;
 use std::alloc::{AllocError, Global};
@@ -15,6 +18,32 @@ fn push_sequence(out: &mut Vec<u8>, parameters: &[u8], final_byte: u8) -> Result
     out.extend_from_slice(b"\x1b[")?;
     out.extend_from_slice(parameters)?;
     out.push(final_byte)?;
+    Ok(())
+}
+
+/// Appends the codes of a style. It fails if it is out of memory.
+fn push_codes(out: &mut Vec<u8>, style: Style) -> Result<(), AllocError>
+    ensures { OnOk result (out.new.items ≡ out.old.items ++ style_parameters style) }
+{
+    let mut separator = b"".as_slice();
+    for code in codes_of(style) {
+        let Some(code) = code else { continue };
+        out.extend_from_slice(separator)?;
+        let mut digits = Buffer::new();
+        out.extend_from_slice(digits.format(code).as_bytes())?;
+        separator = b";";
+    }
+    Ok(())
+}
+
+/// Appends the control sequence that begins a style. It fails if it is out of memory.
+fn push_open(out: &mut Vec<u8>, style: Style) -> Result<(), AllocError>
+    ensures { OnOk result
+        (out.new.items ≡ out.old.items ++ sequence (style_parameters style) 109) }
+{
+    out.extend_from_slice(b"\x1b[")?;
+    push_codes(out, style)?;
+    out.push(b'm')?;
     Ok(())
 }
 
@@ -34,6 +63,10 @@ pub(crate) fn push_sign(out: &mut Vec<u8>, sign: Sign) -> Result<(), AllocError>
             push_sequence(out, digits.format(n).as_bytes(), b'A')
         }
         Sign::EraseLine => push_sequence(out, b"2", b'K'),
+        Sign::HideCursor => push_sequence(out, b"?25", b'l'),
+        Sign::ShowCursor => push_sequence(out, b"?25", b'h'),
+        Sign::Open(style) => push_open(out, style),
+        Sign::Reset => push_sequence(out, b"0", b'm'),
     }
 }
 

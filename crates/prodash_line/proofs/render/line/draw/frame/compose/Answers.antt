@@ -1,24 +1,23 @@
-use Rattle.std.proofs.Common.{◌++◌, rules, length, ap, sym, ◌∙◌}
-use Rattle.prodash_line.specs.Signs.{spelling}
-use Rattle.prodash_line.specs.Frames.{redraw}
-use Rattle.prodash_line.specs.ProgressRows.{row_lines}
-use Rattle.prodash_line.specs.Renderer.{Renderer}
-use Rattle.prodash_line.proofs.OverwriteBytes.{lines_at, drawn_bytes, unchanged_bytes, unchanged_widths}
+use Rattle.std.proofs.Common.{rules, ◌≡◌, length, drop, ap, sym, ◌∙◌}
+use Rattle.prodash_line.specs.Frames.{body_widths}
+use Rattle.prodash_line.specs.MessageLines.{message_lines}
+use Rattle.prodash_line.specs.Renderer.{tick_body, tick_frame}
+use Rattle.prodash_line.proofs.OverwriteBytes.{frame_bytes_of, length-message_lines}
 use Rattle.prodash_line.proofs.render.line.draw.frame.compose.Goals as goal
 
-pub returns-in_ok-midpoint-clause-bytes : goal.returns-in_ok-midpoint-clause-bytes
-returns-in_ok-midpoint-clause-bytes c =
-    let a = c.write_messages.new.out.bytes.items in
-    drawn_bytes c.args.past.now c.args.at c.args.show c.args.rows.now c.args.messages.now c.below-left.result.now a _ (length c.as_slice-2.result.now)
-    (sym c.draws.ensures ∙ c.if-draws.true) (search rules) (search rules) (ap length c.as_slice-2.ensures)
-    (c.in_ok-midpoint.ensures.bytes
-    ∙ ap (λ rows. a ++ spelling (redraw c.below-left.result.now (row_lines c.past.inside.options.terminal_dimensions.0 c.past.inside.last_progress_midpoint rows))) c.as_slice-then-draws.ensures
-    ∙ ap (λ (r : Renderer). a ++ spelling (redraw c.below-left.result.now (lines_at r c.args.rows.now))) c.past.view_is)
+printed : (c : goal.In_ok-drawn) → length c.as_slice-2.result.now ≡ length (message_lines c.args.past.now.options c.args.past.now.origin_widths c.args.messages.now)
+printed c = ap length c.as_slice-2.ensures ∙ sym (length-message_lines c.args.past.now.options c.args.past.now.origin_widths c.args.messages.now)
 
-pub returns-in_ok-extend_from_slice-clause-bytes : goal.returns-in_ok-extend_from_slice-clause-bytes
-returns-in_ok-extend_from_slice-clause-bytes c =
-    unchanged_bytes c.args.past.now c.args.at c.args.show c.args.rows.now c.args.messages.now c.write_messages.new.out.bytes.items (sym c.draws.ensures ∙ c.if-draws.false) (search rules)
+left_is : (c : goal.In_ok-drawn) → c.below-left.result.now ≡ drop (length c.as_slice-2.result.now) c.args.past.now.widths
+left_is c = search rules
 
-pub returns-in_ok-extend_from_slice-clause-widths : goal.returns-in_ok-extend_from_slice-clause-widths
-returns-in_ok-extend_from_slice-clause-widths c = λ _.
-    unchanged_widths c.args.past.now c.args.at c.args.show c.args.rows.now c.args.messages.now c.extend_from_slice.new.self.items (sym c.draws.ensures ∙ c.if-draws.false) (search rules)
+pub returns-clause-bytes : goal.returns-clause-bytes
+returns-clause-bytes c =
+    frame_bytes_of (tick_frame c.args.past.now c.args.at c.args.show c.args.rows.now c.args.messages.now) c.args.past.now.widths c.below-left.result.now
+    c.begin_frame.new.out.bytes.items c.write_messages.new.out.bytes.items _ (length c.as_slice-2.result.now)
+    c.in_ok-begin_frame.ensures (search rules) (left_is c) (printed c) c.in_ok-drawn.ensures.bytes
+
+pub returns-clause-widths : goal.returns-clause-widths
+returns-clause-widths c = λ _.
+    let body = tick_body c.args.past.now c.args.at c.args.show c.args.rows.now in
+    c.in_ok-drawn.ensures.widths ∙ ap (λ left. body_widths left body) (left_is c ∙ ap (λ n. drop n c.args.past.now.widths) (printed c))

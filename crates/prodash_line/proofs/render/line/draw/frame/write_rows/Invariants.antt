@@ -1,15 +1,22 @@
 use Rattle.std.proofs.Common.{◌≡◌, ◌++◌, drop, max}
 use Rattle.prodash_base.specs.Rows.{rows_of}
 use Rattle.prodash_line.specs.Frames.{widths_of}
-use Rattle.prodash_line.specs.ProgressRows.{row_lines, greatest_midpoint}
+use Rattle.prodash_line.specs.ProgressRows.{filtered, row_lines, greatest_midpoint}
+use Rattle.prodash_line.specs.plumbing.Observing.{shown_by, observe_all}
 use Rattle.prodash_line.specs.plumbing.OverwriteBytes.{overwrite_bytes}
 use Rattle.prodash_line.proofs.render.line.draw.frame.write_rows.Given as goal
 
 abbrev pub invariant-loop-row : goal.invariant-loop-row
-invariant-loop-row l = record {
-  bytes : l.out.bytes.items ++ overwrite_bytes l.left (row_lines l.width l.midpoint (rows_of (drop l.row-index l.rows)))
-      ≡ l.fn.out.bytes.items ++ overwrite_bytes l.widths (row_lines l.width l.midpoint (rows_of l.rows));
-  widths : l.new_widths.items ++ widths_of (row_lines l.width l.midpoint (rows_of (drop l.row-index l.rows)))
-      ≡ l.fn.new_widths.items ++ widths_of (row_lines l.width l.midpoint (rows_of l.rows));
-  midpoint : max l.greatest (greatest_midpoint (rows_of (drop l.row-index l.rows))) ≡ greatest_midpoint (rows_of l.rows);
-}
+invariant-loop-row l =
+    let left = filtered l.options.level_filter (rows_of (drop l.row-index l.rows)) in
+    let all = filtered l.options.level_filter (rows_of l.rows) in
+    let shown_left = shown_by l.drawn.tracker left in
+    let shown_all = shown_by l.fn.drawn.tracker all in
+    record {
+      bytes : l.out.bytes.items ++ overwrite_bytes l.left (row_lines l.options l.midpoint shown_left)
+          ≡ l.fn.out.bytes.items ++ overwrite_bytes l.widths (row_lines l.options l.midpoint shown_all);
+      widths : l.drawn.widths.items ++ widths_of (row_lines l.options l.midpoint shown_left)
+          ≡ l.fn.drawn.widths.items ++ widths_of (row_lines l.options l.midpoint shown_all);
+      midpoint : max l.drawn.midpoint (greatest_midpoint shown_left) ≡ max l.fn.drawn.midpoint (greatest_midpoint shown_all);
+      tracker : observe_all l.drawn.tracker left ≡ observe_all l.fn.drawn.tracker all;
+    }

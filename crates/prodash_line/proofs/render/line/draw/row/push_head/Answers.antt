@@ -1,9 +1,13 @@
 use Rattle.std.proofs.Common.{chars, [], ◌∷◌, ap, ◌∙◌}
-use Rattle.prodash_line.specs.Lines.{piece, spaces}
+use Rattle.std.specs.Bool.{then_some}
+use Rattle.prodash_base.specs.Rows.{row_of}
+use Rattle.prodash_line.specs.Lines.{styled, spaces}
+use Rattle.prodash_line.specs.TextStyles.{name_style}
 use Rattle.prodash_line.proofs.LineWriting.{appends_then, appends_as}
 use Rattle.prodash_line.proofs.render.line.draw.row.push_head.Goals as goal
 
 pub returns : goal.returns
 returns c =
     appends_then (appends_as (ap (λ n. spaces n ∷ []) (c.from.ensures ∙ c.level.ensures.value)) c.in_ok-push_spaces.ensures)
-    (appends_as (ap (λ t. piece (chars t) ∷ []) c.as_str.ensures) c.in_ok-push.ensures)
+    (appends_as (ap (λ style. styled style (chars c.as_str.result.now) ∷ []) (c.then_some-style.ensures ∙ ap (then_some c.args.colored) c.name_style.ensures)
+    ∙ ap (λ t. styled (then_some c.args.colored (name_style (row_of c.args.row.now).1.progress)) (chars t) ∷ []) c.as_str.ensures) c.in_ok-push.ensures)

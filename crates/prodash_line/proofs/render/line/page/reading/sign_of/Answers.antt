@@ -3,13 +3,61 @@ use Rattle.prodash_line.proofs.Sequences.{makes_none, differs}
 use Rattle.prodash_line.proofs.render.line.page.reading.sign_of.Goals as goal
 
 pub returns-in_err-number_of-in-65 : goal.returns-in_err-number_of-in-65
-returns-in_err-number_of-in-65 c = rw c.from_residual.ensures (makes_none c.args.parameters.now c.args.final_byte (record { up = λ e. c.in_err-number_of-in-65.ensures; erase = λ e. absurd (omega arith) }))
+returns-in_err-number_of-in-65 c = rw c.from_residual.ensures (makes_none c.args.parameters.now c.args.final_byte (record {
+  up = λ e. c.in_err-number_of-in-65.ensures;
+  erase = λ e. absurd (omega arith);
+  hide = λ e. absurd (omega arith);
+  show = λ e. absurd (omega arith);
+  open_style = λ e. absurd (omega arith);
+  reset = λ e. absurd (omega arith);
+}))
+
+pub returns-in_err-style_of-in-109-2 : goal.returns-in_err-style_of-in-109-2
+returns-in_err-style_of-in-109-2 c = rw c.from_residual-in_err-style_of-in-109-2.ensures (makes_none c.args.parameters.now c.args.final_byte (record {
+  up = λ e. absurd (omega arith);
+  erase = λ e. absurd (omega arith);
+  hide = λ e. absurd (omega arith);
+  show = λ e. absurd (omega arith);
+  open_style = λ e. c.in_err-style_of-in-109-2.ensures;
+  reset = λ e. differs c.eq-is_zero.result c.args.parameters.now c.as_slice-3.result.now (48 ∷ []) c.if-is_zero.false c.eq-is_zero.ensures c.as_slice-3.ensures refl;
+}))
 
 pub returns-in_default : goal.returns-in_default
 returns-in_default c = makes_none c.args.parameters.now c.args.final_byte (record {
   up = λ e. absurd (omega arith);
   erase = λ e. differs c.eq-is_two.result c.args.parameters.now c.as_slice.result.now (50 ∷ []) c.if-is_two.false c.eq-is_two.ensures c.as_slice.ensures refl;
+  hide = λ e. absurd (omega arith);
+  show = λ e. absurd (omega arith);
+  open_style = λ e. absurd (omega arith);
+  reset = λ e. absurd (omega arith);
 })
 
 pub returns-in_default-2 : goal.returns-in_default-2
-returns-in_default-2 c = makes_none c.args.parameters.now c.args.final_byte (record { up = λ e. absurd (omega arith); erase = λ e. absurd (omega arith) })
+returns-in_default-2 c = makes_none c.args.parameters.now c.args.final_byte (record {
+  up = λ e. absurd (omega arith);
+  erase = λ e. absurd (omega arith);
+  hide = λ e. differs c.eq-is_cursor.result c.args.parameters.now c.as_slice-2.result.now (63 ∷ 50 ∷ 53 ∷ []) c.if-is_cursor.false c.eq-is_cursor.ensures c.as_slice-2.ensures refl;
+  show = λ e. absurd (omega arith);
+  open_style = λ e. absurd (omega arith);
+  reset = λ e. absurd (omega arith);
+})
+
+pub returns-in_default-3 : goal.returns-in_default-3
+returns-in_default-3 c = makes_none c.args.parameters.now c.args.final_byte (record {
+  up = λ e. absurd (omega arith);
+  erase = λ e. absurd (omega arith);
+  hide = λ e. absurd (omega arith);
+  show = λ e. differs c.eq-is_cursor.result c.args.parameters.now c.as_slice-2.result.now (63 ∷ 50 ∷ 53 ∷ []) c.if-is_cursor-2.false c.eq-is_cursor.ensures c.as_slice-2.ensures refl;
+  open_style = λ e. absurd (omega arith);
+  reset = λ e. absurd (omega arith);
+})
+
+pub returns-in_default-4 : goal.returns-in_default-4
+returns-in_default-4 c = makes_none c.args.parameters.now c.args.final_byte (record {
+  up = λ e. absurd (omega arith);
+  erase = λ e. absurd (omega arith);
+  hide = λ e. absurd (omega arith);
+  show = λ e. absurd (omega arith);
+  open_style = λ e. absurd (omega arith);
+  reset = λ e. absurd (omega arith);
+})

@@ -1,0 +1,96 @@
+-- The styles of the lines of rows and messages: each has a code.
+use Rattle.std.proofs.Common.{ℕ, Bool, true, false, cond, ◌==◌, ◌-◌, List, [], ◌∷◌, ◌++◌, Option, Some, None}
+use Rattle.std.specs.Prelude.{⊤, ◌≢◌}
+use Rattle.std.specs.List.{AllByRecursion}
+use Rattle.prodash_base.specs.Rows.{Phase, Running, Halted, Blocked, PathRow, RowProgress}
+use Rattle.prodash_base.specs.Units.{Measure}
+use Rattle.prodash_base.specs.declared.messages.Message.{Message}
+use Rattle.prodash_base.specs.declared.unit.display.Throughput.{Throughput}
+use Rattle.prodash_line.specs.declared.render.line.draw.input.Options.{Options}
+use Rattle.prodash_line.specs.declared.render.line.page.style.Style.{Style}
+use Rattle.prodash_line.specs.Styles.{style_codes}
+use Rattle.prodash_line.specs.TextStyles.{dimmed, name_style, style_in, row_style}
+use Rattle.prodash_line.specs.Lines.{Line, shown_style, in_color, columns_of}
+use Rattle.prodash_line.specs.ProgressRows.{DrawnRow, values_by, bounded_bar, unbounded_bar, bar, padded, row_line_with, row_lines}
+use Rattle.prodash_line.specs.MessageLines.{time_of, text_of, message_line, drawn_message_line, message_lines, origin_width, greatest_width}
+use Rattle.prodash_line.proofs.Lists.{AllByRecursion-append}
+
+abbrev pub HasCode : Option Style → Type 0
+HasCode None = ⊤
+HasCode (Some style) = style_codes style ≢ []
+
+-- each style in a line has a code
+abbrev pub HasCodes : Line → Type 0
+HasCodes line = AllByRecursion (λ p. HasCode p.style) line
+
+abbrev pub HaveCodes : List Line → Type 0
+HaveCodes lines = AllByRecursion HasCodes lines
+
+some_code : (code : ℕ) (codes : List ℕ) → code ∷ codes ≢ []
+some_code code codes e = cc
+
+-- with colour and without
+shown : (colored : Bool) (style : Option Style) → HasCode style → HasCode (shown_style colored style)
+shown colored None h = tt
+shown true (Some style) h = h
+shown false (Some style) h = tt
+
+in_color_has : (colored : Bool) (line : Line) → HasCodes line → HasCodes (in_color colored line)
+in_color_has colored [] h = tt
+in_color_has colored (p ∷ ps) h = (shown colored p.style h.0, in_color_has colored ps h.1)
+
+one_or_other : (b : Bool) (xs ys : Line) → HasCodes xs → HasCodes ys → HasCodes (cond b xs ys)
+one_or_other true xs ys h i = h
+one_or_other false xs ys h i = i
+
+-- ---- rows
+
+style_in_has : (phase : Phase) (step : ℕ) (bound : Option ℕ) → HasCode (Some (style_in phase step bound)) × HasCode (Some (dimmed (style_in phase step bound)))
+style_in_has Running step bound = (some_code _ _, some_code _ _)
+style_in_has (Halted reason eta) step bound = (some_code _ _, some_code _ _)
+style_in_has (Blocked reason eta) step bound = (some_code _ _, some_code _ _)
+
+name_has : (progress : Option RowProgress) → HasCode (Some (name_style progress))
+name_has None = some_code _ _
+name_has (Some p) = some_code _ _
+
+values_has : (unit : Option Measure) (p : RowProgress) (t : Option Throughput) → HasCodes (values_by unit p t)
+values_has None p t = (some_code _ _, tt)
+values_has (Some unit) p t = (some_code _ _, (tt, (tt, tt)))
+
+bar_has : (style : Style) (columns step : ℕ) (bound : Option ℕ) → HasCode (Some style) → HasCode (Some (dimmed style)) → HasCodes (bar style columns step bound)
+bar_has style columns step None h d = one_or_other (columns == 0) [] (unbounded_bar style columns step) tt (tt, (h, (tt, tt)))
+bar_has style columns step (Some bound) h d = one_or_other (columns == 0) [] (bounded_bar style columns step bound) tt (tt, (h, (h, (d, (tt, tt)))))
+
+row_has : (width midpoint : ℕ) (row : PathRow) (progress : Option RowProgress) (t : Option Throughput) → HasCodes (row_line_with width midpoint row progress t)
+row_has width midpoint row None t = (tt, (name_has row.1.progress, tt))
+row_has width midpoint row (Some p) t =
+    let values = padded midpoint row p t in
+    let styles = style_in_has p.phase p.counter p.bound in
+    AllByRecursion-append (λ q. HasCode q.style) values (bar (row_style p) (width - columns_of values) p.counter p.bound)
+    (tt, (name_has row.1.progress, (tt, (tt, values_has p.unit p t))))
+    (bar_has (row_style p) (width - columns_of values) p.counter p.bound styles.0 styles.1)
+
+pub rows_have : (options : Options) (midpoint : ℕ) (rows : List DrawnRow) → HaveCodes (row_lines options midpoint rows)
+rows_have options midpoint [] = tt
+rows_have options midpoint (row ∷ rows) =
+    (in_color_has options.colored _ (row_has options.terminal_dimensions.0 midpoint row.0 row.0.1.progress row.1), rows_have options midpoint rows)
+
+-- ---- messages
+
+time_has : (timestamp : Bool) (m : Message) → HasCodes (time_of timestamp m)
+time_has true m = (some_code _ _, (tt, tt))
+time_has false m = tt
+
+text_has : (width : ℕ) (m : Message) → HasCodes (text_of width m)
+text_has width m = (some_code _ _, (tt, (some_code _ _, tt)))
+
+message_has : (options : Options) (width : ℕ) (m : Message) → HasCodes (drawn_message_line options width m)
+message_has options width m =
+    in_color_has options.colored (message_line options.timestamp width m) (tt, AllByRecursion-append (λ q. HasCode q.style) (time_of options.timestamp m) (text_of width m) (time_has options.timestamp m) (text_has width m))
+
+pub messages_have : (options : Options) (widths : List ℕ) (messages : List Message) → HaveCodes (message_lines options widths messages)
+messages_have options widths [] = tt
+messages_have options widths (m ∷ messages) =
+    let all = widths ++ origin_width m.origin ∷ [] in
+    (message_has options (greatest_width all) m, messages_have options all messages)

@@ -1,0 +1,30 @@
+-- Signs that a page doesn't show: styles, and those that hide or show the cursor.
+use Rattle.std.proofs.Common.{◌≡◌, refl}
+use Rattle.std.specs.Prelude.{⊤}
+use Rattle.prodash_line.specs.declared.render.line.page.sign.Sign.{Sign}
+use Rattle.prodash_line.specs.declared.render.line.page.sign.Sign.TheVariants.{HideCursor, ShowCursor, Open, Reset}
+use Rattle.prodash_line.specs.Signs.{IsProper}
+use Rattle.prodash_line.specs.Page.{Canvas, after_sign}
+
+-- a proper sign that changes no cell and doesn't move the cursor
+abbrev pub IsUnseen : Sign → Type 0
+IsUnseen HideCursor = ⊤
+IsUnseen ShowCursor = ⊤
+IsUnseen (Open style) = IsProper (Open style)
+IsUnseen Reset = ⊤
+IsUnseen _ = ⊥
+
+-- it leaves a page as it was
+pub after_unseen : (s : Sign) (p : Canvas) → IsUnseen s → after_sign s p ≡ p
+after_unseen HideCursor p h = refl
+after_unseen ShowCursor p h = refl
+after_unseen (Open style) p h = refl
+after_unseen Reset p h = refl
+after_unseen _ p h = absurd h
+
+pub unseen_proper : (s : Sign) → IsUnseen s → IsProper s
+unseen_proper HideCursor h = tt
+unseen_proper ShowCursor h = tt
+unseen_proper (Open style) h = h
+unseen_proper Reset h = tt
+unseen_proper _ h = absurd h

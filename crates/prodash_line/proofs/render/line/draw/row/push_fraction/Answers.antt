@@ -1,0 +1,53 @@
+use Rattle.std.proofs.Common.{◌≡◌, ◌+◌, length, true, [], ◌∷◌, ◌++◌, Some, refl, ap, sym, ◌∙◌, arith}
+use Rattle.prodash_line.specs.ProgressRows.{fraction_of}
+use Rattle.std.specs.Bool.{then_some}
+use Rattle.prodash_line.specs.Lines.{styled}
+use Rattle.prodash_line.specs.TextStyles.{values_style}
+use Rattle.prodash_line.specs.plumbing.Writing.{is_printable, style_of_length, open_bytes, reset_bytes}
+use Rattle.prodash_line.proofs.Columns.{printable-append, printable-decimal}
+use Rattle.prodash_line.proofs.Written.{style_of_each}
+use Rattle.prodash_line.proofs.LineWriting.{appends_in_style}
+use Rattle.prodash_line.proofs.RowLines.{fraction_appends, fraction_some, fraction_end, padded_appends}
+use Rattle.prodash_line.proofs.render.line.draw.row.push_fraction.Goals as goal
+
+pub push_printable-requires : goal.push_printable-requires
+push_printable-requires c = ap is_printable (c.as_bytes.ensures.value ∙ c.format-step.ensures.text) ∙ printable-decimal c.args.step (omega arith)
+
+step_printable : (c : goal.In_ok-reset) → is_printable c.as_bytes.result.now ≡ true
+step_printable c = ap is_printable (c.as_bytes.ensures.value ∙ c.format-step.ensures.text) ∙ printable-decimal c.args.step (omega arith)
+
+slash_printable : (c : goal.In_ok-reset) → is_printable c.as_bytes-2.result.now ≡ true
+slash_printable c = ap is_printable c.as_bytes-2.ensures.value ∙ c.format_bound.ensures.slash
+
+bound_printable : (c : goal.In_ok-reset) → is_printable c.as_bytes-3.result.now ≡ true
+bound_printable c = ap is_printable c.as_bytes-3.ensures.value ∙ c.format_bound.ensures.bound
+
+values_are : (c : goal.In_ok-reset) → fraction_of c.args.step c.args.done_at ≡ c.as_bytes.result.now ++ (c.as_bytes-2.result.now ++ c.as_bytes-3.result.now)
+values_are c =
+    c.format_bound.ensures.text c.args.step
+    ∙ ap (λ t. t ++ (c.format_bound.result.0.now ++ c.format_bound.result.1.now)) (sym (c.as_bytes.ensures.value ∙ c.format-step.ensures.text))
+    ∙ ap (λ t. c.as_bytes.result.now ++ (t ++ c.format_bound.result.1.now)) (sym c.as_bytes-2.ensures.value)
+    ∙ ap (λ t. c.as_bytes.result.now ++ (c.as_bytes-2.result.now ++ t)) (sym c.as_bytes-3.ensures.value)
+
+pub returns-clause-end : goal.returns-clause-end
+returns-clause-end c =
+    fraction_end (fraction_of c.args.step c.args.done_at) c.as_bytes.result.now c.as_bytes-2.result.now c.as_bytes-3.result.now c.args.out.now.width
+    (length c.format-step.result.now + length c.format_bound.result.0.now + length c.format_bound.result.1.now) c.saturating_add-own.result
+    (values_are c) (step_printable c) (slash_printable c) (bound_printable c)
+    (omega (arith, ap length c.as_bytes.ensures.value, ap length c.as_bytes-2.ensures.value, ap length c.as_bytes-3.ensures.value))
+    (omega (arith, c.saturating_add-own.ensures, c.saturating_add.ensures, c.width.ensures))
+
+pub returns-clause-line : goal.returns-clause-line
+returns-clause-line c =
+    let text = fraction_of c.args.step c.args.done_at in
+    let style = then_some c.args.colored values_style in
+    let printable = ap is_printable (values_are c) ∙ printable-append c.as_bytes.result.now _ (step_printable c) (printable-append c.as_bytes-2.result.now c.as_bytes-3.result.now (slash_printable c) (bound_printable c)) in
+    let shown : c.then_some-style.result ≡ style_of_length style (length text) =
+    c.then_some-style.ensures ∙ ap (then_some c.args.colored) c.values_style.ensures ∙ sym (style_of_each style (length text) (fraction_some c.args.step c.args.done_at (omega arith))) in
+    padded_appends c.args.colored c.args.midpoint c.saturating_add-own.result c.saturating_sub.result (styled (Some values_style) text ∷ [])
+    (returns-clause-end c) c.saturating_sub.ensures c.in_ok-push_spaces.ensures c.in_ok-push_spaces-2.ensures
+    (appends_in_style style text (length text) printable refl
+    (c.in_ok-open.ensures.bytes ∙ ap (λ s. c.push_spaces-2.new.self.bytes.items ++ open_bytes s) shown) c.in_ok-open.ensures.width
+    (fraction_appends text c.as_bytes.result.now c.as_bytes-2.result.now c.as_bytes-3.result.now (values_are c)
+    (step_printable c) (slash_printable c) (bound_printable c) c.in_ok-push_printable.ensures c.in_ok-push_printable-2.ensures c.in_ok-push_printable-3.ensures)
+    (c.in_ok-reset.ensures.bytes ∙ ap (λ s. c.push_printable-3.new.self.bytes.items ++ reset_bytes s) shown) c.in_ok-reset.ensures.width)

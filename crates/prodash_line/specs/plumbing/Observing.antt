@@ -1,0 +1,31 @@
+-- Rows that are observed one after another, by a tracker if there is one.
+use Rattle.std.specs.Prelude.{ℕ, List, [], ◌∷◌, Option, Some, None}
+use Rattle.std.specs.Option.{option_map}
+use Rattle.prodash_base.specs.Rows.{PathRow}
+use Rattle.prodash_base.specs.Trackers.{Tracker, observe, update_elapsed, throughput_of, step_of}
+use Rattle.prodash_base.specs.declared.unit.display.Throughput.{Throughput}
+use Rattle.prodash_line.specs.ProgressRows.{DrawnRow}
+
+-- the tracker at a moment
+abbrev pub tracker_at : ℕ → Option Tracker → Option Tracker
+tracker_at at tracker = option_map (λ t. update_elapsed t at) tracker
+
+-- the throughput that a row gives
+abbrev pub throughput_by : Option Tracker → PathRow → Option Throughput
+throughput_by None row = None
+throughput_by (Some t) row = throughput_of t row.0 (step_of row)
+
+-- the tracker after a row
+abbrev pub observe_by : Option Tracker → PathRow → Option Tracker
+observe_by tracker row = option_map (λ t. observe t row.0 (step_of row)) tracker
+
+-- the rows, each with the throughput that it gives
+abbrev pub shown_by : Option Tracker → List PathRow → List DrawnRow
+shown_by tracker [] = []
+shown_by tracker (row ∷ rows) =
+    (row, throughput_by tracker row) ∷ shown_by (observe_by tracker row) rows
+
+-- the tracker after the rows
+abbrev pub observe_all : Option Tracker → List PathRow → Option Tracker
+observe_all tracker [] = tracker
+observe_all tracker (row ∷ rows) = observe_all (observe_by tracker row) rows
