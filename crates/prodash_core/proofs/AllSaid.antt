@@ -1,63 +1,19 @@
--- The messages that each event says, and the ring of a run: it is that of all messages that were said.
-use Rattle.std.proofs.Common.{◌≡◌, ◌∙◌, ap, sym, ℕ, take, ◌++◌, ◌∷◌, [], List, refl, append_assoc, append-nil, Bool, true, false, cond, Result, Ok, Err, Option, Some, None}
-use Rattle.std.specs.Prelude.{fold, MatchBool, ⊤}
-use Rattle.prodash_base.specs.Rows.{Entry}
-use Rattle.prodash_base.specs.Rings.{new_ring, push, ring_of, is_push_limit_reached}
+-- The ring of a run: it is that of all messages that were said.
+use Rattle.std.proofs.Common.{◌≡◌, ◌∙◌, ap, sym, ℕ, take, ◌++◌, ◌∷◌, [], List, refl, append_assoc, append-nil, Bool, true, false, cond, Result, Ok, Err}
+use Rattle.std.specs.Prelude.{fold, MatchBool}
+use Rattle.prodash_base.specs.Rings.{new_ring, push, ring_of}
 use Rattle.prodash_base.specs.declared.refusal.Refusal.{Refusal}
-use Rattle.prodash_base.specs.declared.refusal.Refusal.TheVariants as refusals
 use Rattle.prodash_base.specs.declared.messages.Message.{Message as Said}
-use Rattle.prodash_base.specs.declared.messages.MessageLevel.{MessageLevel}
 use Rattle.prodash_base.proofs.RingLaws.{push-ring_of, fold-push}
 use Rattle.prodash_line.specs.Screens.{ScreenState}
-use Rattle.prodash_core.specs.declared.tree.slot.Slot.{Slot}
-use Rattle.prodash_core.specs.Trees.{Tree, Change, Effect, OnTree, OnRenderer, effect, slot_at, item_at, for_slot, init_at, message_by, push_message}
+use Rattle.prodash_core.specs.Trees.{Tree, Change, Effect, OnTree, OnRenderer, effect}
 use Rattle.prodash_core.specs.Sessions.{SessionState, is_memory, changed_reply, changed_tree, RunsOutOfMemory, AppliesChange, StepsBy}
-use Rattle.prodash_core.specs.Runs.{Run, is_done, said_for, said_by, next_by, next_session, session_after, all_said}
+use Rattle.prodash_core.specs.Runs.{Run, is_done, said_by, next_by, next_session, session_after, all_said}
 use Rattle.prodash_core.proofs.RunLaws.{prefix_runs}
+use Rattle.prodash_core.proofs.EventLaws.{ChangeKeeps, EffectKeeps, effect_keeps}
 use Rattle.prodash_core.specs.declared.tree.event.Event.{Event}
-use Rattle.prodash_core.specs.declared.tree.event.Event.TheVariants as events
 use Rattle.prodash_core.specs.declared.tree.event.Reply.{Reply}
 use Rattle.prodash_core.specs.declared.tree.event.Reply.TheVariants as replies
-
--- what a change says is pushed, if its reply is that it is done
-abbrev ChangeSays : Tree → List Said → Result (Tree × Reply) Refusal → Type 0
-ChangeSays t said (Ok changed) = changed.0.ring ≡ fold push t.ring (cond (is_done changed.1) said [])
-ChangeSays t said (Err refusal) = ⊤
-
--- frames say nothing
-abbrev EffectSays : (Tree → List Said) → Effect → Type 0
-EffectSays said (OnTree memory change) = (t : Tree) → ChangeSays t (said t) (change t)
-EffectSays said (OnRenderer input) = (t : Tree) → said t ≡ []
-
-says : (t : Tree) (said : List Said) (o : Option Slot) (f : Slot → Result (Tree × Reply) Refusal) → ((slot : Slot) → ChangeSays t said (f slot)) → ChangeSays t said (for_slot o f)
-says t said None f h = tt
-says t said (Some slot) f h = h slot
-
-init_keeps : (t : Tree) (n : ℕ) (slot : Slot) (max : Option ℕ) (o : Option (Entry ℕ)) → (init_at t n slot max o).ring ≡ t.ring
-init_keeps t n slot max None = refl
-init_keeps t n slot max (Some e) = refl
-
-pushes : (t : Tree) (m : Said) (b : Bool) → ChangeSays t (m ∷ []) (cond b (Err refusals.TooManyMessages) (Ok (record t { ring = push t.ring m }, replies.Done)))
-pushes t m true = tt
-pushes t m false = refl
-
-message_says : (t : Tree) (at : ℕ) (level : MessageLevel) (text : List ℕ) (o : Option Slot)
-    → ChangeSays t (said_for t o at level text) (for_slot o (λ slot. push_message t (message_by t slot at level text)))
-message_says t at level text None = tt
-message_says t at level text (Some slot) = pushes t (message_by t slot at level text) (is_push_limit_reached t.ring)
-
-effect_says : (e : Event) → EffectSays (λ t. said_by t e) (effect e)
-effect_says (events.AddChild parent name id) = λ t. says t [] (slot_at t parent) _ (λ _. refl)
-effect_says (events.Drop n) = λ t. says t [] (item_at t n) _ (λ _. refl)
-effect_says (events.Init n max) = λ t. says t [] (item_at t n) _ (λ slot. init_keeps t n slot max _)
-effect_says (events.Set n step) = λ t. says t [] (item_at t n) _ (λ _. refl)
-effect_says (events.Message n at level text) = λ t. message_says t at level text (item_at t n)
-effect_says events.Snapshot = λ t. says t [] (slot_at t 0) _ (λ _. refl)
-effect_says events.CopyMessages = λ t. says t [] (slot_at t 0) _ (λ _. refl)
-effect_says (events.CopyNew previous) = λ t. says t [] (slot_at t 0) _ (λ _. refl)
-effect_says events.DropRoot = λ t. says t [] (slot_at t 0) _ (λ _. refl)
-effect_says (events.Tick at show) = λ t. refl
-effect_says (events.Quit at) = λ t. refl
 
 -- the ring of this capacity holds these messages and no others, in a tree
 abbrev Holds : ℕ → List Said → Tree → Type 0
@@ -71,6 +27,12 @@ push_all c all (m ∷ more) = ap (λ r. fold push r more) (push-ring_of c all m)
 memory_not_done : (r : Reply) → is_memory r ≡ true → is_done r ≡ false
 memory_not_done (replies.Made n) m = refl
 memory_not_done replies.Done m = cc
+memory_not_done (replies.Bound bound) m = refl
+memory_not_done (replies.Name name) m = refl
+memory_not_done (replies.Id id) m = refl
+memory_not_done (replies.Step step) m = refl
+memory_not_done (replies.Unit unit) m = refl
+memory_not_done (replies.Count n) m = refl
 memory_not_done (replies.Rows rows) m = refl
 memory_not_done (replies.Messages messages) m = refl
 memory_not_done (replies.New messages state) m = refl
@@ -78,13 +40,13 @@ memory_not_done replies.Drawn m = refl
 memory_not_done replies.Ended m = refl
 memory_not_done (replies.Refused refusal) m = refl
 
-changed_holds : (c : ℕ) (all said : List Said) (t : Tree) (p : Result (Tree × Reply) Refusal) → ChangeSays t said p → Holds c all t
+changed_holds : (c : ℕ) (all said : List Said) (t : Tree) (p : Result (Tree × Reply) Refusal) → ChangeKeeps t said p → Holds c all t
     → Holds c (all ++ cond (is_done (changed_reply p)) said []) (changed_tree t p)
-changed_holds c all said t (Ok changed) law h = law ∙ ap (λ r. fold push r (cond (is_done changed.1) said [])) h ∙ push_all c all (cond (is_done changed.1) said [])
+changed_holds c all said t (Ok changed) law h = law.ring ∙ ap (λ r. fold push r (cond (is_done changed.1) said [])) h ∙ push_all c all (cond (is_done changed.1) said [])
 changed_holds c all said t (Err refusal) law h = h ∙ ap (ring_of c) (sym (append-nil all))
 
 tree_holds : (c : ℕ) (all said : List Said) (w : SessionState) (s : ScreenState) (memory : Bool) (change : Change) (reply : Reply) (w' : SessionState) (s' : ScreenState) (b : Bool)
-    → is_memory reply ≡ b → ChangeSays w.tree said (change w.tree) → Holds c all w.tree
+    → is_memory reply ≡ b → ChangeKeeps w.tree said (change w.tree) → Holds c all w.tree
     → MatchBool b (RunsOutOfMemory w s memory change w' s') (AppliesChange w s change reply w' s')
     → Holds c (all ++ cond (is_done reply) said []) (cond b w (record w { tree = changed_tree w.tree (change w.tree) })).tree
 tree_holds c all said w s memory change reply w' s' true m law h step =
@@ -96,7 +58,7 @@ same_either : (b : Bool) (said : List Said) → said ≡ [] → cond b said [] �
 same_either true said e = e
 same_either false said e = refl
 
-holds_by : (f : Effect) (said : Tree → List Said) → EffectSays said f → (c : ℕ) (all : List Said) (w : SessionState) (s : ScreenState) (reply : Reply) (w' : SessionState) (s' : ScreenState)
+holds_by : (f : Effect) (said : Tree → List Said) → EffectKeeps said f → (c : ℕ) (all : List Said) (w : SessionState) (s : ScreenState) (reply : Reply) (w' : SessionState) (s' : ScreenState)
     → StepsBy f w s reply w' s' → Holds c all w.tree → Holds c (all ++ cond (is_done reply) (said w.tree) []) (next_by f w reply).tree
 holds_by (OnTree memory change) said law c all w s reply w' s' step h = tree_holds c all (said w.tree) w s memory change reply w' s' (is_memory reply) refl (law w.tree) h step
 holds_by (OnRenderer input) said law c all w s reply w' s' step h =
@@ -110,7 +72,7 @@ run_said c all (e ∷ es) [] w s s' h ring = absurd h
 run_said c all (e ∷ es) (r ∷ rs) w s s' h ring =
     let said = cond (is_done r) (said_by w.tree e) [] in
     let next = next_session w e r in
-    run_said c (all ++ said) es rs next h.0 s' h.2 (holds_by (effect e) (λ t. said_by t e) (effect_says e) c all w s r next h.0 h.1 ring)
+    run_said c (all ++ said) es rs next h.0 s' h.2 (holds_by (effect e) (λ t. said_by t e) (effect_keeps e) c all w s r next h.0 h.1 ring)
     ∙ ap (ring_of c) (append_assoc all said (all_said next es rs))
 
 -- after each prefix of a run, the ring is that of all that was said so far

@@ -1,11 +1,16 @@
 pub mod TableChanges
+pub mod AscendingRows
 pub mod Sorting
+pub mod TableCounts
 pub mod RowsOfTasks
 pub mod Handles
 pub mod FrameSteps
+pub mod EventLaws
+pub mod TreeSteps
 pub mod StepLaws
 pub mod RunLaws
 pub mod AllSaid
+pub mod WorkedTrees
 pub mod WorkedRuns
 pub mod WorkedDashboard
 pub mod DashboardLaws

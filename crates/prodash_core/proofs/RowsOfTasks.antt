@@ -3,31 +3,31 @@ use Rattle.std.proofs.Common.{◌≡◌, ◌∙◌, ap, sym, subst, ℕ, ◌++�
 use Rattle.std.specs.List.{AllZip}
 use Rattle.std.specs.Option.{option_map}
 use Rattle.prodash_base.specs.Path.{Path}
-use Rattle.prodash_base.specs.Rows.{Entry, Progress, PathRow}
-use Rattle.prodash_core.specs.Tables.{RowShows, ProgressShows, progress_at, frozen}
+use Rattle.prodash_base.specs.Rows.{RowProgress, PathRow}
+use Rattle.prodash_core.specs.Tables.{TaskEntry, TaskProgress, RowShows, ProgressShows, progress_at, frozen}
 
 -- whatever rows show the entries that are left, they complete the rows so far
-abbrev pub ShowsRest : {C : Type 0} → (C → ℕ → Type 0) → List (Path × Entry C) → List PathRow → List (Path × Entry C) → Type 0
+abbrev pub ShowsRest : {C : Type 0} → (C → ℕ → Type 0) → List (Path × TaskEntry C) → List PathRow → List (Path × TaskEntry C) → Type 0
 ShowsRest shows all rows left = (more : List PathRow) → AllZip (RowShows shows) left more → AllZip (RowShows shows) all (rows ++ more)
 
-pub shows_more : {C : Type 0} (shows : C → ℕ → Type 0) (all : List (Path × Entry C)) (rows : List PathRow) (left : List (Path × Entry C)) → ShowsRest shows all rows left
-    → (e : Path × Entry C) (others : List (Path × Entry C)) → left ≡ e ∷ others → (row : PathRow) → RowShows shows e row
+pub shows_more : {C : Type 0} (shows : C → ℕ → Type 0) (all : List (Path × TaskEntry C)) (rows : List PathRow) (left : List (Path × TaskEntry C)) → ShowsRest shows all rows left
+    → (e : Path × TaskEntry C) (others : List (Path × TaskEntry C)) → left ≡ e ∷ others → (row : PathRow) → RowShows shows e row
     → (pushed : List PathRow) → pushed ≡ rows ++ row ∷ [] → ShowsRest shows all pushed others
 shows_more shows all rows left h e others l row r pushed p = λ more z.
     let whole = h (row ∷ more) (subst (λ es. AllZip (RowShows shows) es (row ∷ more)) (sym l) (r, z)) in
     subst (λ xs. AllZip (RowShows shows) all xs) (sym (ap (λ xs. xs ++ more) p ∙ append_assoc rows (row ∷ []) more)) whole
 
-pub shows_all : {C : Type 0} (shows : C → ℕ → Type 0) (all : List (Path × Entry C)) (rows : List PathRow) (left : List (Path × Entry C)) → ShowsRest shows all rows left
+pub shows_all : {C : Type 0} (shows : C → ℕ → Type 0) (all : List (Path × TaskEntry C)) (rows : List PathRow) (left : List (Path × TaskEntry C)) → ShowsRest shows all rows left
     → left ≡ [] → AllZip (RowShows shows) all rows
 shows_all shows all rows left h l = subst (λ xs. AllZip (RowShows shows) all xs) (append-nil rows) (h [] (subst (λ es. AllZip (RowShows shows) es []) (sym l) tt))
 
 -- rows are what they show, if each counter has one number
-shown_progress : {C : Type 0} (number : C → ℕ) (p : Option (Progress C)) (shown : Option (Progress ℕ)) → ProgressShows (λ c n. n ≡ number c) p shown
+shown_progress : {C : Type 0} (number : C → ℕ) (p : Option (TaskProgress C)) (shown : Option RowProgress) → ProgressShows (λ c n. n ≡ number c) p shown
     → shown ≡ option_map (λ p. progress_at (number p.counter) p) p
 shown_progress number None shown h = h
 shown_progress number (Some p) shown h = h.2 ∙ ap (λ n. Some (progress_at n p)) h.1
 
-pub shown_rows : {C : Type 0} (number : C → ℕ) (es : List (Path × Entry C)) (rows : List PathRow) → AllZip (RowShows (λ c n. n ≡ number c)) es rows → rows ≡ map (frozen number) es
+pub shown_rows : {C : Type 0} (number : C → ℕ) (es : List (Path × TaskEntry C)) (rows : List PathRow) → AllZip (RowShows (λ c n. n ≡ number c)) es rows → rows ≡ map (frozen number) es
 shown_rows number [] [] h = refl
 shown_rows number [] (row ∷ rows) h = absurd h
 shown_rows number (e ∷ es) [] h = absurd h

@@ -11,11 +11,13 @@ use Rattle.std.specs.FinMap.{find, get, entries, from_sorted, get-from_entries, 
 use Rattle.std.specs.FinMap.Entries.{is_sorted}
 use Rattle.prodash_base.specs.Path.{Path, path_cmp}
 use Rattle.prodash_base.specs.plumbing.KeyHash.{same_path}
-use Rattle.prodash_base.specs.Rows.{Entry, PathRow, row_of, rows_of}
+use Rattle.std.specs.declared.cmp.Ordering.TheVariants.{Less}
+use Rattle.prodash_base.specs.Rows.{PathRow, row_of, rows_of}
 use Rattle.prodash_base.specs.declared.progress.Row.{Row}
-use Rattle.prodash_core.specs.Tables.{pair_of, RowShows, RowsShow, ListsEachOnce, paths_of}
+use Rattle.prodash_core.specs.Tables.{TaskEntry, pair_of, RowShows, RowsShow, ListsEachOnce, paths_of}
 use Rattle.prodash_core.specs.declared.tree.table.Task.{Task}
 use Rattle.prodash_core.proofs.TableChanges.{table_of, sorted_list}
+use Rattle.prodash_core.proofs.AscendingRows.{paths-rows_of}
 use Rattle.std.proofs.lemmas.List.Kept.{IsStrictlySortedBy-dedup}
 use Rattle.std.proofs.lemmas.Cmp.{nat_list_cmp_total}
 use Rattle.std.proofs.lemmas.List.{length-map, get_or-map}
@@ -89,6 +91,16 @@ sorted_keys {X} key (x ∷ xs) h = λ k d l m.
 strictly_sorted : (keys : List Path) → IsSorted path_cmp keys → IsDistinct (pointwise nat_eq) keys → IsStrictlySortedBy path_cmp keys
 strictly_sorted keys s d = subst (IsStrictlySortedBy path_cmp) (dedup_distinct keys d) (IsStrictlySortedBy-dedup nat_list_cmp_total texts_ties keys s)
 
+-- each key is less than the next, and so than all after it
+ascending : (keys : List Path) → IsStrictlySortedBy path_cmp keys → (k : ℕ) (d : Path) → k + 1 < length keys → path_cmp (get_or keys k d) (get_or keys (k + 1) d) ≡ Less
+unfolding IsStrictlySortedBy
+ascending [] h k d l = absurd (omega arith)
+ascending (x ∷ []) h k d l = absurd (omega arith)
+ascending (x ∷ y ∷ ys) h zero d l = h.0.0
+ascending (x ∷ y ∷ ys) h (suc k) d l =
+    let place : suc k + 1 ≡ suc (k + 1) = omega arith in
+    subst (λ n. path_cmp (get_or (y ∷ ys) k d) (get_or (x ∷ y ∷ ys) n d) ≡ Less) (sym place) (ascending (y ∷ ys) h.1 k d (omega arith))
+
 -- two lists with elements that belong together, and the same exchange in both
 zip-set : {A B : Type 0} (R : A → B → Type 0) (xs : List A) (ys : List B) (i : ℕ) (x : A) (y : B) → AllZip R xs ys → R x y → AllZip R (slice_set xs i x) (slice_set ys i y)
 zip-set R [] [] i x y h r = h
@@ -126,23 +138,19 @@ zip-permutation {A} {B} R xs ys zs h p =
     let long = zip-length R q.0 l q.2 in
     (swap q.0 i j, IsPermutation-trans xs q.0 (swap q.0 i j) q.1 (IsPermutation-swap q.0 (swap q.0 i j) i j (omega arith) (omega arith) refl), zip-swap R q.0 l i j q.2)) zs p
 
-paths-rows_of : (rows : List Row) → map (λ (r : Row). r.key) rows ≡ paths_of (rows_of rows)
-paths-rows_of [] = refl
-paths-rows_of (r ∷ rows) = ap (λ ks. r.key ∷ ks) (paths-rows_of rows)
-
 keys-pairs : {C : Type 0} (es : List (Path × Task C)) → keys_of es ≡ keys_of (map pair_of es)
 keys-pairs [] = refl
 keys-pairs (e ∷ es) = ap (λ ks. e.0 ∷ ks) (keys-pairs es)
 
 -- rows have the paths of the entries that they show
-shown_paths : {C : Type 0} (shows : C → ℕ → Type 0) (es : List (Path × Entry C)) (rows : List PathRow) → AllZip (RowShows shows) es rows → paths_of rows ≡ keys_of es
+shown_paths : {C : Type 0} (shows : C → ℕ → Type 0) (es : List (Path × TaskEntry C)) (rows : List PathRow) → AllZip (RowShows shows) es rows → paths_of rows ≡ keys_of es
 shown_paths shows [] [] h = refl
 shown_paths shows [] (r ∷ rows) h = absurd h
 shown_paths shows (e ∷ es) [] h = absurd h
 shown_paths shows (e ∷ es) (r ∷ rows) h = λ i. h.0.path i ∷ shown_paths shows es rows h.1 i
 
 -- the entries of a table, in the order of their keys
-sorted_entries : {C : Type 0} (es : List (Path × Task C)) (fs : List (Path × Entry C)) → IsPermutation (map pair_of es) fs → IsDistinct (pointwise nat_eq) (keys_of es)
+sorted_entries : {C : Type 0} (es : List (Path × Task C)) (fs : List (Path × TaskEntry C)) → IsPermutation (map pair_of es) fs → IsDistinct (pointwise nat_eq) (keys_of es)
     → T (is_sorted path_cmp fs) → entries (table_of es) ≡ fs
 sorted_entries es fs p d s =
     let apart = subst (IsDistinct (pointwise nat_eq)) (keys-pairs es) d in
@@ -152,7 +160,7 @@ sorted_entries es fs p d s =
     ap entries same ∙ entries-from_sorted path_cmp fs s
 
 -- a table has a path if and only if the path is among its keys
-lists_each : {C : Type 0} (es : List (Path × Task C)) (fs : List (Path × Entry C)) → IsPermutation (map pair_of es) fs → IsDistinct (pointwise nat_eq) (keys_of es)
+lists_each : {C : Type 0} (es : List (Path × Task C)) (fs : List (Path × TaskEntry C)) → IsPermutation (map pair_of es) fs → IsDistinct (pointwise nat_eq) (keys_of es)
     → (q : Path) → IsSome (get (table_of es) q) ↔ Contains (keys_of fs) q
 lists_each es fs p d q =
     let apart = subst (IsDistinct (pointwise nat_eq)) (keys-pairs es) d in
@@ -172,7 +180,7 @@ rows_sorted shows es old new h d p s =
     let listed = sorted_entries es moved.0 moved.1 d (sorted_list moved.0 rising) in (
       subst (λ fs. AllZip (RowShows shows) fs (rows_of new)) (sym listed) moved.2,
       record {
-        ascending = subst (IsStrictlySortedBy path_cmp) (sym paths) rising;
+        ascending = ascending (paths_of (rows_of new)) (subst (IsStrictlySortedBy path_cmp) (sym paths) rising);
         each = λ q. subst (λ ks. IsSome (get (table_of es) q) ↔ Contains ks q) (sym paths) (lists_each es moved.0 moved.1 d q);
       },
     )

@@ -7,7 +7,7 @@ use Rattle.std.proofs.lemmas.Cmp.{nat_list_cmp_total}
 use Rattle.std.specs.Prelude.{T, nat_eq, ◌≢◌}
 use Rattle.std.specs.Cmp.Lexicographic.{pointwise, texts_ties}
 use Rattle.prodash_base.specs.plumbing.KeyHash.{same_path}
-use Rattle.std.specs.List.{AllByRecursion}
+use Rattle.std.specs.List.{AllByRecursion, AllZip}
 use Rattle.std.specs.List.Sorted.{IsStrictlySortedBy}
 use Rattle.std.specs.declared.cmp.Ordering.TheVariants.{Less}
 use Rattle.std.specs.FinMap.Entries.{below_all, is_sorted}
@@ -16,9 +16,7 @@ use Rattle.std.specs.FinMap.{find, get, insert, remove, from_entries, get-from_e
 use Rattle.std.specs.BTreeMap.{is_at}
 use Rattle.std.specs.Map.{lookup}
 use Rattle.prodash_base.specs.Path.{Path, path_cmp}
-use Rattle.prodash_base.specs.Rows.{Progress}
-use Rattle.prodash_core.specs.Tables.{Table, entry_of, pair_of, with_progress, counted_of}
-use Rattle.prodash_core.specs.declared.tree.table.Counted.{Counted}
+use Rattle.prodash_core.specs.Tables.{TaskEntry, Table, entry_of, pair_of, change_found, change_at}
 use Rattle.prodash_core.specs.declared.tree.table.Task.{Task}
 
 abbrev pub table_of : {C : Type 0} → List (Path × Task C) → Table C
@@ -27,6 +25,16 @@ table_of es = from_entries (map pair_of es)
 -- the task at a path
 abbrev pub task_at : {C : Type 0} → List (Path × Task C) → Path → Option (Task C)
 task_at es q = lookup (is_at (path_cmp q)) es
+
+-- the table of copies
+pairs_of_copies : {C : Type 0} (es fs : List (Path × Task C)) → AllZip (λ e f. (f.0 ≡ e.0) × (entry_of f.1 ≡ entry_of e.1)) es fs → map pair_of fs ≡ map pair_of es
+pairs_of_copies [] [] h = refl
+pairs_of_copies [] (f ∷ fs) h = absurd h
+pairs_of_copies (e ∷ es) [] h = absurd h
+pairs_of_copies (e ∷ es) (f ∷ fs) h = λ i. (h.0.0 i, h.0.1 i) ∷ pairs_of_copies es fs h.1 i
+
+pub table_of-copies : {C : Type 0} (es fs : List (Path × Task C)) → AllZip (λ e f. (f.0 ≡ e.0) × (entry_of f.1 ≡ entry_of e.1)) es fs → table_of fs ≡ table_of es
+table_of-copies es fs h = ap from_entries (pairs_of_copies es fs h)
 
 map_cond : {A B : Type 0} (f : A → B) (b : Bool) (x y : Option A) → option_map f (cond b x y) ≡ cond b (option_map f x) (option_map f y)
 map_cond f true x y = refl
@@ -69,6 +77,10 @@ pub get_others : {C : Type 0} (m m' : Table C) (k : Path) → m' ≡ remove m k 
 get_others m m' k h q n =
     ap (λ t. get t q) h ∙ get-remove nat_list_cmp_total m k q ∙ ap (λ b. cond b None (get m q)) (sym (texts_ties q k) ∙ unlike (pointwise nat_eq q k) q k refl n)
 
+-- what a table has at a path, by the task there
+pub get_task : {C : Type 0} (es : List (Path × Task C)) (k : Path) (found : Option (Task C)) → found ≡ task_at es k → option_map entry_of found ≡ get (table_of es) k
+get_task es k found h = ap (option_map entry_of) h ∙ sym (get-table_of es k)
+
 is_some-map : {A B : Type 0} (f : A → B) (o : Option A) → is_some (option_map f o) ≡ is_some o
 is_some-map f None = refl
 is_some-map f (Some a) = refl
@@ -77,16 +89,15 @@ is_some-map f (Some a) = refl
 pub is_some-table_of : {C : Type 0} (es : List (Path × Task C)) (k : Path) → is_some (get (table_of es) k) ≡ is_some (task_at es k)
 is_some-table_of es k = ap is_some (get-table_of es k) ∙ is_some-map entry_of (task_at es k)
 
-pub with_progress-none : {C : Type 0} (es : List (Path × Task C)) (k : Path) (p : Option (Progress C)) → None ≡ task_at es k
-    → table_of es ≡ with_progress (table_of es) k p (get (table_of es) k)
-with_progress-none es k p h = sym (ap (with_progress (table_of es) k p) (get-table_of es k ∙ ap (option_map entry_of) (sym h)))
+-- a change at a path without a task, and at one whose task becomes another
+pub change_at-none : {C : Type 0} (es : List (Path × Task C)) (k : Path) (f : TaskEntry C → TaskEntry C) → None ≡ task_at es k → table_of es ≡ change_at (table_of es) k f
+change_at-none es k f h = ap (change_found (table_of es) k f) (get_task es k None h)
 
-pub with_progress-some : {C : Type 0} (es fs : List (Path × Task C)) (k : Path) (p : Option (Counted C)) (t : Task C) → Some t ≡ task_at es k
-    → ((q : Path) → task_at fs q ≡ cond (is_at (path_cmp k) q) (Some (record { name = t.name; id = t.id; progress = p })) (task_at es q))
-    → table_of fs ≡ with_progress (table_of es) k (option_map counted_of p) (get (table_of es) k)
-with_progress-some es fs k p t h u =
-    table_of-update es fs k (record { name = t.name; id = t.id; progress = p }) u
-    ∙ sym (ap (with_progress (table_of es) k (option_map counted_of p)) (get-table_of es k ∙ ap (option_map entry_of) (sym h)))
+pub change_at-some : {C : Type 0} (es fs : List (Path × Task C)) (k : Path) (f : TaskEntry C → TaskEntry C) (t w : Task C) → Some t ≡ task_at es k → entry_of w ≡ f (entry_of t)
+    → ((q : Path) → task_at fs q ≡ cond (is_at (path_cmp k) q) (Some w) (task_at es q)) → table_of fs ≡ change_at (table_of es) k f
+change_at-some es fs k f t w h e u =
+    table_of-update es fs k w u ∙ ap (insert (table_of es) k) e
+    ∙ ap (change_found (table_of es) k f) (get_task es k (Some t) h)
 
 both : (a b : Bool) → T a → T b → T (a && b)
 both true b p q = q

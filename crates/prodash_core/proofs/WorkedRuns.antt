@@ -9,7 +9,6 @@ use Rattle.std.specs.Ordering.{eq_by_cmp}
 use Rattle.std.proofs.lemmas.Cmp.{nat_list_cmp_total}
 use Rattle.unicode_width.specs.Width.{str_width, char_width, step, past_emoji}
 use Rattle.prodash_base.specs.Path.{Path, path_cmp}
-use Rattle.prodash_base.specs.Rows.{Entry}
 use Rattle.prodash_base.specs.Messages.{message_of}
 use Rattle.prodash_base.specs.declared.messages.MessageLevel.TheVariants.{Info}
 use Rattle.prodash_line.specs.declared.render.line.page.sign.Sign.TheVariants.{Char}
@@ -27,13 +26,17 @@ use Rattle.prodash_core.specs.declared.tree.event.Event.{Event}
 use Rattle.prodash_core.specs.declared.tree.event.Event.TheVariants.{AddChild, Message, Tick, Quit}
 use Rattle.prodash_core.specs.declared.tree.event.Reply.{Reply}
 use Rattle.prodash_core.specs.declared.tree.event.Reply.TheVariants.{Made, Done, Drawn, Ended}
-use Rattle.prodash_core.specs.Tables.{Table, frozen}
+use Rattle.prodash_core.specs.Tables.{TaskEntry, Table, frozen}
 use Rattle.prodash_core.specs.declared.tree.slot.Slot.{Slot}
 use Rattle.prodash_core.specs.Trees.{new_slot, with_child, counter_at, new_entry, name_of}
 use Rattle.prodash_core.specs.Runs.{renderings_of}
 
 abbrev options : SessionOptions
-options = record { root = record { initial_capacity = 100; message_buffer_capacity = 20 }; draw = record { terminal_dimensions = (40, 4) } }
+options = record {
+  root = record { initial_capacity = 100; message_buffer_capacity = 20 };
+  draw = record { level_filter = None; terminal_dimensions = (40, 4); keep_running_if_progress_is_empty = true; output_is_terminal = true; colored = false; timestamp = false; hide_cursor = false };
+  throughput = false;
+}
 
 abbrev id : List ℕ
 id = 0 ∷ 0 ∷ 0 ∷ 0 ∷ []
@@ -48,7 +51,7 @@ abbrev renderings : List Rendering
 renderings = renderings_of options events replies
 
 abbrev renderer : Renderer
-renderer = new_renderer options.draw
+renderer = new_renderer options.draw false
 
 -- the slots and the table after the first child, and after the second
 abbrev slots : List Slot
@@ -57,10 +60,10 @@ slots = with_child (new_slot []) ∷ new_slot (0 ∷ []) ∷ []
 abbrev more_slots : List Slot
 more_slots = with_child (with_child (new_slot [])) ∷ new_slot (0 ∷ []) ∷ new_slot (1 ∷ []) ∷ []
 
-abbrev first : Entry ℕ
+abbrev first : TaskEntry ℕ
 first = new_entry (codes "a") id
 
-abbrev second : Entry ℕ
+abbrev second : TaskEntry ℕ
 second = new_entry (codes "b") id
 
 abbrev table : Table ℕ
@@ -98,7 +101,7 @@ more_listed =
     ∙ either_first q _ _ refl refl ∙ sym (get-from_sorted path_cmp es q tt)) in
     ap entries same ∙ entries-from_sorted path_cmp es tt
 
-abbrev rendered_with : List (Path × Entry ℕ) → Option (Entry ℕ) → List (Path × Entry ℕ) → List Rendering
+abbrev rendered_with : List (Path × TaskEntry ℕ) → Option (TaskEntry ℕ) → List (Path × TaskEntry ℕ) → List Rendering
 rendered_with es e fs =
     record { input = inputs.Tick 0 true (Some (map (frozen (counter_at slots)) es, [], 0)); result = Ok answers.Drawn }
     ∷ record { input = inputs.Tick 1 true (Some (map (frozen (counter_at more_slots)) fs, message_of 1 Info (name_of e) (codes "x") ∷ [], 1)); result = Ok answers.Drawn }
@@ -153,6 +156,7 @@ unfolding chars str_width char_width step past_emoji
 rendered_fits = record {
   columns = refl;
   height = refl;
+  sizes = (tt, (tt, (tt, tt)));
   begins = record { below = blank 40 ∷ blank 40 ∷ blank 40 ∷ blank 40 ∷ []; rows = refl; shown = (refl, (refl, (refl, (refl, tt)))); row = refl; column = refl; inside = omega arith; window = omega arith };
   each = (
     record {

@@ -7,7 +7,6 @@ use Rattle.prodash_base.specs.declared.messages.MessageLevel.{MessageLevel}
 use Rattle.prodash_base.specs.Rings.{ring_of}
 use Rattle.prodash_line.specs.declared.render.line.draw.input.Answer.{Answer}
 use Rattle.prodash_line.specs.declared.render.line.draw.input.Answer.TheVariants as answers
-use Rattle.prodash_line.specs.Renderer.{new_renderer}
 use Rattle.prodash_line.specs.Renderings.{Rendering, after_result, RendersEach, BreaksExactly, FlushesFrame, WritesAttempts, attempts_of, drawn_frames, FitsPage, ShowsFrames}
 use Rattle.prodash_line.specs.Screens.{ScreenState}
 use Rattle.prodash_line.specs.Page.{Canvas}
@@ -144,13 +143,13 @@ renderings_of options es rs = renderings_from (new_session options) es rs
 abbrev pub EachBreaksExactly : SessionOptions → List Event → List Reply → ScreenState
     → ScreenState → Type 0
 EachBreaksExactly options es rs s s' =
-    RendersEach BreaksExactly (new_renderer options.draw) s (renderings_of options es rs) s'
+    RendersEach BreaksExactly (new_session options).renderer s (renderings_of options es rs) s'
 
 -- each accepted frame with bytes is flushed
 abbrev pub EachFlushes : SessionOptions → List Event → List Reply → ScreenState → ScreenState
     → Type 0
 EachFlushes options es rs s s' =
-    RendersEach FlushesFrame (new_renderer options.draw) s (renderings_of options es rs) s'
+    RendersEach FlushesFrame (new_session options).renderer s (renderings_of options es rs) s'
 
 -- the bytes that the screen takes are those of the frames, each whole up to the first that breaks
 -- the screen
@@ -158,16 +157,16 @@ abbrev pub WritesFrames : SessionOptions → List Event → List Reply → Scree
     → Type 0
 WritesFrames options es rs s s' =
     (bytes : List ℕ) × (s'.bytes ≡ s.bytes ++ bytes)
-    × WritesAttempts [] (attempts_of (new_renderer options.draw) (renderings_of options es rs)) bytes
+    × WritesAttempts [] (attempts_of (new_session options).renderer (renderings_of options es rs)) bytes
 
 -- on a page that everything fits, the frames are shown
 abbrev pub ShowsOnPages : SessionOptions → List Event → List Reply → ScreenState → ScreenState
     → Type 0
 ShowsOnPages options es rs s s' =
     (page : Canvas) (above : List (List ℕ))
-    → FitsPage (new_renderer options.draw) (renderings_of options es rs) s'.broken above page
+    → FitsPage (new_session options).renderer (renderings_of options es rs) s'.broken above page
     → ShowsFrames s.bytes s'.bytes
-    (drawn_frames (new_renderer options.draw) (renderings_of options es rs)) above page
+    (drawn_frames (new_session options).renderer (renderings_of options es rs)) above page
 
 -- a screen that isn't broken has flushed all that it took, if it had before
 abbrev pub StaysFlushed : ScreenState → ScreenState → Type 0

@@ -21,7 +21,7 @@ pub record SessionState : Type 0 where
 abbrev pub new_session : SessionOptions → SessionState
 new_session options = record {
   tree = new_tree options.root.message_buffer_capacity;
-  renderer = new_renderer options.draw;
+  renderer = new_renderer options.draw options.throughput;
 }
 
 abbrev pub input_by : SessionState → Effect → Option Input

@@ -1,47 +1,96 @@
 -- The table of tasks: a map from paths to entries, and its rows.
-use Rattle.std.specs.Prelude.{◌≡◌, ◌↔◌, ℕ, List, map, Option, Some, None, Contains, IsSome}
+use Rattle.std.specs.Prelude.{◌≡◌, ◌↔◌, ℕ, List, [], ◌∷◌, map, Option, Some, None, Contains, IsSome}
 use Rattle.std.specs.List.{AllZip}
-use Rattle.std.specs.List.Sorted.{IsStrictlySortedBy}
-use Rattle.std.specs.Option.{option_map}
+use Rattle.std.specs.Option.{option_map, option_and_then, option_map_or}
 use Rattle.std.specs.FinMap as finite
 use Rattle.prodash_base.specs.Path.{Path, path_cmp}
-use Rattle.prodash_base.specs.Rows.{Entry, Progress, PathRow, phase_of}
+use Rattle.prodash_base.specs.Adjacency.{IsAscending}
+use Rattle.prodash_base.specs.Rows.{Entry, Progress, Phase, RowProgress, PathRow, phase_of}
+use Rattle.prodash_base.specs.Units.{measure_of}
+use Rattle.prodash_base.specs.declared.unit.units.Unit.{Unit}
 use Rattle.prodash_core.specs.declared.tree.table.Task.{Task}
 use Rattle.prodash_core.specs.declared.tree.table.Counted.{Counted}
 
--- C names counters
+-- the progress of a task, whose counter a C names
+abbrev pub TaskProgress : Type 0 → Type 0
+TaskProgress C = Progress C Unit
+
+-- the entry of a task, whose counter a C names
+abbrev pub TaskEntry : Type 0 → Type 0
+TaskEntry C = Entry C Unit
+
+-- the entries of tasks by their paths
 abbrev pub Table : Type 0 → Type 0
-Table C = finite.FinMap path_cmp (Entry C)
+Table C = finite.FinMap path_cmp (TaskEntry C)
 
-abbrev pub counted_of : {C : Type 0} → Counted C → Progress C
-counted_of p = record { counter = p.counter; bound = p.done_at; phase = phase_of p.state }
+abbrev pub counted_of : {C : Type 0} → Counted C → TaskProgress C
+counted_of p =
+    record { counter = p.counter; bound = p.done_at; unit = p.unit; phase = phase_of p.state }
 
-abbrev pub entry_of : {C : Type 0} → Task C → Entry C
+abbrev pub entry_of : {C : Type 0} → Task C → TaskEntry C
 entry_of t = record { name = t.name; id = t.id; progress = option_map counted_of t.progress }
 
-abbrev pub pair_of : {C : Type 0} → Path × Task C → Path × Entry C
+abbrev pub pair_of : {C : Type 0} → Path × Task C → Path × TaskEntry C
 pair_of e = (e.0, entry_of e.1)
 
--- the table with another progress at a path, if it has the path
-abbrev pub with_progress : {C : Type 0} → Table C → Path → Option (Progress C) → Option (Entry C)
+abbrev pub change_found : {C : Type 0} → Table C → Path → (TaskEntry C → TaskEntry C) → Option (TaskEntry C)
     → Table C
-with_progress m path p None = m
-with_progress m path p (Some e) = finite.insert m path (record e { progress = p })
+change_found m path f None = m
+change_found m path f (Some e) = finite.insert m path (f e)
 
--- a progress with this number in the counter's place
-abbrev pub progress_at : {C : Type 0} → ℕ → Progress C → Progress ℕ
-progress_at number p = record { counter = number; bound = p.bound; phase = p.phase }
+-- the table with a change of the entry at a path, if it has the path
+abbrev pub change_at : {C : Type 0} → Table C → Path → (TaskEntry C → TaskEntry C) → Table C
+change_at m path f = change_found m path f (finite.get m path)
+
+-- an entry with another name
+abbrev pub with_name : {C : Type 0} → List ℕ → TaskEntry C → TaskEntry C
+with_name name e = record e { name = name }
+
+-- an entry with another progress
+abbrev pub with_progress : {C : Type 0} → Option (TaskProgress C) → TaskEntry C → TaskEntry C
+with_progress p e = record e { progress = p }
+
+-- an entry whose progress, if it has one, has another bound
+abbrev pub with_bound : {C : Type 0} → Option ℕ → TaskEntry C → TaskEntry C
+with_bound {C} bound e =
+    record e { progress = option_map {T = TaskProgress C} (λ p. record p { bound = bound }) e.progress }
+
+-- an entry whose progress, if it has one, has another phase
+abbrev pub with_phase : {C : Type 0} → Phase → TaskEntry C → TaskEntry C
+with_phase {C} phase e =
+    record e { progress = option_map {T = TaskProgress C} (λ p. record p { phase = phase }) e.progress }
+
+-- the name of an entry, if there is an entry
+abbrev pub name_at : {C : Type 0} → Option (TaskEntry C) → Option (List ℕ)
+name_at = option_map (λ e. e.name)
+
+-- the identifier of an entry; four zeros if there is none
+abbrev pub id_of : {C : Type 0} → Option (TaskEntry C) → List ℕ
+id_of e = option_map_or (λ e. e.id) e (0 ∷ 0 ∷ 0 ∷ 0 ∷ [])
+
+-- the bound of an entry, if there is an entry, and it has progress and a bound
+abbrev pub bound_of : {C : Type 0} → Option (TaskEntry C) → Option ℕ
+bound_of e = option_and_then (λ p. p.bound) (option_and_then (λ e. e.progress) e)
+
+-- the unit of an entry, if there is an entry, and it has progress and a unit
+abbrev pub unit_of : {C : Type 0} → Option (TaskEntry C) → Option Unit
+unit_of e = option_and_then (λ p. p.unit) (option_and_then (λ e. e.progress) e)
+
+-- a progress with this number in the counter's place, and with what its unit says
+abbrev pub progress_at : {C : Type 0} → ℕ → TaskProgress C → RowProgress
+progress_at number p =
+    record { counter = number; bound = p.bound; unit = option_map measure_of p.unit; phase = p.phase }
 
 -- The row's progress is that of the entry, with a number in the counter's place that the counter
 -- may show.
-abbrev pub ProgressShows : {C : Type 0} → (C → ℕ → Type 0) → Option (Progress C)
-    → Option (Progress ℕ) → Type 0
+abbrev pub ProgressShows : {C : Type 0} → (C → ℕ → Type 0) → Option (TaskProgress C)
+    → Option RowProgress → Type 0
 ProgressShows shows None shown = shown ≡ None
 ProgressShows shows (Some p) shown =
     (number : ℕ) × shows p.counter number × (shown ≡ Some (progress_at number p))
 
 -- a row shows a path and its entry
-pub record RowShows {C : Type 0} (shows : C → ℕ → Type 0) (e : Path × Entry C) (row : PathRow)
+pub record RowShows {C : Type 0} (shows : C → ℕ → Type 0) (e : Path × TaskEntry C) (row : PathRow)
     : Type 0 where
   pub path : row.0 ≡ e.0
   pub name : row.1.name ≡ e.1.name
@@ -58,11 +107,11 @@ paths_of rows = map (λ row. row.0) rows
 -- the rows are strictly ascending by path, so that no path has two, and a path has a row if and
 -- only if it has an entry
 pub record ListsEachOnce {C : Type 0} (m : Table C) (rows : List PathRow) : Type 0 where
-  pub ascending : IsStrictlySortedBy path_cmp (paths_of rows)
+  pub ascending : IsAscending (paths_of rows)
   pub each : (path : Path) → IsSome (finite.get m path) ↔ Contains (paths_of rows) path
 
 -- a pair with each counter's number in its place
-abbrev pub frozen : {C : Type 0} → (C → ℕ) → Path × Entry C → PathRow
+abbrev pub frozen : {C : Type 0} → (C → ℕ) → Path × TaskEntry C → PathRow
 frozen number e =
     let shown = option_map (λ p. progress_at (number p.counter) p) e.1.progress in
     (e.0, record { name = e.1.name; id = e.1.id; progress = shown })

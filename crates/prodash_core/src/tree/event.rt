@@ -3,6 +3,7 @@ ghost use Rattle.std.specs.Prelude.{◌≡◌};
 use prodash_base::messages::{MessageCopyState, MessageLevel, Messages};
 use prodash_base::progress::{Id, Rows, Step};
 use prodash_base::time::Moment;
+use prodash_base::unit::Unit;
 use prodash_base::{Refusal, Text};
 
 /// A handle for the root or an item. The root's is 0, and each `AddChild` makes the next.
@@ -30,7 +31,23 @@ pub enum Event {
     Init {
         /// The handle of the item.
         item: Handle,
-        /// The step at which the item is done. Without one the item has no progress.
+        /// The step at which the item is done, if known.
+        max: Option<Step>,
+        /// The unit of the steps. Without a unit and a `max` the item has no progress.
+        unit: Option<Unit>,
+    },
+    /// Sets the name of an item.
+    SetName {
+        /// The handle of the item.
+        item: Handle,
+        /// The new name.
+        name: Text,
+    },
+    /// Sets the step at which an item is done, if it has progress, and returns the one before.
+    SetMax {
+        /// The handle of the item.
+        item: Handle,
+        /// The new step at which the item is done, if it is known.
         max: Option<Step>,
     },
     /// Sets the counter of an item.
@@ -39,6 +56,36 @@ pub enum Event {
         item: Handle,
         /// The new step.
         step: Step,
+    },
+    /// Adds to the counter of an item. The step after 2^64-1 is 0.
+    IncBy {
+        /// The handle of the item.
+        item: Handle,
+        /// The steps that are added.
+        step: Step,
+    },
+    /// Marks the progress of an item, if it has any, as one that can't go on.
+    Blocked {
+        /// The handle of the item.
+        item: Handle,
+        /// The reason.
+        reason: &'static str,
+        /// The moment at which the item is expected to go on, if it is known.
+        eta: Option<Moment>,
+    },
+    /// Marks the progress of an item, if it has any, as stopped.
+    Halted {
+        /// The handle of the item.
+        item: Handle,
+        /// The reason.
+        reason: &'static str,
+        /// The moment at which the item is expected to go on, if it is known.
+        eta: Option<Moment>,
+    },
+    /// Marks the progress of an item, if it has any, as running.
+    Running {
+        /// The handle of the item.
+        item: Handle,
     },
     /// Sends a message of an item.
     Message {
@@ -51,6 +98,33 @@ pub enum Event {
         /// The text of the message.
         text: Text,
     },
+    /// Returns the name of an item.
+    Name {
+        /// The handle of the item.
+        item: Handle,
+    },
+    /// Returns the identifier of an item.
+    Id {
+        /// The handle of the item.
+        item: Handle,
+    },
+    /// Returns the counter of an item.
+    Step {
+        /// The handle of the item.
+        item: Handle,
+    },
+    /// Returns the step at which an item is done.
+    Max {
+        /// The handle of the item.
+        item: Handle,
+    },
+    /// Returns the unit of an item's steps.
+    Unit {
+        /// The handle of the item.
+        item: Handle,
+    },
+    /// Returns how many items have a row.
+    NumTasks,
     /// Returns the rows of all items.
     Snapshot,
     /// Returns the messages that are kept.
@@ -63,14 +137,26 @@ pub enum Event {
     /// Drops the root. Its handle is no longer valid, but those of items are.
     DropRoot,
     /// Draws a frame: prints the new messages, and draws the rows if they are shown and have
-    /// changed. Without a root it is the closing frame.
+    /// changed. Without a root it is a closing frame, and so it is without tasks, unless the
+    /// renderer is to keep running.
     Tick {
         /// The time of the frame.
         at: Moment,
         /// Whether the rows are shown or hidden.
         show: bool,
     },
-    /// Draws the closing frame: blanks the rows on screen. Further frames are refused.
+    /// Sets the size of the terminal, and draws the rows of the latest tick if they are shown.
+    Resize {
+        /// The time of the frame.
+        at: Moment,
+        /// Whether the rows are shown or hidden.
+        show: bool,
+        /// The columns of the terminal.
+        columns: u16,
+        /// The rows of the terminal.
+        rows: u16,
+    },
+    /// Draws a closing frame: blanks the rows on screen. Further frames are refused.
     Quit {
         /// The time of the frame.
         at: Moment,
@@ -84,6 +170,19 @@ pub enum Reply {
     Made(Handle),
     /// The event was applied.
     Done,
+    /// The step at which the item is done, or was before `SetMax`; `None` if it is unknown or if
+    /// the item has no row or no progress.
+    Bound(Option<Step>),
+    /// The name of the item, or `None` if it has no row.
+    Name(Option<Text>),
+    /// The identifier of the item, or `UNKNOWN` if it has no row.
+    Id(Id),
+    /// The counter of the item, whether or not it has a row.
+    Step(Step),
+    /// The unit of the item's steps, or `None` if it has none, no progress or no row.
+    Unit(Option<Unit>),
+    /// The number of rows.
+    Count(usize),
     /// The rows, in ascending order of their keys.
     Rows(Rows),
     /// The messages that are kept, the oldest first.
@@ -92,7 +191,7 @@ pub enum Reply {
     New(Messages, MessageCopyState),
     /// The frame was written, if it had any bytes.
     Drawn,
-    /// The closing frame was written.
+    /// A closing frame was written.
     Ended,
     /// The event was refused.
     Refused(Refusal),
@@ -105,6 +204,9 @@ impl Event {
     pub fn is_frame(&self) -> bool
         ensures { result ≡ is_frame self.now }
     {
-        matches!(self, Event::Tick { .. } | Event::Quit { .. })
+        matches!(
+            self,
+            Event::Tick { .. } | Event::Resize { .. } | Event::Quit { .. }
+        )
     }
 }

@@ -30,4 +30,6 @@ pub struct SessionOptions {
     pub root: RootOptions,
     /// Options for the renderer.
     pub draw: draw::Options,
+    /// Whether the renderer measures the throughput of tasks, for units that show it.
+    pub throughput: bool,
 }

@@ -16,7 +16,7 @@ use std::alloc::Global;
 /// let name = Text::from_str(alloc, "task")?;
 /// let events = vec![in alloc;
 ///     Event::AddChild { parent: 0, name, id: UNKNOWN },
-///     Event::Init { item: 1, max: Some(10) },
+///     Event::Init { item: 1, max: Some(10), unit: None },
 ///     Event::Set { item: 1, step: 3 },
 ///     Event::Tick { at: 0, show: true },
 /// ]?;

@@ -16,7 +16,7 @@ use std::marker::Model;
 /// let mut session = Session::new(alloc, &options)?;
 /// let name = Text::from_str(alloc, "task")?;
 /// session.apply(alloc, &Event::AddChild { parent: 0, name, id: UNKNOWN }, screen);
-/// session.apply(alloc, &Event::Init { item: 1, max: Some(10) }, screen);
+/// session.apply(alloc, &Event::Init { item: 1, max: Some(10), unit: None }, screen);
 /// session.apply(alloc, &Event::Tick { at: 0, show: true }, screen);
 /// ```
 #[derive(Drop)]
@@ -49,7 +49,7 @@ impl Session {
     {
         Ok(Session {
             tree: TreeState::new(alloc, &options.root)?,
-            renderer: draw::State::new(alloc, options.draw),
+            renderer: draw::State::new(alloc, options.draw, options.throughput),
         })
     }
 
@@ -61,6 +61,20 @@ impl Session {
     {
         match event {
             Event::Tick { at, show } => self.tick(alloc, *at, *show, screen),
+            Event::Resize {
+                at,
+                show,
+                columns,
+                rows,
+            } => {
+                let input = Input::Resize {
+                    at: *at,
+                    show: *show,
+                    columns: *columns,
+                    rows: *rows,
+                };
+                self.draw(alloc, input, screen)
+            }
             Event::Quit { at } => self.draw(alloc, Input::Quit { at: *at }, screen),
             _ => self.tree.apply(alloc, event).unwrap_or_else(Reply::Refused),
         }

@@ -1,17 +1,19 @@
 ghost use Rattle.std.specs.Prelude.{◌≡◌, IfOk, IfErr, false};
 ghost use Rattle.prodash_base.specs.Rings.{messages_since};
+ghost use Rattle.prodash_base.specs.Rows.{phase_of};
 ghost use Rattle.prodash_core.specs.Tables.{ListsEachOnce};
-ghost use Rattle.prodash_core.specs.Trees.{Tree, new_tree, slot_at, item_at, or_gone, tree_rows, snapshot_of, is_frame, Plays};
+ghost use Rattle.prodash_core.specs.Trees.{Tree, new_tree, slot_at, item_at, or_gone, tree_rows, snapshot_of, set_phase, is_frame, Changes, Plays};
 
 use crate::tree::event::{Event, Handle, Reply};
 use crate::tree::options::RootOptions;
 use crate::tree::slot::Slot;
 use crate::tree::slots::Slots;
 use crate::tree::table::{Counted, TreeCore};
-use prodash_base::Refusal;
 use prodash_base::messages::{MessageCopyState, MessageLevel, MessageRingBuffer, Messages};
 use prodash_base::progress::{Id, Rows, State, Step};
 use prodash_base::time::Moment;
+use prodash_base::unit::Unit;
+use prodash_base::{Refusal, Text};
 use std::alloc::Global;
 use std::marker::Model;
 
@@ -69,19 +71,35 @@ impl TreeState {
                 self.add_child(alloc, *parent, name.as_str(), *id)
             }
             Event::Drop { item } => self.drop_item(*item),
-            Event::Init { item, max } => self.init(*item, *max),
+            Event::Init { item, max, unit } => self.init(*item, *max, *unit),
+            Event::SetName { item, name } => self.set_name(alloc, *item, name.as_str()),
+            Event::SetMax { item, max } => self.set_max(*item, *max),
             Event::Set { item, step } => self.set(*item, *step),
+            Event::IncBy { item, step } => self.inc_by(*item, *step),
+            Event::Blocked { item, reason, eta } => {
+                self.set_state(*item, State::Blocked(reason, *eta))
+            }
+            Event::Halted { item, reason, eta } => {
+                self.set_state(*item, State::Halted(reason, *eta))
+            }
+            Event::Running { item } => self.set_state(*item, State::Running),
             Event::Message {
                 item,
                 at,
                 level,
                 text,
             } => self.message(alloc, *item, *at, *level, text.as_str()),
+            Event::Name { item } => self.name(alloc, *item),
+            Event::Id { item } => self.id(*item),
+            Event::Step { item } => self.step(*item),
+            Event::Max { item } => self.max(*item),
+            Event::Unit { item } => self.unit(*item),
+            Event::NumTasks => self.num_tasks(),
             Event::Snapshot => self.snapshot(alloc),
             Event::CopyMessages => self.copy_messages(alloc),
             Event::CopyNew { previous } => self.copy_new(alloc, *previous),
             Event::DropRoot => self.drop_root(),
-            Event::Tick { .. } | Event::Quit { .. } => unreachable!(),
+            Event::Tick { .. } | Event::Resize { .. } | Event::Quit { .. } => unreachable!(),
         }
     }
 
@@ -190,19 +208,44 @@ impl TreeState {
         Ok(Reply::Done)
     }
 
-    fn init(&mut self, item: Handle, max: Option<Step>) -> Result<Reply, Refusal>
-        ensures { Plays self.old (Event.Init item max) result self.new }
+    fn init(
+        &mut self,
+        item: Handle,
+        max: Option<Step>,
+        unit: Option<Unit>,
+    ) -> Result<Reply, Refusal>
+        ensures { Plays self.old (Event.Init item max unit) result self.new }
     {
         let slot = self.item(item)?;
-        let progress = max.map(|max| Counted {
-            counter: item,
-            done_at: Some(max),
-            state: State::Running,
-        });
+        let progress = if max.is_some() || unit.is_some() {
+            Some(Counted {
+                counter: item,
+                done_at: max,
+                unit,
+                state: State::Running,
+            })
+        } else {
+            None
+        };
         if self.table.init(slot.key, progress) {
             self.slots.put(item, slot.with_counter(0));
         }
         Ok(Reply::Done)
+    }
+
+    fn set_name(&mut self, alloc: Global, item: Handle, name: &str) -> Result<Reply, Refusal>
+        ensures { Plays self.old (Event.SetName item name.now) result self.new }
+    {
+        let slot = self.item(item)?;
+        self.table.set_name(alloc, slot.key, name)?;
+        Ok(Reply::Done)
+    }
+
+    fn set_max(&mut self, item: Handle, max: Option<Step>) -> Result<Reply, Refusal>
+        ensures { Plays self.old (Event.SetMax item max) result self.new }
+    {
+        let slot = self.item(item)?;
+        Ok(Reply::Bound(self.table.set_max(slot.key, max)))
     }
 
     fn set(&mut self, item: Handle, step: Step) -> Result<Reply, Refusal>
@@ -210,6 +253,22 @@ impl TreeState {
     {
         let slot = self.item(item)?;
         self.slots.put(item, slot.with_counter(step));
+        Ok(Reply::Done)
+    }
+
+    fn inc_by(&mut self, item: Handle, step: Step) -> Result<Reply, Refusal>
+        ensures { Plays self.old (Event.IncBy item step) result self.new }
+    {
+        let slot = self.item(item)?;
+        self.slots.put(item, slot.with_steps(step));
+        Ok(Reply::Done)
+    }
+
+    fn set_state(&mut self, item: Handle, state: State) -> Result<Reply, Refusal>
+        ensures { Changes self.old false (set_phase item (phase_of state)) result self.new }
+    {
+        let slot = self.item(item)?;
+        self.table.set_state(slot.key, state);
         Ok(Reply::Done)
     }
 
@@ -227,6 +286,51 @@ impl TreeState {
         let origin = self.table.name(slot.key).unwrap_or("");
         self.ring.push_overwrite(alloc, at, level, origin, text)?;
         Ok(Reply::Done)
+    }
+
+    fn name(&self, alloc: Global, item: Handle) -> Result<Reply, Refusal>
+        ensures { Plays self.now (Event.Name item) result self.now }
+    {
+        let slot = self.item(item)?;
+        Ok(Reply::Name(match self.table.name(slot.key) {
+            None => None,
+            Some(name) => Some(Text::from_str(alloc, name)?),
+        }))
+    }
+
+    fn id(&self, item: Handle) -> Result<Reply, Refusal>
+        ensures { Plays self.now (Event.Id item) result self.now }
+    {
+        let slot = self.item(item)?;
+        Ok(Reply::Id(self.table.id(slot.key)))
+    }
+
+    fn step(&self, item: Handle) -> Result<Reply, Refusal>
+        ensures { Plays self.now (Event.Step item) result self.now }
+    {
+        let slot = self.item(item)?;
+        Ok(Reply::Step(slot.counter))
+    }
+
+    fn max(&self, item: Handle) -> Result<Reply, Refusal>
+        ensures { Plays self.now (Event.Max item) result self.now }
+    {
+        let slot = self.item(item)?;
+        Ok(Reply::Bound(self.table.max(slot.key)))
+    }
+
+    fn unit(&self, item: Handle) -> Result<Reply, Refusal>
+        ensures { Plays self.now (Event.Unit item) result self.now }
+    {
+        let slot = self.item(item)?;
+        Ok(Reply::Unit(self.table.unit(slot.key)))
+    }
+
+    fn num_tasks(&self) -> Result<Reply, Refusal>
+        ensures { Plays self.now Event.NumTasks result self.now }
+    {
+        self.root()?;
+        Ok(Reply::Count(self.table.len()))
     }
 
     fn snapshot(&self, alloc: Global) -> Result<Reply, Refusal>

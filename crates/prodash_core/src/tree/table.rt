@@ -1,4 +1,4 @@
-ghost use Rattle.std.specs.Prelude.{◌≡◌, ◌≢◌, ℕ, OnOk, OnErr, IfOk, IfErr, None, map, nat_eq, is_some};
+ghost use Rattle.std.specs.Prelude.{◌≡◌, ◌≢◌, ℕ, OnOk, OnErr, IfOk, IfErr, Some, None, map, nat_eq, is_some};
 ghost use Rattle.std.specs.FinMap as finite;
 ghost use Rattle.std.specs.Option.{option_map};
 ghost use Rattle.std.specs.List.{AllZip};
@@ -6,10 +6,11 @@ ghost use Rattle.std.specs.List.Sorted.{IsPermutation, IsSortedByKey};
 ghost use Rattle.std.specs.HashMap.{IsUnique};
 ghost use Rattle.std.specs.Cmp.Lexicographic.{pointwise};
 ghost use Rattle.prodash_base.specs.Path.{Path, path_cmp};
-ghost use Rattle.prodash_base.specs.Rows.{progress_of, row_of, rows_of};
-ghost use Rattle.prodash_core.specs.Tables.{with_progress, counted_of, ProgressShows, RowShows, RowsShow, ListsEachOnce, pair_of, entry_of};
+ghost use Rattle.prodash_base.specs.Rows.{phase_of, progress_of, row_of, rows_of};
+ghost use Rattle.prodash_core.specs.Tables.{change_at, with_name, with_progress, with_bound, with_phase, name_at, id_of, bound_of, unit_of, counted_of, ProgressShows, RowShows, RowsShow, ListsEachOnce, pair_of, entry_of};
 
-use prodash_base::progress::{Id, Key, Row, Rows, State, Step, Value};
+use prodash_base::progress::{Id, Key, Row, Rows, State, Step, UNKNOWN, Value};
+use prodash_base::unit::Unit;
 use prodash_base::{Refusal, Text};
 use std::alloc::{AllocError, Global};
 use std::collections::HashMap;
@@ -22,6 +23,8 @@ pub struct Counted<C> {
     pub counter: C,
     /// The step at which the task is done, if it is known.
     pub done_at: Option<Step>,
+    /// The unit of the steps, if it has one.
+    pub unit: Option<Unit>,
     /// The state of the task.
     pub state: State,
 }
@@ -35,6 +38,70 @@ pub struct Task<C> {
     pub id: Id,
     /// The progress of the task, if it has one.
     pub progress: Option<Counted<C>>,
+}
+
+impl<C: Copy> Clone for Task<C> {
+    ghost is_clone = { λ a b. entry_of b ≡ entry_of a };
+
+    /// Returns a copy of the task, whose progress names the same counter.
+    fn clone(&self) -> Result<Task<C>, AllocError> {
+        Ok(Task {
+            name: self.name.clone()?,
+            id: self.id,
+            progress: match &self.progress {
+                None => None,
+                Some(counted) => Some(Counted {
+                    counter: counted.counter,
+                    done_at: counted.done_at,
+                    unit: counted.unit,
+                    state: counted.state,
+                }),
+            },
+        })
+    }
+}
+
+impl<C: Copy> Task<C> {
+    /// Returns the step at which the task is done, if it has progress and such a step.
+    fn max(&self) -> Option<Step>
+        ensures { result ≡ bound_of (Some (entry_of self.now)) }
+    {
+        match &self.progress {
+            None => None,
+            Some(counted) => counted.done_at,
+        }
+    }
+
+    /// Returns the unit of the task's steps, if it has progress and a unit.
+    fn unit(&self) -> Option<Unit>
+        ensures { result ≡ unit_of (Some (entry_of self.now)) }
+    {
+        match &self.progress {
+            None => None,
+            Some(counted) => counted.unit,
+        }
+    }
+
+    /// Sets the step at which the task is done, if it has progress, and returns the one before.
+    fn set_max(&mut self, max: Option<Step>) -> Option<Step>
+        ensures before { result ≡ bound_of (Some (entry_of self.old)) }
+        ensures after { entry_of self.new ≡ with_bound max (entry_of self.old) }
+    {
+        let before = self.max();
+        if let Some(counted) = &mut self.progress {
+            counted.done_at = max;
+        }
+        before
+    }
+
+    /// Sets the state of the task, if it has progress.
+    fn set_state(&mut self, state: State)
+        ensures { entry_of self.new ≡ with_phase (phase_of state) (entry_of self.old) }
+    {
+        if let Some(counted) = &mut self.progress {
+            counted.state = state;
+        }
+    }
 }
 
 /// Reads the numbers of counters, each of which a `C` names.
@@ -53,7 +120,7 @@ pub trait Counters<C> {
 /// let mut table = TreeCore::new(alloc);
 /// let key = Key::default().add_child(0);
 /// table.insert(alloc, key, "task", UNKNOWN)?;
-/// let progress = Counted { counter: 0, done_at: Some(10), state: State::Running };
+/// let progress = Counted { counter: 0, done_at: Some(10), unit: None, state: State::Running };
 /// table.init(key, Some(progress));
 /// let rows = table.rows(alloc, &counters)?;
 /// ```
@@ -66,10 +133,10 @@ impl<C> Model for TreeCore<C> {
     ghost use Rattle.std.specs.Prelude.{map};
     ghost use Rattle.std.specs.FinMap as finite;
     ghost use Rattle.prodash_base.specs.Path.{path_cmp};
-    ghost use Rattle.prodash_base.specs.Rows.{Entry};
+    ghost use Rattle.prodash_core.specs.Tables.{TaskEntry};
     ghost use Rattle.std.specs.Coded.{codes};
 
-    ghost Value = { finite.FinMap path_cmp (Entry C) };
+    ghost Value = { finite.FinMap path_cmp (TaskEntry C) };
 
     ghost coded = { Prim.hlevel (codes, finite.code, C.code) };
 
@@ -86,6 +153,16 @@ impl<C> TreeCore<C> {
         TreeCore {
             tasks: HashMap::new(alloc),
         }
+    }
+}
+
+impl<C: Copy> Clone for TreeCore<C> {
+    ghost is_clone = { λ a b. b ≡ a };
+
+    /// Returns a table with copies of the tasks, whose progress names the same counters.
+    fn clone(&self) -> Result<TreeCore<C>, AllocError> {
+        let tasks = self.tasks.clone()?;
+        Ok(TreeCore { tasks })
     }
 }
 
@@ -129,8 +206,8 @@ impl<C: Copy> TreeCore<C> {
     /// Sets the progress of the task at a key, and returns whether there is one.
     pub fn init(&mut self, key: Key, progress: Option<Counted<C>>) -> bool
         ensures found { result ≡ is_some (finite.get self.old key) }
-        ensures after { self.new ≡ with_progress self.old key (option_map counted_of progress)
-            (finite.get self.old key) }
+        ensures after { self.new ≡ change_at self.old key
+            (with_progress (option_map counted_of progress)) }
     {
         match self.tasks.get_mut(&key) {
             None => false,
@@ -141,15 +218,97 @@ impl<C: Copy> TreeCore<C> {
         }
     }
 
+    /// Sets the name of the task at a key, if there is one.
+    ///
+    /// # Errors
+    ///
+    /// `Memory`, if there is no memory for the name; then the table stays as it was.
+    pub fn set_name(&mut self, alloc: Global, key: Key, name: &str) -> Result<(), Refusal>
+        ensures ok { OnOk result (self.new ≡ change_at self.old key (with_name name.now)) }
+        ensures err { OnErr result (self.new ≡ self.old) }
+        ensures reason { IfErr result (λ e. e ≡ Refusal.Memory) }
+    {
+        let name = Text::from_str(alloc, name)?;
+        if let Some(task) = self.tasks.get_mut(&key) {
+            task.name = name;
+        }
+        Ok(())
+    }
+
+    /// Sets the step at which the task at a key is done, if it has progress, and returns the one
+    /// before.
+    pub fn set_max(&mut self, key: Key, max: Option<Step>) -> Option<Step>
+        ensures before { result ≡ bound_of (finite.get self.old key) }
+        ensures after { self.new ≡ change_at self.old key (with_bound max) }
+    {
+        match self.tasks.get_mut(&key) {
+            None => None,
+            Some(task) => task.set_max(max),
+        }
+    }
+
+    /// Sets the state of the task at a key, if it has progress.
+    pub fn set_state(&mut self, key: Key, state: State)
+        ensures { self.new ≡ change_at self.old key (with_phase (phase_of state)) }
+    {
+        if let Some(task) = self.tasks.get_mut(&key) {
+            task.set_state(state);
+        }
+    }
+
     /// Returns the name of the task at a key, if there is one.
     pub fn name(&self, key: Key) -> Option<&str>
-        ensures { option_map (λ name. name.now) result
-            ≡ option_map (λ e. e.name) (finite.get self.now key) }
+        ensures { option_map (λ name. name.now) result ≡ name_at (finite.get self.now key) }
     {
         match self.tasks.get(&key) {
             None => None,
             Some(task) => Some(task.name.as_str()),
         }
+    }
+
+    /// Returns the identifier of the task at a key, or `UNKNOWN` if there is none.
+    pub fn id(&self, key: Key) -> Id
+        ensures { result ≡ id_of (finite.get self.now key) }
+    {
+        match self.tasks.get(&key) {
+            None => UNKNOWN,
+            Some(task) => task.id,
+        }
+    }
+
+    /// Returns the step at which the task at a key is done, if there is a task, and it has progress
+    /// and such a step.
+    pub fn max(&self, key: Key) -> Option<Step>
+        ensures { result ≡ bound_of (finite.get self.now key) }
+    {
+        match self.tasks.get(&key) {
+            None => None,
+            Some(task) => task.max(),
+        }
+    }
+
+    /// Returns the unit of the task at a key, if there is a task, and it has progress and a unit.
+    pub fn unit(&self, key: Key) -> Option<Unit>
+        ensures { result ≡ unit_of (finite.get self.now key) }
+    {
+        match self.tasks.get(&key) {
+            None => None,
+            Some(task) => task.unit(),
+        }
+    }
+
+    /// Returns the number of tasks.
+    pub fn len(&self) -> usize
+        ensures { result ≡ finite.len self.now }
+    {
+        self.tasks.len()
+    }
+
+    /// Returns whether there are no tasks.
+    pub fn is_empty(&self) -> bool
+        ensures { result ≡ nat_eq (finite.len self.now) 0 }
+    {
+        self.len() == 0
     }
 
     /// Returns the rows, in ascending order of their keys, with the number of each counter.
@@ -178,6 +337,7 @@ fn value_of<C: Copy, N: Counters<C>>(progress: &Option<Counted<C>>, counters: &N
         Some(counted) => Some(Value {
             step: counters.number(counted.counter),
             done_at: counted.done_at,
+            unit: counted.unit,
             state: counted.state,
         }),
     }

@@ -1,7 +1,7 @@
-use Rattle.std.proofs.Common.{rules, ◌∙◌, ap, sym, Some, is_some}
+use Rattle.std.proofs.Common.{rules, ◌∙◌, ap, sym, Some, is_some, refl}
 use Rattle.std.specs.Option.{option_map}
-use Rattle.prodash_core.specs.Tables.{counted_of}
-use Rattle.prodash_core.proofs.TableChanges.{table_of, is_some-table_of, with_progress-none, with_progress-some}
+use Rattle.prodash_core.specs.Tables.{counted_of, with_progress}
+use Rattle.prodash_core.proofs.TableChanges.{table_of, is_some-table_of, change_at-none, change_at-some}
 use Rattle.prodash_core.proofs.Sorting.{lookup_by_eq, update_by_eq}
 use Rattle.prodash_core.proofs.tree.table.TreeCore.init.Goals as goal
 use Rattle.prodash_core.proofs.tree.table.TreeCore.init.Goals.{in-None, in-Some}
@@ -19,9 +19,10 @@ returns-clause-after g c =
     let es = c.self.inside.tasks.entries in
     rw (← c.self.view_is) (elim c.match-get_mut.branch [
       | in-None w ↦ ap (λ t. table_of t.tasks.entries) w.self-inside-is ∙ ap (λ t. table_of t.entries) c.get_mut.follows.holds-at-none
-          ∙ with_progress-none es c.args.key (option_map counted_of c.args.progress) (w.in-None.ensures.value ∙ lookup_by_eq es c.args.key)
+          ∙ change_at-none es c.args.key (with_progress (option_map counted_of c.args.progress)) (w.in-None.ensures.value ∙ lookup_by_eq es c.args.key)
       | in-Some w ↦ ap (λ t. table_of t.tasks.entries) w.self-inside-is
-          ∙ with_progress-some es _ c.args.key c.args.progress w.in-Some.task.now (w.in-Some.ensures.value ∙ lookup_by_eq es c.args.key)
+          ∙ change_at-some es _ c.args.key (with_progress (option_map counted_of c.args.progress)) w.in-Some.task.now
+          (record { name = w.in-Some.task.now.name; id = w.in-Some.task.now.id; progress = c.args.progress }) (w.in-Some.ensures.value ∙ lookup_by_eq es c.args.key) refl
           (update_by_eq es _ c.args.key (Some (record { name = w.in-Some.task.now.name; id = w.in-Some.task.now.id; progress = c.args.progress }))
           ((c.get_mut.follows.holds (record { name = w.in-Some.task.now.name; id = w.in-Some.task.now.id; progress = c.args.progress })).3 (search (rules, w.in-Some.ensures.value))).0)
     ])
