@@ -19,21 +19,35 @@
 //! ]?;
 //! let options = SessionOptions {
 //!     root: RootOptions::default(),
-//!     draw: draw::Options { terminal_dimensions: (40, 20) },
+//!     draw: draw::Options {
+//!         level_filter: None,
+//!         terminal_dimensions: (40, 20),
+//!         keep_running_if_progress_is_empty: true,
+//!         output_is_terminal: true,
+//!         colored: false,
+//!         timestamp: false,
+//!         hide_cursor: false,
+//!     },
 //! };
 //! let mut screen = MemoryScreen::new(alloc, 0)?;
 //! let replies = run(alloc, &options, &events, &mut screen)?;
 //! // screen.bytes() is " task 3/10 [=======>-------------------]", a line feed, and ESC [1A
 //! ```
 //!
-//! Then see [`progress`] for what a task shows, [`messages`] for what tasks say, [`tree`] for the
-//! tasks without a screen, and [`render::line`] for the screen without a tree.
+//! To report progress from threads, make a [`tree::Root`] and add [`tree::Item`]s to it.
+//!
+//! Then see [`progress`] for what a task shows, [`unit`] for values as texts, [`messages`] for what
+//! tasks say, [`tree`] for the tasks without a screen, and [`render::line`] for the screen without
+//! a tree.
 #![tactic(auto)]
 
 pub mod messages;
 pub mod progress;
 pub mod render;
+pub mod throughput;
 pub mod time;
 pub mod tree;
+pub mod unit;
 
-pub use prodash_base::{Refusal, Text};
+pub use prodash_base::{Refusal, Text, Throughput};
+pub use unit::Unit;

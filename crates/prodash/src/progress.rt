@@ -2,5 +2,7 @@
 pub mod key;
 
 pub use key::Key;
-pub use prodash_base::progress::{Id, Row, Rows, State, Step, UNKNOWN, Value};
+pub use prodash_base::progress::{
+    AtomicStep, Id, Row, Rows, State, Step, StepShared, UNKNOWN, Value,
+};
 pub use prodash_core::tree::Task;

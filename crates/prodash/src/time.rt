@@ -1,2 +1,5 @@
-//! Moments.
-pub use prodash_base::time::Moment;
+//! Moments, clocks, and moments as texts.
+pub use prodash_base::time::{
+    Clock, DATE_TIME_HMS, Moment, days_have_one_date, format_now_datetime_seconds,
+    format_time_for_messages,
+};

@@ -1,5 +1,14 @@
-//! The tree of tasks, sessions of events on it, and whole runs.
+//! The tree of tasks, which threads share, sessions of events on one, and whole runs.
+mod item;
+mod locked;
+pub mod root;
+mod slots;
+mod steps;
+
+pub use item::Item;
 pub use prodash_core::tree::{
     Counted, Counters, Event, Handle, Reply, RootOptions, Session, SessionOptions, Task, TreeCore,
     TreeState, run,
 };
+pub use root::{Root, WeakHandle};
+pub use steps::Steps;

@@ -1,2 +1,4 @@
 //! The signs that frames are made of, the bytes that spell them, and the page that they write.
-pub use prodash_line::render::line::page::{Fault, Page, Sign, one_spelling, read, spell};
+pub use prodash_line::render::line::page::{
+    Color, Fault, Page, Sign, Style, one_spelling, read, spell,
+};

@@ -1,0 +1,301 @@
+//! Items of the locked tree.
+ghost use Rattle.std.specs.Prelude.{◌≡◌, ◌⊎◌, OnOk, OnErr, IfOk, IfErr, true, is_some};
+ghost use Rattle.prodash.specs.Items.{new_place, next_path, with_child};
+
+use crate::messages::MessageLevel;
+use crate::progress::{Id, Key, State, Step, StepShared, UNKNOWN};
+use crate::time::Moment;
+use crate::tree::locked::Locked;
+use crate::tree::steps::Steps;
+use crate::unit::Unit;
+use prodash_base::Refusal;
+use std::alloc::Global;
+use std::fmt;
+use std::marker::Model;
+use std::sync::{Arc, Mutex, Wait};
+
+/// An item of the tree. Once it is dropped, its task is removed, but not the tasks below it. All
+/// calls but those on its step may wait for the lock of the tree, its drop too. Contracts see its
+/// path and the number of its next child.
+///
+/// ```rust
+/// let mut task = root.add_child(alloc, "task")?;
+/// task.init(Some(2), None);
+/// let part = task.add_child(alloc, "part")?;
+/// part.init(None, None);
+/// task.inc();
+/// task.done(alloc, now, "half of it")?;
+/// ```
+pub struct Item<R: Wait + Clone + Drop> {
+    rt: R,
+    shared: Arc<Mutex<Locked>>,
+    key: Key,
+    next_child: u16,
+    slot: usize,
+    steps: Steps,
+}
+
+impl<R: Wait + Clone + Drop> Model for Item<R> {
+    ghost use Rattle.prodash.specs.Items.{Place};
+
+    ghost Value = { Place };
+
+    ghost view = { λ item. record { path = item.key; next_child = item.next_child } };
+}
+
+impl<R: Wait + Clone + Drop> Item<R> {
+    /// Returns the item at a key that has a slot.
+    pub(crate) fn new(
+        rt: R,
+        shared: Arc<Mutex<Locked>>,
+        key: Key,
+        slot: usize,
+        steps: Steps,
+    ) -> Item<R>
+        ensures { result ≡ new_place key }
+    {
+        Item {
+            rt,
+            shared,
+            key,
+            next_child: 0,
+            slot,
+            steps,
+        }
+    }
+
+    /// Begins the progress of the item, and sets its step to 0. Without a bound and a unit the item
+    /// has no progress. Nothing happens if the item's task is gone.
+    pub fn init(&self, max: Option<Step>, unit: Option<Unit>) {
+        let mut locked = self.shared.lock(&self.rt);
+        if locked.init(self.key, self.slot, max, unit) {
+            self.steps.set(0);
+        }
+    }
+
+    /// Sets the name of the item. Nothing happens if the item's task is gone.
+    ///
+    /// # Errors
+    ///
+    /// `Memory`, if there is no memory for the name. Nothing has changed then.
+    pub fn set_name(&self, alloc: Global, name: &str) -> Result<(), Refusal>
+        ensures { IfErr result (λ e. e ≡ Refusal.Memory) }
+    {
+        self.shared
+            .lock(&self.rt)
+            .table
+            .set_name(alloc, self.key, name)
+    }
+
+    /// Returns a copy of the item's name, or `None` if the item's task is gone.
+    ///
+    /// # Errors
+    ///
+    /// `Memory`, if there is no memory for the copy.
+    pub fn name(&self, alloc: Global) -> Result<Option<String>, Refusal>
+        ensures { IfErr result (λ e. e ≡ Refusal.Memory) }
+    {
+        self.shared.lock(&self.rt).name(alloc, self.key)
+    }
+
+    /// Returns the identifier of the item, or `UNKNOWN` if the item's task is gone.
+    pub fn id(&self) -> Id {
+        self.shared.lock(&self.rt).table.id(self.key)
+    }
+
+    /// Returns the bound of the item's progress, if it has progress and a bound.
+    pub fn max(&self) -> Option<Step> {
+        self.shared.lock(&self.rt).table.max(self.key)
+    }
+
+    /// Returns the unit of the item's progress, if it has progress and a unit.
+    pub fn unit(&self) -> Option<Unit> {
+        self.shared.lock(&self.rt).table.unit(self.key)
+    }
+
+    /// Sets the bound of the item's progress, if it has progress, and returns the bound before.
+    pub fn set_max(&self, max: Option<Step>) -> Option<Step> {
+        self.shared.lock(&self.rt).table.set_max(self.key, max)
+    }
+
+    /// Sets the state of the item's progress, if it has progress: it can't go on, and can't be
+    /// interrupted. `eta` is the moment at which it is expected to go on, if known.
+    pub fn blocked(&self, reason: &'static str, eta: Option<Moment>) {
+        self.set_state(State::Blocked(reason, eta));
+    }
+
+    /// Sets the state of the item's progress, if it has progress: it has stopped, and can be
+    /// interrupted. `eta` is the moment at which it is expected to go on, if known.
+    pub fn halted(&self, reason: &'static str, eta: Option<Moment>) {
+        self.set_state(State::Halted(reason, eta));
+    }
+
+    /// Sets the state of the item's progress, if it has progress: it is running.
+    pub fn running(&self) {
+        self.set_state(State::Running);
+    }
+
+    fn set_state(&self, state: State) {
+        self.shared.lock(&self.rt).table.set_state(self.key, state);
+    }
+
+    /// Sets the step of the item, without the lock. It changes also before `init`.
+    pub fn set(&self, step: Step) {
+        self.steps.set(step);
+    }
+
+    /// Adds `step` to the step of the item, without the lock. A sum past 2^64 - 1 starts again
+    /// from 0.
+    pub fn inc_by(&self, step: Step) {
+        self.steps.inc_by(step);
+    }
+
+    /// Adds 1 to the step of the item, without the lock. The step after 2^64 - 1 is 0.
+    pub fn inc(&self) {
+        self.steps.inc();
+    }
+
+    /// Returns the step of the item, without the lock. It is always some.
+    pub fn step(&self) -> Option<Step>
+        ensures { is_some result ≡ true }
+    {
+        Some(self.steps.step())
+    }
+
+    /// Returns the item's counter, whose calls don't wait.
+    pub fn steps(&self) -> &Steps {
+        &self.steps
+    }
+
+    /// Returns one more owner of the item's counter.
+    ///
+    /// # Errors
+    ///
+    /// `Memory`, if the counter can't have one more owner.
+    pub fn counter(&self) -> Result<StepShared, Refusal>
+        ensures { IfErr result (λ e. e ≡ Refusal.Memory) }
+    {
+        self.steps.counter()
+    }
+
+    /// Adds an item below this one. Below the sixth level it takes the place of a sibling.
+    ///
+    /// # Errors
+    ///
+    /// `Memory`, if there is no memory for it. No child number is used up then.
+    pub fn add_child(&mut self, alloc: Global, name: &str) -> Result<Item<R>, Refusal>
+        ensures child { IfOk result (λ child. child ≡ new_place (next_path self.old)) }
+        ensures ok { OnOk result (self.new ≡ with_child self.old) }
+        ensures err { OnErr result (self.new ≡ self.old) }
+        ensures reason { IfErr result (λ e. e ≡ Refusal.Memory) }
+    {
+        self.add_child_with_id(alloc, name, UNKNOWN)
+    }
+
+    /// Adds an item with an identifier below this one. Below the sixth level it takes the place of
+    /// a sibling.
+    ///
+    /// # Errors
+    ///
+    /// `Memory`, if there is no memory for it. No child number is used up then.
+    pub fn add_child_with_id(
+        &mut self,
+        alloc: Global,
+        name: &str,
+        id: Id,
+    ) -> Result<Item<R>, Refusal>
+        ensures child { IfOk result (λ child. child ≡ new_place (next_path self.old)) }
+        ensures ok { OnOk result (self.new ≡ with_child self.old) }
+        ensures err { OnErr result (self.new ≡ self.old) }
+        ensures reason { IfErr result (λ e. e ≡ Refusal.Memory) }
+    {
+        let rt = self.rt.clone()?;
+        let shared = Arc::try_clone(&self.shared)?;
+        let key = self.key.add_child(self.next_child);
+        let (slot, steps) = self.shared.lock(&self.rt).insert(alloc, key, name, id)?;
+        self.next_child = self.next_child.wrapping_add(1);
+        Ok(Item::new(rt, shared, key, slot, steps))
+    }
+
+    /// Sends a message of the item. Its origin is the item's name, or empty if the item's task is
+    /// gone.
+    ///
+    /// # Errors
+    ///
+    /// `TooManyMessages`, if 2^64 - 1 messages were sent already. `Memory`, if there is no memory
+    /// for it.
+    pub fn message(
+        &self,
+        alloc: Global,
+        at: Moment,
+        level: MessageLevel,
+        message: &str,
+    ) -> Result<(), Refusal>
+        ensures { IfErr result (λ e. (e ≡ Refusal.Memory) ⊎ (e ≡ Refusal.TooManyMessages)) }
+    {
+        self.shared
+            .lock(&self.rt)
+            .message(alloc, self.key, at, level, message)
+    }
+
+    /// Sends a message that the task is done, at the level `Success`.
+    ///
+    /// # Errors
+    ///
+    /// As `message`.
+    pub fn done(&mut self, alloc: Global, at: Moment, message: &str) -> Result<(), Refusal>
+        ensures kept { self.new ≡ self.old }
+        ensures err { IfErr result (λ e. (e ≡ Refusal.Memory) ⊎ (e ≡ Refusal.TooManyMessages)) }
+    {
+        self.message(alloc, at, MessageLevel::Success, message)
+    }
+
+    /// Sends a message that the task has failed, at the level `Failure`.
+    ///
+    /// # Errors
+    ///
+    /// As `message`.
+    pub fn fail(&mut self, alloc: Global, at: Moment, message: &str) -> Result<(), Refusal>
+        ensures kept { self.new ≡ self.old }
+        ensures err { IfErr result (λ e. (e ≡ Refusal.Memory) ⊎ (e ≡ Refusal.TooManyMessages)) }
+    {
+        self.message(alloc, at, MessageLevel::Failure, message)
+    }
+
+    /// Sends a message with information about the task, at the level `Info`.
+    ///
+    /// # Errors
+    ///
+    /// As `message`.
+    pub fn info(&mut self, alloc: Global, at: Moment, message: &str) -> Result<(), Refusal>
+        ensures kept { self.new ≡ self.old }
+        ensures err { IfErr result (λ e. (e ≡ Refusal.Memory) ⊎ (e ≡ Refusal.TooManyMessages)) }
+    {
+        self.message(alloc, at, MessageLevel::Info, message)
+    }
+}
+
+impl<R: Wait + Clone + Drop> fmt::Debug for Item<R> {
+    /// Writes the key and the step.
+    fn fmt<W: fmt::Write>(&self, f: &mut fmt::Formatter<W>) -> fmt::Result {
+        f.debug_struct("Item")
+            .field("key", &self.key)
+            .field("step", &self.steps.step())
+            .finish_non_exhaustive()
+    }
+}
+
+impl<R: Wait + Clone + Drop> Drop for Item<R> {
+    /// Removes the item's task.
+    fn drop(self) {
+        self.shared.lock(&self.rt).remove(self.slot);
+        let Item {
+            rt: _,
+            shared: _,
+            key: _,
+            next_child: _,
+            slot: _,
+            steps: _,
+        } = self;
+    }
+}

@@ -1,0 +1,304 @@
+//! Owners of the tree.
+ghost use Rattle.std.specs.Prelude.{◌≡◌, ◌+◌, ◌<◌, ◌⊎◌, ◌↔◌, ℕ, [], Err, not, nat_eq, is_some, IfOk, IfErr, IfSome, OnOk, OnErr};
+ghost use Rattle.prodash_base.specs.Adjacency.{IsAscending, paths_of};
+ghost use Rattle.prodash_base.specs.Path.{child, child_limit};
+ghost use Rattle.prodash.specs.Items.{new_place};
+
+#[cfg(test)]
+mod tests;
+
+use crate::messages::{Message, MessageCopyState};
+use crate::progress::{Id, Row, UNKNOWN};
+use crate::tree::item::Item;
+use crate::tree::locked::Locked;
+use prodash_base::Refusal;
+use std::alloc::Global;
+use std::sync::{Arc, Mutex, Wait};
+
+/// Options for a tree.
+#[derive(Clone, Copy, Debug)]
+pub struct Options {
+    /// The expected number of tasks. No memory is reserved for them.
+    pub initial_capacity: usize,
+    /// The greatest number of messages that are kept.
+    pub message_buffer_capacity: usize,
+}
+
+impl Default for Options {
+    /// Returns options for 100 tasks and 20 messages.
+    fn default() -> Options
+        ensures { result ≡ record { initial_capacity = 100; message_buffer_capacity = 20 } }
+    {
+        Options {
+            initial_capacity: 100,
+            message_buffer_capacity: 20,
+        }
+    }
+}
+
+impl Options {
+    /// Returns a tree with nothing but its root.
+    ///
+    /// # Errors
+    ///
+    /// `Memory`, if there is no memory for it.
+    pub fn create<R: Wait + Clone + Drop>(self, rt: R, alloc: Global) -> Result<Root<R>, Refusal>
+        ensures { IfErr result (λ e. e ≡ Refusal.Memory) }
+    {
+        let locked = Locked::new(alloc, self.message_buffer_capacity)?;
+        let shared = Arc::new(alloc, Mutex::new(locked))?;
+        Ok(Root { rt, shared })
+    }
+}
+
+/// An owner of the tree, which threads share. The tree is behind one lock: all calls but those on
+/// counters may wait for it.
+///
+/// ```rust
+/// let root = Options::default().create(rt, alloc)?;
+/// let mut item = root.add_child(alloc, "task")?;
+/// item.init(Some(10), None);
+/// item.set(3);
+/// item.info(alloc, now, "three are done")?;
+/// let mut rows = Vec::new(alloc);
+/// root.sorted_snapshot(alloc, &mut rows)?;
+/// ```
+pub struct Root<R: Wait + Clone + Drop> {
+    rt: R,
+    shared: Arc<Mutex<Locked>>,
+}
+
+impl<R: Wait + Clone + Drop> Root<R> {
+    /// Returns a tree with nothing but its root, and the default options.
+    ///
+    /// # Errors
+    ///
+    /// `Memory`, if there is no memory for it.
+    pub fn new(rt: R, alloc: Global) -> Result<Root<R>, Refusal>
+        ensures { IfErr result (λ e. e ≡ Refusal.Memory) }
+    {
+        Options::default().create(rt, alloc)
+    }
+
+    /// Adds an item below the root.
+    ///
+    /// # Errors
+    ///
+    /// `Memory`, if there is no memory for it. No child number is used up then.
+    pub fn add_child(&self, alloc: Global, name: &str) -> Result<Item<R>, Refusal>
+        ensures ok { IfOk result (λ item. (n : ℕ) × (n < child_limit)
+            × (item ≡ new_place (child [] n))) }
+        ensures err { IfErr result (λ e. e ≡ Refusal.Memory) }
+    {
+        self.add_child_with_id(alloc, name, UNKNOWN)
+    }
+
+    /// Adds an item with an identifier below the root.
+    ///
+    /// # Errors
+    ///
+    /// `Memory`, if there is no memory for it. No child number is used up then.
+    pub fn add_child_with_id(&self, alloc: Global, name: &str, id: Id) -> Result<Item<R>, Refusal>
+        ensures ok { IfOk result (λ item. (n : ℕ) × (n < child_limit)
+            × (item ≡ new_place (child [] n))) }
+        ensures err { IfErr result (λ e. e ≡ Refusal.Memory) }
+    {
+        let rt = self.rt.clone()?;
+        let shared = Arc::try_clone(&self.shared)?;
+        let (key, slot, steps) = self.shared.lock(&self.rt).add_child(alloc, name, id)?;
+        Ok(Item::new(rt, shared, key, slot, steps))
+    }
+
+    /// Returns the number of tasks. Another thread may change it at any time.
+    pub fn num_tasks(&self) -> usize {
+        self.shared.lock(&self.rt).table.len()
+    }
+
+    /// Returns the most messages that the tree keeps.
+    pub fn messages_capacity(&self) -> usize {
+        self.shared.lock(&self.rt).ring.capacity()
+    }
+
+    /// Replaces the contents of `out` with the rows, in ascending order of their keys, each key
+    /// once.
+    ///
+    /// # Errors
+    ///
+    /// `Memory`, if there is no memory for the rows; then `out` stays as it was.
+    pub fn sorted_snapshot(&self, alloc: Global, out: &mut Vec<Row>) -> Result<(), Refusal>
+        ensures ok { OnOk result (IsAscending (paths_of out.new.items)) }
+        ensures err { OnErr result (out.new.items ≡ out.old.items) }
+        ensures reason { IfErr result (λ e. e ≡ Refusal.Memory) }
+    {
+        self.shared.lock(&self.rt).rows(alloc, out)
+    }
+
+    /// Replaces the contents of `out` with the messages that are kept, the oldest first.
+    ///
+    /// # Errors
+    ///
+    /// `Memory`, if there is no memory for the messages; then `out` stays as it was.
+    pub fn copy_messages(&self, alloc: Global, out: &mut Vec<Message>) -> Result<(), Refusal>
+        ensures err { OnErr result (out.new.items ≡ out.old.items) }
+        ensures reason { IfErr result (λ e. e ≡ Refusal.Memory) }
+    {
+        self.shared.lock(&self.rt).ring.copy_all(alloc, out)
+    }
+
+    /// Replaces the contents of `out` with the messages that are kept and were sent since the copy
+    /// that returned `previous`, the oldest first, or with all that are kept if it is `None`.
+    /// Returns the state for the next copy.
+    ///
+    /// # Errors
+    ///
+    /// `Memory`, if there is no memory for the messages; then `out` stays as it was.
+    pub fn copy_new_messages(
+        &self,
+        alloc: Global,
+        out: &mut Vec<Message>,
+        previous: Option<MessageCopyState>,
+    ) -> Result<MessageCopyState, Refusal>
+        ensures err { OnErr result (out.new.items ≡ out.old.items) }
+        ensures reason { IfErr result (λ e. e ≡ Refusal.Memory) }
+    {
+        self.shared
+            .lock(&self.rt)
+            .ring
+            .copy_new(alloc, out, previous)
+    }
+
+    /// Does what `sorted_snapshot` and `copy_new_messages` do, with nothing between them.
+    ///
+    /// # Errors
+    ///
+    /// `Memory`, if there is no memory for the copies; then `rows` and `messages` stay as they
+    /// were.
+    pub fn snapshot_and_new_messages(
+        &self,
+        alloc: Global,
+        rows: &mut Vec<Row>,
+        messages: &mut Vec<Message>,
+        previous: Option<MessageCopyState>,
+    ) -> Result<MessageCopyState, Refusal>
+        ensures ok { OnOk result (IsAscending (paths_of rows.new.items)) }
+        ensures err_rows { OnErr result (rows.new.items ≡ rows.old.items) }
+        ensures err_messages { OnErr result (messages.new.items ≡ messages.old.items) }
+        ensures reason { IfErr result (λ e. e ≡ Refusal.Memory) }
+    {
+        self.shared
+            .lock(&self.rt)
+            .rows_and_new_messages(alloc, rows, messages, previous)
+    }
+
+    /// Returns an owner of a copy of the tree, with the same tasks, messages and capacity. Its
+    /// counters are its own, at the same steps, and it has no items.
+    ///
+    /// # Errors
+    ///
+    /// `Memory`, if there is no memory for the copy.
+    pub fn deep_clone(&self, alloc: Global) -> Result<Root<R>, Refusal>
+        ensures { IfErr result (λ e. e ≡ Refusal.Memory) }
+    {
+        let rt = self.rt.clone()?;
+        let copy = self.shared.lock(&self.rt).deep_clone(alloc)?;
+        let shared = Arc::new(alloc, Mutex::new(copy))?;
+        Ok(Root { rt, shared })
+    }
+
+    /// Returns a handle that finds the tree again as long as it has an owner.
+    ///
+    /// # Errors
+    ///
+    /// `Memory`, if the tree or its runtime can't have one more holder.
+    pub fn downgrade(&self) -> Result<WeakHandle<R>, Refusal>
+        ensures { IfErr result (λ e. e ≡ Refusal.Memory) }
+    {
+        Ok(WeakHandle {
+            rt: self.rt.clone()?,
+            shared: Arc::try_clone(&self.shared)?,
+        })
+    }
+
+    /// Returns one more owner of the tree.
+    ///
+    /// # Errors
+    ///
+    /// `TooManyHandles`, if there are 2^64 - 1 owners. `Memory`, if the tree or its runtime can't
+    /// have one more holder.
+    pub fn clone(&self) -> Result<Root<R>, Refusal>
+        ensures { IfErr result (λ e. (e ≡ Refusal.Memory) ⊎ (e ≡ Refusal.TooManyHandles)) }
+    {
+        let mut locked = self.shared.lock(&self.rt);
+        one_more_owner(&self.rt, &self.shared, &mut locked)
+    }
+}
+
+/// A handle of a tree that is no owner: it finds the tree again as long as that has an owner. Items
+/// don't count as owners.
+#[derive(Drop)]
+pub struct WeakHandle<R: Wait + Clone + Drop> {
+    rt: R,
+    shared: Arc<Mutex<Locked>>,
+}
+
+impl<R: Wait + Clone + Drop> WeakHandle<R> {
+    /// Returns one more owner of the tree, or `None` if it has none.
+    ///
+    /// # Errors
+    ///
+    /// `TooManyHandles`, if there are 2^64 - 1 owners. `Memory`, if the tree or its runtime can't
+    /// have one more holder.
+    pub fn upgrade(&self) -> Result<Option<Root<R>>, Refusal>
+        ensures { IfErr result (λ e. (e ≡ Refusal.Memory) ⊎ (e ≡ Refusal.TooManyHandles)) }
+    {
+        let mut locked = self.shared.lock(&self.rt);
+        upgraded(&self.rt, &self.shared, &mut locked)
+    }
+}
+
+/// Returns one more owner of a tree, and counts it.
+fn one_more_owner<R: Wait + Clone + Drop>(
+    rt: &R,
+    shared: &Arc<Mutex<Locked>>,
+    locked: &mut Locked,
+) -> Result<Root<R>, Refusal>
+    ensures ok { OnOk result (locked.new.owners ≡ locked.old.owners + 1) }
+    ensures err { OnErr result (locked.new.owners ≡ locked.old.owners) }
+    ensures full { (result ≡ Err Refusal.TooManyHandles) ↔ (locked.old.owners ≡ u64.MAX) }
+    ensures reason { IfErr result (λ e. (e ≡ Refusal.Memory) ⊎ (e ≡ Refusal.TooManyHandles)) }
+{
+    if locked.owners == u64::MAX {
+        return Err(Refusal::TooManyHandles);
+    }
+    let rt = rt.clone()?;
+    let shared = Arc::try_clone(shared)?;
+    locked.owners += 1;
+    Ok(Root { rt, shared })
+}
+
+/// Returns one more owner of a tree, and counts it, or `None` if the tree has no owner.
+fn upgraded<R: Wait + Clone + Drop>(
+    rt: &R,
+    shared: &Arc<Mutex<Locked>>,
+    locked: &mut Locked,
+) -> Result<Option<Root<R>>, Refusal>
+    ensures some { IfOk result (λ root. is_some root ≡ not (nat_eq locked.old.owners 0)) }
+    ensures counts { IfOk result (λ root. IfSome root (λ _.
+        locked.new.owners ≡ locked.old.owners + 1)) }
+    ensures err { OnErr result (locked.new.owners ≡ locked.old.owners) }
+    ensures full { (result ≡ Err Refusal.TooManyHandles) ↔ (locked.old.owners ≡ u64.MAX) }
+    ensures reason { IfErr result (λ e. (e ≡ Refusal.Memory) ⊎ (e ≡ Refusal.TooManyHandles)) }
+{
+    if locked.owners == 0 {
+        return Ok(None);
+    }
+    Ok(Some(one_more_owner(rt, shared, locked)?))
+}
+
+impl<R: Wait + Clone + Drop> Drop for Root<R> {
+    /// Leaves the tree one owner fewer.
+    fn drop(self) {
+        self.shared.lock(&self.rt).remove_owner();
+        let Root { rt: _, shared: _ } = self;
+    }
+}
