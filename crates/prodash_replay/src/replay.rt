@@ -134,8 +134,15 @@ fn drawn(alloc: Global, dimensions: (u16, u16), events: &[Event]) -> Result<Vec<
     let options = SessionOptions {
         root: RootOptions::default(),
         draw: draw::Options {
+            level_filter: None,
             terminal_dimensions: dimensions,
+            keep_running_if_progress_is_empty: true,
+            output_is_terminal: true,
+            colored: false,
+            timestamp: false,
+            hide_cursor: false,
         },
+        throughput: true,
     };
     let mut screen = MemoryScreen::new(alloc, 0)?;
     let replies = run(alloc, &options, events, &mut screen)?;
