@@ -1,6 +1,6 @@
 ghost use Rattle.prodash_base.specs.Adjacency.{IsAscending, paths_of};
 
-use crate::fixtures::{key_at, row};
+use crate::fixtures::{assert_same, key_at, row};
 use prodash::progress::Row;
 use prodash::progress::key::SiblingLocation::{
     self, Above, AboveAndBelow as Both, Below, NotFound as No,
@@ -39,28 +39,28 @@ const DEEP: &[&[u16]] = &[
 /// The keys of rows, the index of one, on which sides it and its ancestors have siblings, and the
 /// highest level at which they do.
 #[rattlefmt::skip]
-const LOCATIONS: [(&[&[u16]], usize, [SiblingLocation; 6], Level); 21] = [
-    (TASKS, 0, [Both, No, No, No, No, No], 1),
-    (TASKS, 1, [Both, Both, No, No, No, No], 2),
-    (TASKS, 2, [Both, Above, No, No, No, No], 2),
-    (TASKS, 3, [Above, No, No, No, No, No], 1),
-    (ORPHAN, 0, [No, No, No, No, No, No], 0),
-    (ORPHANS, 0, [No, Below, No, No, No, No], 2),
-    (ORPHANS, 1, [No, Above, No, No, No, No], 2),
-    (ROOT, 0, [No, No, No, No, No, No], 0),
-    (ROOT, 1, [Above, No, No, No, No, No], 1),
-    (PAST_ORPHANS, 0, [Both, Below, No, No, No, No], 2),
-    (PAST_ORPHANS, 1, [Both, Both, Below, No, No, No], 3),
-    (PAST_ORPHANS, 2, [Both, Both, Above, No, No, No], 3),
-    (PAST_ORPHANS, 3, [Both, Both, No, No, No, No], 2),
-    (PAST_ORPHANS, 4, [Both, Above, No, No, No, No], 2),
-    (PAST_ORPHANS, 5, [Both, No, No, No, No, No], 1),
-    (PAST_ORPHANS, 6, [Above, No, No, No, No, No], 1),
-    (DEEP, 0, [Both, No, No, No, No, No], 1),
-    (DEEP, 1, [Both, No, No, No, No, Both], 6),
-    (DEEP, 2, [Both, No, No, No, No, Above], 6),
-    (DEEP, 3, [Both, No, No, No, No, No], 1),
-    (DEEP, 4, [Above, No, No, No, No, No], 1),
+const LOCATIONS: [(&[&[u16]], usize, Adjacency, Level); 21] = [
+    (TASKS, 0, Adjacency(Both, No, No, No, No, No), 1),
+    (TASKS, 1, Adjacency(Both, Both, No, No, No, No), 2),
+    (TASKS, 2, Adjacency(Both, Above, No, No, No, No), 2),
+    (TASKS, 3, Adjacency(Above, No, No, No, No, No), 1),
+    (ORPHAN, 0, Adjacency(No, No, No, No, No, No), 0),
+    (ORPHANS, 0, Adjacency(No, Below, No, No, No, No), 2),
+    (ORPHANS, 1, Adjacency(No, Above, No, No, No, No), 2),
+    (ROOT, 0, Adjacency(No, No, No, No, No, No), 0),
+    (ROOT, 1, Adjacency(Above, No, No, No, No, No), 1),
+    (PAST_ORPHANS, 0, Adjacency(Both, Below, No, No, No, No), 2),
+    (PAST_ORPHANS, 1, Adjacency(Both, Both, Below, No, No, No), 3),
+    (PAST_ORPHANS, 2, Adjacency(Both, Both, Above, No, No, No), 3),
+    (PAST_ORPHANS, 3, Adjacency(Both, Both, No, No, No, No), 2),
+    (PAST_ORPHANS, 4, Adjacency(Both, Above, No, No, No, No), 2),
+    (PAST_ORPHANS, 5, Adjacency(Both, No, No, No, No, No), 1),
+    (PAST_ORPHANS, 6, Adjacency(Above, No, No, No, No, No), 1),
+    (DEEP, 0, Adjacency(Both, No, No, No, No, No), 1),
+    (DEEP, 1, Adjacency(Both, No, No, No, No, Both), 6),
+    (DEEP, 2, Adjacency(Both, No, No, No, No, Above), 6),
+    (DEEP, 3, Adjacency(Both, No, No, No, No, No), 1),
+    (DEEP, 4, Adjacency(Above, No, No, No, No, No), 1),
 ];
 
 /// The key of each row is less than that of the next.
@@ -73,7 +73,7 @@ pub(crate) fn assert_sorted(rt: &impl Abort, rows: &[Row])
 }
 
 /// Rows without names at these keys.
-fn rows_at(alloc: Global, keys: &[&[u16]]) -> Result<Vec<Row>, AllocError> {
+pub(crate) fn rows_at(alloc: Global, keys: &[&[u16]]) -> Result<Vec<Row>, AllocError> {
     let mut rows = Vec::new(alloc);
     for numbers in keys {
         rows.push(row(alloc, key_at(numbers), "", None)?)?;
@@ -81,21 +81,24 @@ fn rows_at(alloc: Global, keys: &[&[u16]]) -> Result<Vec<Row>, AllocError> {
     Ok(rows)
 }
 
+/// The neighbours of the row at an index.
+fn adjacency_at(
+    rt: &impl Abort,
+    alloc: Global,
+    keys: &[&[u16]],
+    index: usize,
+) -> Result<Adjacency, AllocError> {
+    let rows = rows_at(alloc, keys)?;
+    assert_sorted(rt, &rows);
+    assert!(rt; index < rows.len());
+    Ok(Key::adjacency(&rows, index))
+}
+
 #[test]
 fn neighbours_are_found_past_orphans(rt: HostRuntime) -> Result<(), Fail> {
-    for (keys, index, want, level) in LOCATIONS {
-        let rows = rows_at(rt.alloc(), keys)?;
-        let rows = rows.as_slice();
-        assert_sorted(&rt, rows);
-        assert!(rt; index < rows.len());
-        let adjacency = Key::adjacency(rows, index);
-        let [a, b, c, d, e, f] = want;
-        assert_eq!(rt;
-            adjacency,
-            Adjacency(a, b, c, d, e, f),
-            "of {index} in {keys:?}"
-        );
-        assert_eq!(rt; adjacency.level(), level, "of {index} in {keys:?}");
+    for (keys, index, want, level) in &LOCATIONS {
+        let got = adjacency_at(&rt, rt.alloc(), keys, *index)?;
+        assert_same(&rt, (got, got.level()), (*want, *level), (*index, *keys));
     }
     Ok(())
 }
@@ -103,18 +106,22 @@ fn neighbours_are_found_past_orphans(rt: HostRuntime) -> Result<(), Fail> {
 #[test]
 fn locations_are_read_and_written_by_level(rt: HostRuntime) {
     let mut adjacency = Adjacency::default();
-    assert_eq!(rt; adjacency.level(), 0);
+    assert_same(&rt, adjacency.level(), 0, "no location");
     adjacency[2] = Below;
-    assert_eq!(rt; adjacency, Adjacency(No, Below, No, No, No, No));
+    assert_same(&rt, adjacency, Adjacency(No, Below, No, No, No, No), "one");
     if let Some(location) = adjacency.get_mut(6) {
         *location = Both;
     }
-    assert_eq!(rt; adjacency, Adjacency(No, Below, No, No, No, Both));
-    assert_eq!(rt; adjacency[2], Below);
-    assert_eq!(rt; adjacency.get(6), Some(&Both));
-    assert_eq!(rt; adjacency.get(0), None);
-    assert_eq!(rt; adjacency.get(7), None);
-    assert!(rt; adjacency.get_mut(0).is_none());
-    assert!(rt; adjacency.get_mut(7).is_none());
+    assert_same(
+        &rt,
+        adjacency,
+        Adjacency(No, Below, No, No, No, Both),
+        "both",
+    );
+    assert_same(&rt, adjacency[2], Below, 2);
+    for (level, want) in [(6, Some(Both)), (0, None), (7, None)] {
+        assert_same(&rt, adjacency.get(level).copied(), want, level);
+    }
+    assert!(rt; adjacency.get_mut(0).is_none() && adjacency.get_mut(7).is_none());
     assert!(rt; Above < Below && Below < Both && Both < No);
 }

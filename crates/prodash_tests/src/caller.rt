@@ -22,7 +22,8 @@ pub fn show_task<S: Screen>(alloc: Global, screen: &mut S) -> Result<(), Refusal
         },
         Event::Init {
             item: 1,
-            max: Some(10)
+            max: Some(10),
+            unit: None
         },
         Event::Set { item: 1, step: 3 },
         Event::Tick { at: 0, show: true },
@@ -30,8 +31,15 @@ pub fn show_task<S: Screen>(alloc: Global, screen: &mut S) -> Result<(), Refusal
     let options = SessionOptions {
         root: RootOptions::default(),
         draw: draw::Options {
+            level_filter: None,
             terminal_dimensions: (40, 20),
+            keep_running_if_progress_is_empty: true,
+            output_is_terminal: true,
+            colored: false,
+            timestamp: false,
+            hide_cursor: false,
         },
+        throughput: false,
     };
     run(alloc, &options, &events, screen)?;
     Ok(())

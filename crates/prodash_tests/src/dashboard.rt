@@ -1,3 +1,4 @@
+use crate::fixtures::{assert_distinct, assert_same};
 use Answer::{Redraw, Skip, Stop};
 use KeyCode::{Char, Esc, Other};
 use prodash::render::tui::{
@@ -5,6 +6,7 @@ use prodash::render::tui::{
     VERTICAL_LINE,
 };
 use std::alloc::{AllocError, Global};
+use std::process::Abort;
 use std::test::Fail;
 
 /// A key without control, one with control, and one that is released.
@@ -82,23 +84,23 @@ fn switches(state: &State) -> [bool; 4] {
     ]
 }
 
+fn offsets(state: &State) -> (u16, u16) {
+    (state.task_offset, state.message_offset)
+}
+
 #[test]
 fn keys_scroll_toggle_and_interrupt(rt: HostRuntime) -> Result<(), Fail> {
-    for (code, control, offsets, on, answer) in KEYS {
-        let mut state = scrolled(rt.alloc(), 65530, 5)?;
-        let key = Key {
-            code,
-            control,
-            release: false,
+    for (code, control, want, on, answer) in &KEYS {
+        let key = if *control {
+            with_control(*code)
+        } else {
+            pressed(*code)
         };
-        assert_eq!(rt; state.handle(Event::Input(key)), answer, "{key:?}");
-        assert_eq!(rt;
-            (state.task_offset, state.message_offset),
-            offsets,
-            "{key:?}"
-        );
-        assert_eq!(rt; switches(&state), on, "{key:?}");
-        assert_eq!(rt; state.interrupt_mode, InterruptMode::Instantly, "{key:?}");
+        let mut state = scrolled(rt.alloc(), 65530, 5)?;
+        assert_same(&rt, state.handle(Event::Input(key)), *answer, key);
+        assert_same(&rt, offsets(&state), *want, key);
+        assert_same(&rt, switches(&state), *on, key);
+        assert_same(&rt, state.interrupt_mode, InterruptMode::Instantly, key);
     }
     Ok(())
 }
@@ -144,19 +146,25 @@ fn event_of(sent: Sent) -> Event {
     }
 }
 
+/// A new dashboard to which all this was sent.
+fn after(
+    rt: &impl Abort,
+    alloc: Global,
+    run: &'static [(Sent, Answer)],
+) -> Result<State, AllocError> {
+    let mut state = scrolled(alloc, 0, 0)?;
+    for (sent, answer) in run {
+        assert_same(rt, state.handle(event_of(*sent)), *answer, (*sent, run));
+    }
+    Ok(state)
+}
+
 #[test]
 fn deferred_requests_wait(rt: HostRuntime) -> Result<(), Fail> {
-    for (run, mode) in RUNS {
-        let mut state = scrolled(rt.alloc(), 0, 0)?;
-        for (sent, answer) in run {
-            assert_eq!(rt;
-                state.handle(event_of(*sent)),
-                *answer,
-                "{sent:?} of {run:?}"
-            );
-        }
-        assert_eq!(rt; state.interrupt_mode, mode, "after {run:?}");
-        assert_eq!(rt; switches(&state), OFF, "after {run:?}");
+    for (run, mode) in &RUNS {
+        let state = after(&rt, rt.alloc(), run)?;
+        assert_same(&rt, state.interrupt_mode, *mode, *run);
+        assert_same(&rt, switches(&state), OFF, *run);
     }
     Ok(())
 }
@@ -177,15 +185,11 @@ const ENDS: [(char, (u16, u16), (u16, u16)); 9] = [
 
 #[test]
 fn offsets_stop_at_their_ends(rt: HostRuntime) -> Result<(), Fail> {
-    for (letter, before, after) in ENDS {
+    for (letter, before, after) in &ENDS {
         let mut state = scrolled(rt.alloc(), before.0, before.1)?;
-        let answer = state.handle(Event::Input(pressed(Char(letter))));
-        assert_eq!(rt; answer, Redraw, "{letter} at {before:?}");
-        assert_eq!(rt;
-            (state.task_offset, state.message_offset),
-            after,
-            "{letter} at {before:?}"
-        );
+        let answer = state.handle(Event::Input(pressed(Char(*letter))));
+        assert_same(&rt, answer, Redraw, (*letter, *before));
+        assert_same(&rt, offsets(&state), *after, (*letter, *before));
     }
     Ok(())
 }
@@ -194,9 +198,9 @@ fn offsets_stop_at_their_ends(rt: HostRuntime) -> Result<(), Fail> {
 fn titles_sizes_and_information_are_stored(rt: HostRuntime) -> Result<(), Fail> {
     let alloc = rt.alloc();
     let mut state = State::new(alloc, String::from_str(alloc, "first")?);
-    assert_eq!(rt; state.title.as_str(), "first");
-    assert_eq!(rt; state.window_size, None);
-    assert_eq!(rt; state.information.len(), 0);
+    assert_same(&rt, state.title.as_str(), "first", "title");
+    assert_same(&rt, state.window_size, None, "size");
+    assert_same(&rt, state.information.len(), 0, "information");
     let size = Rect {
         x: 1,
         y: 2,
@@ -213,11 +217,16 @@ fn titles_sizes_and_information_are_stored(rt: HostRuntime) -> Result<(), Fail> 
         Event::SetInformation(lines.clone()?),
     ];
     for event in events {
-        assert_eq!(rt; state.handle(event), Redraw);
+        assert_same(&rt, state.handle(event), Redraw, "answer");
     }
-    assert_eq!(rt; state.title.as_str(), "second");
-    assert_eq!(rt; state.window_size, Some(size));
-    assert_eq!(rt; state.information.as_slice(), lines.as_slice());
+    assert_same(&rt, state.title.as_str(), "second", "title");
+    assert_same(&rt, state.window_size, Some(size), "size");
+    assert_same(
+        &rt,
+        state.information.as_slice(),
+        lines.as_slice(),
+        "information",
+    );
     Ok(())
 }
 
@@ -229,11 +238,9 @@ fn lines_are_told_apart(rt: HostRuntime) -> Result<(), Fail> {
         Line::Title(String::from_str(alloc, "b")?),
         Line::Text(String::from_str(alloc, "a")?),
     ];
-    for (i, line) in lines.iter().enumerate() {
-        for (j, other) in lines.iter().enumerate() {
-            assert_eq!(rt; line == other, i == j, "{line:?} and {other:?}");
-        }
-        assert!(rt; line.clone()? == *line, "{line:?}");
+    assert_distinct(&rt, &lines, &lines);
+    for line in &lines {
+        assert!(rt; line.clone()? == *line);
     }
     Ok(())
 }
@@ -243,25 +250,28 @@ fn a_copied_event_does_the_same(rt: HostRuntime) -> Result<(), Fail> {
     let alloc = rt.alloc();
     let event = Event::SetTitle(String::from_str(alloc, "copied")?);
     let mut state = State::new(alloc, String::from_str(alloc, "")?);
-    assert_eq!(rt; state.handle(event.clone()?), Redraw);
-    assert_eq!(rt; state.title.as_str(), "copied");
+    assert_same(&rt, state.handle(event.clone()?), Redraw, "answer");
+    assert_same(&rt, state.title.as_str(), "copied", "title");
     let shown = format!(in alloc; "{event:?} {:?}", Event::SetInterruptMode(Deferred))?;
-    assert_eq!(rt;
-        shown.as_str(),
-        "SetTitle(\"copied\") SetInterruptMode(Deferred)"
-    );
+    let want = "SetTitle(\"copied\") SetInterruptMode(Deferred)";
+    assert_same(&rt, shown.as_str(), want, "events");
     Ok(())
 }
 
 #[test]
 fn default_options(rt: HostRuntime) -> Result<(), Fail> {
     let options = Options::create(rt.alloc())?.clone()?;
-    assert_eq!(rt; options.title.as_str(), "Progress Dashboard");
-    assert_eq!(rt; options.nanoseconds_per_frame, 100_000_000);
-    assert!(rt; !options.throughput);
-    assert_eq!(rt; options.recompute_column_width_every_nth_frame, None);
-    assert_eq!(rt; options.window_size, None);
-    assert!(rt; options.stop_if_progress_missing);
-    assert_eq!(rt; VERTICAL_LINE, "\u{2502}");
+    assert_same(&rt, options.title.as_str(), "Progress Dashboard", "title");
+    assert_same(&rt, options.nanoseconds_per_frame, 100_000_000, "frames");
+    assert_same(&rt, options.throughput, false, "throughput");
+    assert_same(
+        &rt,
+        options.recompute_column_width_every_nth_frame,
+        None,
+        "columns",
+    );
+    assert_same(&rt, options.window_size, None, "size");
+    assert_same(&rt, options.stop_if_progress_missing, true, "stop");
+    assert_same(&rt, VERTICAL_LINE, "\u{2502}", "line");
     Ok(())
 }

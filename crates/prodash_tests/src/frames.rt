@@ -1,6 +1,7 @@
 use crate::fixtures::Ask::{Hide, Print, Quit, Rootless, Show};
 use crate::fixtures::{
-    Ask, Drawing, MESSAGE_FRAME, Progress, TASK_FRAME, Task, assert_draws, draw, renderer,
+    Ask, Drawing, MESSAGE_FRAME, Progress, TASK_FRAME, Task, assert_draws, assert_same, draw,
+    renderer,
 };
 use prodash::Refusal;
 use prodash::messages::MessageCopyState;
@@ -121,12 +122,11 @@ const SEEN: [(Ask, u64, Option<Refusal>); 4] = [
 fn says_what_it_saw_and_why_it_ended(rt: HostRuntime) -> Result<(), Fail> {
     let mut screen = MemoryScreen::new(rt.alloc(), 200)?;
     let mut state = renderer(rt.alloc(), (40, 20));
-    assert_eq!(rt; state.seen(), None);
-    assert_eq!(rt; state.ended(), None);
-    for (ask, seen, ended) in SEEN {
-        let _ = draw(rt.alloc(), &mut screen, &mut state, ask);
-        assert_eq!(rt; state.seen(), Some(MessageCopyState::new(seen)));
-        assert_eq!(rt; state.ended(), ended);
+    assert_same(&rt, (state.seen(), state.ended()), (None, None), "before");
+    for (ask, seen, ended) in &SEEN {
+        let _ = draw(rt.alloc(), &mut screen, &mut state, *ask);
+        let want = (Some(MessageCopyState::new(*seen)), *ended);
+        assert_same(&rt, (state.seen(), state.ended()), want, *seen);
     }
     Ok(())
 }

@@ -1,6 +1,7 @@
-use crate::fixtures::{assert_ascending, key_at};
+use crate::fixtures::{assert_ascending, assert_same, key_at};
 use prodash::progress::Key;
 use std::collections::HashMap;
+use std::process::Abort;
 use std::test::Fail;
 
 /// The numbers of the children on the way down, and the key's numbers.
@@ -13,18 +14,24 @@ const CHILDREN: [(&[u16], &[u16]); 5] = [
     (&[1, 2, 3, 4, 5, 6, 7, 8], &[1, 2, 3, 4, 5, 8]),
 ];
 
+/// The key has these numbers from level 1 on.
+fn assert_numbers(rt: &impl Abort, key: Key, numbers: &[u16]) {
+    let mut level: u8 = 0;
+    for number in numbers {
+        level = level.saturating_add(1);
+        assert!(rt; 0 < level && level <= key.level());
+        assert_same(rt, key[level], *number, level);
+    }
+}
+
 #[test]
 fn children_stay_within_six_levels(rt: HostRuntime) {
-    for (children, numbers) in CHILDREN {
+    for (children, numbers) in &CHILDREN {
         let key = key_at(children);
-        assert_eq!(rt; key.level() as usize, numbers.len(), "of {children:?}");
-        for (n, number) in numbers.iter().enumerate() {
-            let level = (n + 1).min(6) as u8;
-            assert!(rt; level <= key.level());
-            assert_eq!(rt; key[level], *number, "at level {level} of {children:?}");
-        }
+        assert_same(&rt, key.level() as usize, numbers.len(), *children);
+        assert_numbers(&rt, key, numbers);
     }
-    assert_eq!(rt; Key::max_level(), 6);
+    assert_same(&rt, Key::max_level(), 6, "levels");
 }
 
 #[test]
@@ -42,9 +49,8 @@ fn keys_are_ordered_by_their_numbers(rt: HostRuntime) -> Result<(), Fail> {
     assert_ascending(&rt, &keys);
     let mut seen = HashMap::new(rt.alloc());
     for (n, key) in keys.iter().enumerate() {
-        assert!(rt; !seen.contains_key(key), "key {n}");
-        seen.insert(*key, n)?;
-        assert_eq!(rt; seen.get(key).copied(), Some(n));
+        assert_same(&rt, seen.insert(*key, n)?, None, n);
+        assert_same(&rt, seen.get(key).copied(), Some(n), n);
     }
     Ok(())
 }
@@ -53,7 +59,6 @@ fn keys_are_ordered_by_their_numbers(rt: HostRuntime) -> Result<(), Fail> {
 fn siblings_share_their_parents(rt: HostRuntime) {
     let (key, sibling) = (key_at(&[1, 2]), key_at(&[1, 3]));
     for (level, want) in [(0, true), (1, true), (2, false), (3, false)] {
-        let shares = key.shares_parent_with(&sibling, level);
-        assert_eq!(rt; shares, want, "at level {level}");
+        assert_same(&rt, key.shares_parent_with(&sibling, level), want, level);
     }
 }

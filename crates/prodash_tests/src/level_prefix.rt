@@ -1,6 +1,10 @@
-use crate::adjacency::assert_sorted;
-use crate::fixtures::{key_at, row};
+use crate::adjacency::{assert_sorted, rows_at};
+use crate::fixtures::assert_same;
+use prodash::Refusal;
+use prodash::progress::Row;
 use prodash::render::tui::level_prefix;
+use std::alloc::Global;
+use std::process::Abort;
 use std::test::Fail;
 
 const TASKS: &[&[u16]] = &[&[], &[1], &[1, 1], &[1, 2], &[2]];
@@ -20,21 +24,26 @@ const PREFIXES: [(&[&[u16]], &[&str]); 4] = [
     (GRANDCHILD, &["├", "│ ·  "]),
 ];
 
+/// Each row has its prefix.
+fn assert_prefixes(
+    rt: &impl Abort,
+    alloc: Global,
+    rows: &[Row],
+    prefixes: &[&str],
+) -> Result<(), Refusal> {
+    assert_sorted(rt, rows);
+    for (index, want) in prefixes.iter().enumerate() {
+        assert!(rt; index < rows.len());
+        assert_same(rt, level_prefix(alloc, rows, index)?.as_str(), *want, index);
+    }
+    Ok(())
+}
+
 #[test]
 fn branches_lead_to_rows(rt: HostRuntime) -> Result<(), Fail> {
-    let alloc = rt.alloc();
-    for (keys, prefixes) in PREFIXES {
-        let mut rows = Vec::new(alloc);
-        for numbers in keys {
-            rows.push(row(alloc, key_at(numbers), "", None)?)?;
-        }
-        let rows = rows.as_slice();
-        assert_sorted(&rt, rows);
-        for (index, want) in prefixes.iter().enumerate() {
-            assert!(rt; index < rows.len());
-            let prefix = level_prefix(alloc, rows, index)?;
-            assert_eq!(rt; prefix.as_str(), *want, "of {index} in {keys:?}");
-        }
+    for (keys, prefixes) in &PREFIXES {
+        let rows = rows_at(rt.alloc(), keys)?;
+        assert_prefixes(&rt, rt.alloc(), &rows, prefixes)?;
     }
     Ok(())
 }

@@ -1,4 +1,4 @@
-use crate::fixtures::message;
+use crate::fixtures::{assert_same, message};
 use How::{All, New, Next, Since};
 use prodash::Refusal;
 use prodash::messages::{Message, MessageCopyState, MessageLevel, MessageRingBuffer};
@@ -63,7 +63,7 @@ fn copy(
         Since(pushed) => Some(MessageCopyState::new(pushed)),
     };
     let state = ring.copy_new(alloc, out, previous)?;
-    assert_eq!(rt; state.pushed(), ring.pushed());
+    assert_same(rt, state.pushed(), ring.pushed(), "pushed");
     Ok(Some(state))
 }
 
@@ -76,24 +76,45 @@ fn failures(alloc: Global, texts: &[&str]) -> Result<Vec<Message>, AllocError> {
     Ok(failures)
 }
 
+/// Pushes messages with these texts, and counts them.
+fn push(alloc: Global, ring: &mut MessageRingBuffer, texts: &[&str]) -> Result<u64, Refusal> {
+    let mut pushed: u64 = 0;
+    for text in texts {
+        ring.push_overwrite(alloc, 7, MessageLevel::Failure, "task", text)?;
+        pushed = pushed.saturating_add(1);
+    }
+    Ok(pushed)
+}
+
+fn assert_turns(
+    rt: &impl Abort,
+    alloc: Global,
+    capacity: usize,
+    turns: &'static [Turn],
+) -> Result<(), Refusal> {
+    let mut ring = MessageRingBuffer::with_capacity(alloc, capacity)?;
+    assert_same(rt, ring.capacity(), capacity, "capacity");
+    let mut out = failures(alloc, &["before"])?;
+    let mut state = None;
+    let mut pushed: u64 = 0;
+    for (pushes, how, given) in turns {
+        pushed = pushed.saturating_add(push(alloc, &mut ring, pushes)?);
+        state = copy(rt, alloc, &ring, &mut out, *how, state)?;
+        assert_same(rt, ring.pushed(), pushed, *pushes);
+        assert_same(
+            rt,
+            out.as_slice(),
+            failures(alloc, given)?.as_slice(),
+            *pushes,
+        );
+    }
+    Ok(())
+}
+
 #[test]
 fn rings_keep_the_latest_messages(rt: HostRuntime) -> Result<(), Fail> {
     for (capacity, turns) in &RINGS {
-        let mut ring = MessageRingBuffer::with_capacity(rt.alloc(), *capacity)?;
-        assert_eq!(rt; ring.capacity(), *capacity);
-        let mut out = failures(rt.alloc(), &["before"])?;
-        let mut state = None;
-        let mut pushed: u64 = 0;
-        for (pushes, how, given) in *turns {
-            for text in *pushes {
-                ring.push_overwrite(rt.alloc(), 7, MessageLevel::Failure, "task", text)?;
-                pushed = pushed.saturating_add(1);
-            }
-            state = copy(&rt, rt.alloc(), &ring, &mut out, *how, state)?;
-            let want = failures(rt.alloc(), given)?;
-            assert_eq!(rt; out.as_slice(), want.as_slice(), "of {pushes:?}");
-            assert_eq!(rt; ring.pushed(), pushed);
-        }
+        assert_turns(&rt, rt.alloc(), *capacity, turns)?;
     }
     Ok(())
 }

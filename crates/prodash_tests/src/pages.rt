@@ -1,4 +1,4 @@
-use crate::fixtures::{MESSAGE_FRAME, TASK_FRAME};
+use crate::fixtures::{MESSAGE_FRAME, TASK_FRAME, assert_same};
 use prodash::render::line::page::{Fault, Page, Sign, read, spell};
 use std::alloc::Global;
 use std::process::Abort;
@@ -62,19 +62,30 @@ fn row_text(alloc: Global, page: &Page, n: usize) -> Result<String, Fail> {
     Ok(text)
 }
 
+/// The page has these rows, each filled with blanks, and no others.
+fn assert_rows(
+    rt: &impl Abort,
+    alloc: Global,
+    page: &Page,
+    columns: u16,
+    rows: &[&str],
+) -> Result<(), Fail> {
+    assert_same(rt, page.rows(), rows.len(), "rows");
+    for (n, want) in rows.iter().enumerate() {
+        let text = row_text(alloc, page, n)?;
+        assert_same(rt, text.len(), columns as usize, n);
+        assert_same(rt, text.as_str().trim_end(), *want, n);
+    }
+    assert!(rt; page.row(rows.len()).is_none());
+    Ok(())
+}
+
 #[test]
 fn pages_show_what_is_written(rt: HostRuntime) -> Result<(), Fail> {
     for ((columns, height), parts, rows, top, cursor) in &WRITTEN {
         let page = page_after(&rt, rt.alloc(), *columns, *height, parts)?;
-        assert_eq!(rt; page.rows(), rows.len(), "of {parts:?}");
-        for (n, want) in rows.iter().enumerate() {
-            let text = row_text(rt.alloc(), &page, n)?;
-            assert_eq!(rt; text.len(), *columns as usize);
-            assert_eq!(rt; text.as_str().trim_end(), *want);
-        }
-        assert!(rt; page.row(rows.len()).is_none());
-        assert_eq!(rt; page.top(), *top, "of {parts:?}");
-        assert_eq!(rt; page.cursor(), *cursor, "of {parts:?}");
+        assert_rows(&rt, rt.alloc(), &page, *columns, rows)?;
+        assert_same(&rt, (page.top(), page.cursor()), (*top, *cursor), *parts);
     }
     Ok(())
 }
@@ -90,8 +101,13 @@ fn reads_what_signs_spell(rt: HostRuntime) -> Result<(), Fail> {
         Sign::LineFeed,
     ];
     let bytes = "a\x1b[2K\x1b[65535Aé\r\n".as_bytes();
-    assert_eq!(rt; read(rt.alloc(), bytes)?.as_slice(), signs.as_slice());
-    assert_eq!(rt; spell(rt.alloc(), &signs)?.as_slice(), bytes);
+    assert_same(
+        &rt,
+        read(rt.alloc(), bytes)?.as_slice(),
+        signs.as_slice(),
+        "signs",
+    );
+    assert_same(&rt, spell(rt.alloc(), &signs)?.as_slice(), bytes, "bytes");
     Ok(())
 }
 
@@ -109,7 +125,8 @@ const FAULTS: [(&[u8], usize); 7] = [
 
 #[test]
 fn refuses_what_no_signs_spell(rt: HostRuntime) {
-    for (bytes, end) in FAULTS {
-        assert_eq!(rt; read(rt.alloc(), bytes).err(), Some(Fault::At(end)));
+    for (bytes, end) in &FAULTS {
+        let fault = read(rt.alloc(), bytes).err();
+        assert_same(&rt, fault, Some(Fault::At(*end)), *bytes);
     }
 }

@@ -1,5 +1,6 @@
 //! Each public path of `prodash`, named once.
-use std::alloc::Global;
+use std::alloc::{AllocError, Global};
+use std::sync::Wait;
 use std::test::Fail;
 
 fn base(
@@ -11,6 +12,8 @@ fn base(
     _ring: &prodash::messages::MessageRingBuffer,
     _messages: &prodash::messages::Messages,
     _moment: prodash::time::Moment,
+    _tracker: &prodash::Throughput,
+    _same_tracker: &prodash::throughput::Throughput,
 ) {
     prodash::messages::copies_give_what_is_new();
     prodash::messages::no_push_is_given_twice();
@@ -27,10 +30,57 @@ fn progress<C>(
     _key: prodash::progress::Key,
     _same_key: prodash::progress::key::Key,
     _level: prodash::progress::key::Level,
+    _counter: &prodash::progress::AtomicStep,
+    _owner: &prodash::progress::StepShared,
     _adjacency: prodash::progress::key::Adjacency,
     _location: prodash::progress::key::SiblingLocation,
 ) -> prodash::progress::Id {
     prodash::progress::UNKNOWN
+}
+
+fn units(
+    name: &'static str,
+    mode: prodash::unit::display::Mode,
+    _bytes: prodash::unit::Bytes,
+    _duration: prodash::unit::Duration,
+    _human: prodash::unit::Human,
+    _same_human: prodash::unit::human::Human,
+    _formatter: prodash::unit::human::Formatter,
+    _range: prodash::unit::Range,
+    _location: prodash::unit::display::Location,
+    _display: &prodash::unit::display::UnitDisplay,
+    _same_unit: prodash::Unit,
+) -> [prodash::unit::Unit; 4] {
+    let label = prodash::unit::Kind::Label(name);
+    [
+        prodash::unit::label(name),
+        prodash::unit::label_and_mode(name, mode),
+        prodash::unit::dynamic(label),
+        prodash::unit::dynamic_and_mode(label, mode),
+    ]
+}
+
+fn displays<K: prodash::unit::DisplayValue>(
+    out: &mut String,
+    kind: &K,
+    throughput: prodash::unit::display::Throughput,
+) -> Result<(), prodash::Refusal> {
+    prodash::unit::display::append(out, kind, None, 3, None, Some(throughput))?;
+    prodash::unit::display::append_values(out, kind, None, 3, None, None)?;
+    prodash::unit::display::append_unit(out, kind, None, 3, None, None)
+}
+
+fn label_texts(out: &mut String) -> Result<&'static str, AllocError> {
+    prodash::unit::label_texts::display_current_value(out, 3)?;
+    prodash::unit::label_texts::separator(out)?;
+    prodash::unit::label_texts::display_upper_bound(out, 3)?;
+    prodash::unit::label_texts::display_percentage(out, 3)?;
+    let (_fraction, name) = prodash::unit::label_texts::fraction_and_time_unit(3);
+    Ok(name)
+}
+
+fn message(alloc: Global, at: prodash::time::Moment, unit: &prodash::Unit) -> Result<String, Fail> {
+    Ok(prodash::unit::throughput_message(alloc, at, at, 3, Some(unit))?)
 }
 
 fn line<S: prodash::render::line::draw::Screen>(
@@ -52,6 +102,15 @@ fn line<S: prodash::render::line::draw::Screen>(
     Ok(prodash::render::line::draw::all(alloc, screen, state, input)?)
 }
 
+fn time<C: prodash::time::Clock>(alloc: Global, clock: &C) -> Result<usize, Fail> {
+    clock.sleep(1);
+    let time = prodash::time::format_time_for_messages(alloc, clock.now())?;
+    let date = prodash::time::format_now_datetime_seconds(alloc, clock.now())?;
+    prodash::time::days_have_one_date();
+    prodash::throughput::rates_are_over_the_shortest_end();
+    Ok(prodash::time::DATE_TIME_HMS.max(time.len()).max(date.len()))
+}
+
 fn tree<C, N: prodash::tree::Counters<C>>(
     alloc: Global,
     screen: &mut prodash::render::line::draw::MemoryScreen,
@@ -67,6 +126,18 @@ fn tree<C, N: prodash::tree::Counters<C>>(
     events: &[prodash::tree::Event],
 ) -> Result<Vec<prodash::tree::Reply>, Fail> {
     Ok(prodash::tree::run(alloc, options, events, screen)?)
+}
+
+fn locked<R: Wait + Clone + Drop>(
+    _options: prodash::tree::root::Options,
+    _root: &prodash::tree::Root<R>,
+    _same_root: &prodash::tree::root::Root<R>,
+    _weak: &prodash::tree::WeakHandle<R>,
+    _same_weak: &prodash::tree::root::WeakHandle<R>,
+    item: &prodash::tree::Item<R>,
+) -> prodash::progress::Step {
+    let steps: &prodash::tree::Steps = item.steps();
+    steps.step()
 }
 
 fn tui(

@@ -4,10 +4,11 @@ use crate::fixtures::ShortEvent::{
 };
 use crate::fixtures::ShortReply::{Done, Drawn, Ended, Made, Messages, New, Refused, Rows};
 use crate::fixtures::{
-    FakeScreen, MESSAGE_FRAME, ShortEvent, ShortReply, TASK_FRAME, event, reply,
+    FakeScreen, MESSAGE_FRAME, ShortEvent, ShortReply, TASK_FRAME, assert_same, event, reply,
 };
+use crate::options::TERMINAL;
 use prodash::Refusal;
-use prodash::render::line::draw::{self, MemoryScreen};
+use prodash::render::line::draw::MemoryScreen;
 use prodash::tree::{Event, Reply, RootOptions, Session, SessionOptions, run};
 use std::alloc::{AllocError, Global};
 use std::process::Abort;
@@ -161,29 +162,53 @@ const BREAKS: [Step; 6] = [
 ];
 
 /// 40 columns, and room for this many messages.
-fn options(message_buffer_capacity: usize) -> SessionOptions {
+pub(crate) fn options(message_buffer_capacity: usize) -> SessionOptions {
     SessionOptions {
         root: RootOptions {
             message_buffer_capacity,
             ..RootOptions::default()
         },
-        draw: draw::Options {
-            terminal_dimensions: (40, 20),
-        },
+        draw: TERMINAL,
+        throughput: false,
     }
 }
 
-/// The events, the replies to them, and the bytes that all of them write.
-fn whole(alloc: Global, steps: &[Step]) -> Result<(Vec<Event>, Vec<Reply>, Vec<u8>), AllocError> {
+fn events(alloc: Global, steps: &[Step]) -> Result<Vec<Event>, AllocError> {
     let mut events = Vec::new(alloc);
-    let mut replies = Vec::new(alloc);
-    let mut bytes = Vec::new(alloc);
-    for (short, want, written) in steps {
+    for (short, _, _) in steps {
         events.push(event(alloc, *short)?)?;
-        replies.push(reply(alloc, *want)?)?;
-        bytes.extend_from_slice(written.as_bytes())?;
     }
-    Ok((events, replies, bytes))
+    Ok(events)
+}
+
+fn replies(alloc: Global, steps: &[Step]) -> Result<Vec<Reply>, AllocError> {
+    let mut replies = Vec::new(alloc);
+    for (_, want, _) in steps {
+        replies.push(reply(alloc, *want)?)?;
+    }
+    Ok(replies)
+}
+
+/// The bytes that all steps write.
+fn written(alloc: Global, steps: &[Step]) -> Result<Vec<u8>, AllocError> {
+    let mut written = Vec::new(alloc);
+    for (_, _, bytes) in steps {
+        written.extend_from_slice(bytes.as_bytes())?;
+    }
+    Ok(written)
+}
+
+/// A run on a screen, which has these bytes after it, has the replies and the bytes of the steps.
+fn assert_ran(
+    rt: &impl Abort,
+    alloc: Global,
+    steps: &[Step],
+    got: &[Reply],
+    bytes: &[u8],
+) -> Result<(), AllocError> {
+    assert_same(rt, got, replies(alloc, steps)?.as_slice(), "replies");
+    assert_same(rt, bytes, written(alloc, steps)?.as_slice(), "bytes");
+    Ok(())
 }
 
 /// A run of the steps has their replies and bytes.
@@ -193,10 +218,9 @@ fn assert_runs(
     options: &SessionOptions,
     steps: &[Step],
 ) -> Result<(), Fail> {
-    let (events, replies, bytes) = whole(alloc, steps)?;
     let mut screen = MemoryScreen::new(alloc, 0)?;
-    assert_eq!(rt; run(alloc, options, &events, &mut screen)?, replies);
-    assert_eq!(rt; screen.bytes(), bytes.as_slice());
+    let got = run(alloc, options, &events(alloc, steps)?, &mut screen)?;
+    assert_ran(rt, alloc, steps, &got, screen.bytes())?;
     Ok(())
 }
 
@@ -204,7 +228,7 @@ fn assert_runs(
 fn the_caller_shows_a_task(rt: HostRuntime) -> Result<(), Fail> {
     let mut screen = MemoryScreen::new(rt.alloc(), 0)?;
     show_task(rt.alloc(), &mut screen)?;
-    assert_eq!(rt; screen.bytes(), TASK_FRAME.as_bytes());
+    assert_same(&rt, screen.bytes(), TASK_FRAME.as_bytes(), "bytes");
     Ok(())
 }
 
@@ -216,29 +240,42 @@ fn runs_have_replies_and_bytes(rt: HostRuntime) -> Result<(), Fail> {
     assert_runs(&rt, rt.alloc(), &options(2), &LATEST)
 }
 
+/// A session applies the event of a step on a new screen.
+fn assert_step(
+    rt: &impl Abort,
+    alloc: Global,
+    session: &mut Session,
+    step: &Step,
+) -> Result<(), Refusal> {
+    let (short, want, bytes) = *step;
+    let mut screen = MemoryScreen::new(alloc, 0)?;
+    let got = session.apply(alloc, &event(alloc, short)?, &mut screen);
+    assert_same(rt, got, reply(alloc, want)?, bytes);
+    assert_same(rt, screen.bytes(), bytes.as_bytes(), bytes);
+    Ok(())
+}
+
+fn assert_steps(rt: &impl Abort, alloc: Global, steps: &[Step]) -> Result<(), Refusal> {
+    let mut session = Session::new(alloc, &options(20))?;
+    for step in steps {
+        assert_step(rt, alloc, &mut session, step)?;
+    }
+    Ok(())
+}
+
 #[test]
 fn sessions_apply_one_event_after_another(rt: HostRuntime) -> Result<(), Fail> {
     for steps in &RUNS {
-        let mut session = Session::new(rt.alloc(), &options(20))?;
-        for (short, want, bytes) in *steps {
-            let mut screen = MemoryScreen::new(rt.alloc(), 0)?;
-            let event = event(rt.alloc(), *short)?;
-            let answer = session.apply(rt.alloc(), &event, &mut screen);
-            assert_eq!(rt; answer, reply(rt.alloc(), *want)?);
-            assert_eq!(rt; screen.bytes(), bytes.as_bytes());
-        }
+        assert_steps(&rt, rt.alloc(), steps)?;
     }
     Ok(())
 }
 
 #[test]
 fn a_broken_screen_leaves_the_tree(rt: HostRuntime) -> Result<(), Fail> {
-    let (events, replies, bytes) = whole(rt.alloc(), &BREAKS)?;
-    let mut screen = FakeScreen::new(rt.alloc(), 200, 5, true)?;
-    assert_eq!(rt;
-        run(rt.alloc(), &options(20), &events, &mut screen)?,
-        replies
-    );
-    assert_eq!(rt; screen.bytes.as_slice(), bytes.as_slice());
+    let alloc = rt.alloc();
+    let mut screen = FakeScreen::new(alloc, 200, 5, true)?;
+    let got = run(alloc, &options(20), &events(alloc, &BREAKS)?, &mut screen)?;
+    assert_ran(&rt, alloc, &BREAKS, &got, &screen.bytes)?;
     Ok(())
 }

@@ -1,7 +1,9 @@
 use crate::fixtures::Ask::{Quit, Show};
-use crate::fixtures::{Ask, FakeScreen, TASK_FRAME, draw, renderer};
+use crate::fixtures::{Ask, FakeScreen, TASK_FRAME, assert_same, draw, renderer};
 use prodash::Refusal;
 use prodash::render::line::draw::{Answer, MemoryScreen, Screen};
+use std::alloc::Global;
+use std::process::Abort;
 use std::test::Fail;
 
 #[test]
@@ -10,14 +12,14 @@ fn memory_screen_takes_all_bytes(rt: HostRuntime) -> Result<(), Fail> {
     for room in [10, 3, 0] {
         let mut screen = MemoryScreen::new(rt.alloc(), room)?;
         for _ in 0..2 {
-            assert_eq!(rt; screen.put(b"01234"), Ok(5));
-            assert_eq!(rt; screen.flush(), Ok(()));
+            assert_same(&rt, screen.put(b"01234"), Ok(5), room);
+            assert_same(&rt, screen.flush(), Ok(()), room);
         }
         assert!(rt; !screen.is_broken());
-        assert_eq!(rt; screen.bytes(), b"0123401234".as_slice());
+        assert_same(&rt, screen.bytes(), b"0123401234".as_slice(), room);
     }
     let endless = MemoryScreen::new(rt.alloc(), usize::MAX);
-    assert_eq!(rt; endless.err(), Some(Refusal::Memory));
+    assert_same(&rt, endless.err(), Some(Refusal::Memory), "endless");
     Ok(())
 }
 
@@ -31,23 +33,31 @@ const BREAKS: [(Ask, usize, bool, &str); 3] = [
     (Quit, 2, true, "\x1b["),
 ];
 
+/// A new renderer breaks the screen, which has taken these bytes then, and takes no more.
+fn assert_ends(rt: &impl Abort, alloc: Global, screen: &mut FakeScreen, first: Ask, want: &str) {
+    let mut state = renderer(alloc, (40, 24));
+    for ask in [first, SHOW_TASK, Ask::Hide(&[]), Quit] {
+        let answer = draw(alloc, screen, &mut state, ask);
+        assert_same(rt, answer, Err(Refusal::Broken), want);
+        assert_same(rt, screen.bytes.as_slice(), want.as_bytes(), want);
+    }
+    assert_same(rt, state.ended(), Some(Refusal::Broken), want);
+}
+
+/// A frame without bytes needs no screen.
+fn assert_needs_no_screen(rt: &impl Abort, alloc: Global, screen: &mut FakeScreen) {
+    let mut state = renderer(alloc, (40, 24));
+    let answer = draw(alloc, screen, &mut state, Show(&[]));
+    assert_same(rt, answer, Ok(Answer::Drawn), "a frame without bytes");
+    assert_same(rt, state.ended(), None, "a frame without bytes");
+}
+
 #[test]
 fn renderer_ends_once_its_screen_is_broken(rt: HostRuntime) -> Result<(), Fail> {
-    for (first, left, flushes, want) in BREAKS {
-        let mut screen = FakeScreen::new(rt.alloc(), 200, left, flushes)?;
-        let mut state = renderer(rt.alloc(), (40, 24));
-        for ask in [first, SHOW_TASK, Ask::Hide(&[]), Quit] {
-            let answer = draw(rt.alloc(), &mut screen, &mut state, ask);
-            assert_eq!(rt; answer, Err(Refusal::Broken));
-            assert_eq!(rt; screen.bytes.as_slice(), want.as_bytes());
-        }
-        assert_eq!(rt; state.ended(), Some(Refusal::Broken));
-
-        // a frame without bytes needs no screen
-        let mut other = renderer(rt.alloc(), (40, 24));
-        let answer = draw(rt.alloc(), &mut screen, &mut other, Show(&[]));
-        assert_eq!(rt; answer, Ok(Answer::Drawn));
-        assert_eq!(rt; other.ended(), None);
+    for (first, left, flushes, want) in &BREAKS {
+        let mut screen = FakeScreen::new(rt.alloc(), 200, *left, *flushes)?;
+        assert_ends(&rt, rt.alloc(), &mut screen, *first, want);
+        assert_needs_no_screen(&rt, rt.alloc(), &mut screen);
     }
     Ok(())
 }

@@ -2,10 +2,15 @@ ghost use Rattle.std.specs.Prelude.{◌≡◌};
 
 use crate::fixtures::ShortEvent::{Add, Init, Say, Set};
 use crate::fixtures::ShortReply::{Done, Made};
-use crate::fixtures::{ShortEvent, ShortReply, event, key_at, messages, reply, rows};
-use prodash::messages::MessageCopyState;
-use prodash::progress::{State, Step, UNKNOWN};
+use crate::fixtures::{
+    ShortEvent, ShortReply, ShortRow, assert_same, event, key_at, messages, reply, rows,
+};
+use prodash::Refusal;
+use prodash::messages::{MessageCopyState, Messages};
+use prodash::progress::{Rows, State, Step, UNKNOWN};
 use prodash::tree::{Counted, Counters, RootOptions, TreeCore, TreeState};
+use std::alloc::Global;
+use std::process::Abort;
 use std::test::Fail;
 
 /// Counters that are their own numbers.
@@ -20,6 +25,8 @@ impl Counters<u64> for OwnNumbers {
     }
 }
 
+const LEFT: [ShortRow; 2] = [(&[0], "a", None), (&[0, 1], "b", Some((3, Some(10))))];
+
 #[test]
 fn a_table_has_one_entry_for_a_key(rt: HostRuntime) -> Result<(), Fail> {
     let (a, b, c) = (key_at(&[0]), key_at(&[0, 1]), key_at(&[1]));
@@ -30,19 +37,17 @@ fn a_table_has_one_entry_for_a_key(rt: HostRuntime) -> Result<(), Fail> {
     let progress = Some(Counted {
         counter: 3,
         done_at: Some(10),
+        unit: None,
         state: State::Running,
     });
-    assert!(rt; table.init(b, progress));
-    assert!(rt; table.remove(c));
-    assert!(rt; !table.remove(c));
-    assert!(rt; !table.init(c, progress));
-    assert_eq!(rt; table.name(b), Some("b"));
-    assert_eq!(rt; table.name(c), None);
-    let want = rows(
-        rt.alloc(),
-        &[(&[0], "a", None), (&[0, 1], "b", Some((3, Some(10))))],
-    )?;
-    assert_eq!(rt; table.rows(rt.alloc(), &OwnNumbers)?, want);
+    assert_same(&rt, table.init(b, progress), true, "init b");
+    assert_same(&rt, table.remove(c), true, "remove c");
+    assert_same(&rt, table.remove(c), false, "remove c again");
+    assert_same(&rt, table.init(c, progress), false, "init c");
+    assert_same(&rt, table.name(b), Some("b"), "name of b");
+    assert_same(&rt, table.name(c), None, "name of c");
+    let want = rows(rt.alloc(), &LEFT)?;
+    assert_same(&rt, table.rows(rt.alloc(), &OwnNumbers)?, want, "rows");
     Ok(())
 }
 
@@ -56,25 +61,48 @@ const EVENTS: [(ShortEvent, ShortReply); 6] = [
     (Say(2, "y"), Done),
 ];
 
+const ROWS: [ShortRow; 2] = [(&[0], "a", None), (&[0, 0], "b", Some((3, Some(10))))];
+
+/// An event of no frame has this reply.
+fn assert_applies(
+    rt: &impl Abort,
+    alloc: Global,
+    tree: &mut TreeState,
+    short: ShortEvent,
+    want: ShortReply,
+) -> Result<(), Refusal> {
+    let event = event(alloc, short)?;
+    assert!(rt; !event.is_frame());
+    let got = tree.apply(alloc, &event)?;
+    assert_same(rt, got, reply(alloc, want)?, "reply");
+    Ok(())
+}
+
+/// A tree after all events.
+fn grown(rt: &impl Abort, alloc: Global) -> Result<TreeState, Refusal> {
+    let mut tree = TreeState::new(alloc, &RootOptions::default())?;
+    for (short, want) in &EVENTS {
+        assert_applies(rt, alloc, &mut tree, *short, *want)?;
+    }
+    Ok(tree)
+}
+
+/// What a frame sees of a tree if the one before has seen the first message.
+fn snapshot(alloc: Global, tree: &TreeState) -> Result<(Rows, Messages, MessageCopyState), Fail> {
+    let previous = Some(MessageCopyState::new(1));
+    Ok(
+        tree.snapshot_and_new_messages(alloc, previous)?
+            .ok_or("no root")?,
+    )
+}
+
 #[test]
 fn a_tree_needs_no_renderer(rt: HostRuntime) -> Result<(), Fail> {
-    let mut tree = TreeState::new(rt.alloc(), &RootOptions::default())?;
-    for (short, want) in EVENTS {
-        let event = event(rt.alloc(), short)?;
-        assert!(rt; !event.is_frame());
-        assert_eq!(rt; tree.apply(rt.alloc(), &event)?, reply(rt.alloc(), want)?);
-    }
-    let want = rows(
-        rt.alloc(),
-        &[(&[0], "a", None), (&[0, 0], "b", Some((3, Some(10))))],
-    )?;
-    assert_eq!(rt; tree.rows(rt.alloc())?, want);
-    let previous = Some(MessageCopyState::new(1));
-    let (seen, new, state) = tree
-        .snapshot_and_new_messages(rt.alloc(), previous)?
-        .ok_or("no root")?;
-    assert_eq!(rt; seen, want);
-    assert_eq!(rt; new, messages(rt.alloc(), &[("b", "y")])?);
-    assert_eq!(rt; state, MessageCopyState::new(2));
+    let alloc = rt.alloc();
+    let tree = grown(&rt, alloc)?;
+    assert_same(&rt, tree.rows(alloc)?, rows(alloc, &ROWS)?, "rows");
+    let new = messages(alloc, &[("b", "y")])?;
+    let want = (rows(alloc, &ROWS)?, new, MessageCopyState::new(2));
+    assert_same(&rt, snapshot(alloc, &tree)?, want, "snapshot");
     Ok(())
 }

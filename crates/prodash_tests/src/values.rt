@@ -1,6 +1,6 @@
 use crate::fixtures::{
-    Progress, ShortReply, assert_ascending, assert_distinct, key_at, message, messages, reply, row,
-    rows,
+    Progress, ShortReply, assert_ascending, assert_distinct, assert_same, key_at, message,
+    messages, reply, row, rows,
 };
 use prodash::messages::{Message, MessageCopyState, MessageLevel};
 use prodash::progress::{Id, Row, State, UNKNOWN, Value};
@@ -52,44 +52,54 @@ fn states_are_hashed(rt: HostRuntime) -> Result<(), Fail> {
         places.insert(*state, n)?;
     }
     for (n, state) in STATES.iter().enumerate() {
-        assert_eq!(rt; places.get(state).copied(), Some(n));
+        assert_same(&rt, places.get(state).copied(), Some(n), n);
     }
     Ok(())
 }
 
 #[test]
 fn defaults(rt: HostRuntime) {
-    assert_eq!(rt; UNKNOWN, [0, 0, 0, 0]);
-    assert_eq!(rt; State::default(), State::Running);
+    assert_same(&rt, UNKNOWN, [0, 0, 0, 0], "identifier");
+    assert_same(&rt, State::default(), State::Running, "state");
     let running = Value {
         step: 0,
         done_at: None,
+        unit: None,
         state: State::Running,
     };
-    assert_eq!(rt; Value::default(), running);
+    assert_same(&rt, Value::default(), running, "value");
 }
 
 #[test]
 fn fractions_need_a_bound(rt: HostRuntime) {
     let mut value = Value::default();
     value.step = 3;
-    assert_eq!(rt; value.fraction(), None);
+    assert_same(&rt, value.fraction(), None, "no bound");
     value.done_at = Some(10);
-    assert_eq!(rt; value.fraction(), Some((3, 10)));
+    assert_same(&rt, value.fraction(), Some((3, 10)), "a bound");
 }
+
+const TEXTS: [(Refusal, &str); 6] = [
+    (Refusal::Memory, "no memory"),
+    (Refusal::TooManyMessages, "too many messages"),
+    (Refusal::Gone, "no such handle"),
+    (Refusal::Closed, "renderer is closed"),
+    (Refusal::Broken, "output is broken"),
+    (Refusal::TooManyHandles, "too many handles"),
+];
 
 #[test]
 fn refusals_have_texts(rt: HostRuntime) -> Result<(), Fail> {
-    for (refusal, want) in [
-        (Refusal::Memory, "no memory"),
-        (Refusal::TooManyMessages, "too many messages"),
-        (Refusal::Gone, "no such handle"),
-        (Refusal::Closed, "renderer is closed"),
-        (Refusal::Broken, "output is broken"),
-    ] {
-        assert_eq!(rt; format!(in rt.alloc(); "{refusal}")?.as_str(), want);
+    for (refusal, want) in &TEXTS {
+        let text = format!(in rt.alloc(); "{refusal}")?;
+        assert_same(&rt, text.as_str(), *want, *refusal);
     }
-    assert_eq!(rt; Refusal::from(AllocError), Refusal::Memory);
+    assert_same(
+        &rt,
+        Refusal::from(AllocError),
+        Refusal::Memory,
+        "allocation",
+    );
     Ok(())
 }
 
@@ -101,6 +111,7 @@ fn plain_values_differ_by_any_field(rt: HostRuntime) {
         Refusal::Gone,
         Refusal::Closed,
         Refusal::Broken,
+        Refusal::TooManyHandles,
     ];
     let signs = [
         Sign::Char('a'),
@@ -134,6 +145,7 @@ fn some_values(alloc: Global) -> Result<Vec<Value>, AllocError> {
         values.push(Value {
             step,
             done_at,
+            unit: None,
             state,
         })?;
     }
@@ -192,7 +204,7 @@ fn texts_keep_their_bytes(rt: HostRuntime) -> Result<(), Fail> {
     let copy = text.clone()?;
     assert!(rt; copy == text);
     assert!(rt; copy != Text::from_str(rt.alloc(), "日")?);
-    assert_eq!(rt; text.as_str(), "日本");
+    assert_same(&rt, text.as_str(), "日本", "text");
     assert!(rt; Text::new(copy.into_string()) == text);
     Ok(())
 }
@@ -203,17 +215,19 @@ fn rows_and_messages_keep_their_lists(rt: HostRuntime) -> Result<(), Fail> {
         rt.alloc(),
         &[(&[1], "a", Some((3, Some(10)))), (&[2], "b", None)],
     )?;
-    assert_eq!(rt; snapshot.as_slice().len(), 2);
+    assert_same(&rt, snapshot.as_slice().len(), 2, "rows");
     let list = snapshot.into_vec();
-    assert_eq!(rt; list.len(), 2);
-    assert_eq!(rt; list[0].name.as_str(), "a");
-    assert_eq!(rt; list[1].name.as_str(), "b");
+    assert_same(&rt, list.len(), 2, "rows of the list");
+    for (row, want) in list.iter().zip(["a", "b"]) {
+        assert_same(&rt, row.name.as_str(), want, "name");
+    }
     let copy = messages(rt.alloc(), &[("a", "x"), ("b", "y")])?;
-    assert_eq!(rt; copy.as_slice().len(), 2);
+    assert_same(&rt, copy.as_slice().len(), 2, "messages");
     let list = copy.into_vec();
-    assert_eq!(rt; list.len(), 2);
-    assert_eq!(rt; list[0].message.as_str(), "x");
-    assert_eq!(rt; list[1].message.as_str(), "y");
+    assert_same(&rt, list.len(), 2, "messages of the list");
+    for (message, want) in list.iter().zip(["x", "y"]) {
+        assert_same(&rt, message.message.as_str(), want, "text");
+    }
     Ok(())
 }
 
@@ -223,8 +237,9 @@ fn some_events(alloc: Global) -> Result<Vec<Event>, AllocError> {
     let state = MessageCopyState::new(1);
     let mut events = vec![in alloc;
         Event::Drop { item: 1 }, Event::Drop { item: 2 },
-        Event::Init { item: 1, max: None }, Event::Init { item: 2, max: None },
-        Event::Init { item: 1, max: Some(1) },
+        Event::Init { item: 1, max: None, unit: None },
+        Event::Init { item: 2, max: None, unit: None },
+        Event::Init { item: 1, max: Some(1), unit: None },
         Event::Set { item: 1, step: 1 }, Event::Set { item: 2, step: 1 },
         Event::Set { item: 1, step: 2 },
         Event::Snapshot, Event::CopyMessages, Event::DropRoot,

@@ -1,0 +1,312 @@
+//! The locked tree: owners and weak handles, items whose entry is gone, steps, and threads.
+use crate::fixtures::{ShortRow, assert_same, key_at, messages as messages_of, rows as rows_of};
+use prodash::Refusal;
+use prodash::messages::{Message, MessageCopyState, MessageLevel};
+use prodash::progress::{Row, UNKNOWN};
+use prodash::tree::root::Options;
+use prodash::tree::{Item, Root, Steps};
+use std::alloc::Global;
+use std::process::Abort;
+use std::sync::Wait;
+use std::sync::atomic::Ordering;
+use std::test::*;
+use std::thread;
+
+const CAPACITIES: [usize; 4] = [0, 1, 20, 300];
+
+#[test]
+fn options_have_defaults(rt: HostRuntime) -> Result<(), Fail> {
+    let options = Options::default();
+    assert_same(&rt, options.initial_capacity, 100, "rows");
+    assert_same(&rt, options.message_buffer_capacity, 20, "messages");
+    for capacity in &CAPACITIES {
+        let root = Options {
+            message_buffer_capacity: *capacity,
+            ..options
+        }
+        .create(rt, rt.alloc())?;
+        assert_same(&rt, root.messages_capacity(), *capacity, "capacity");
+    }
+    Ok(())
+}
+
+/// Another owner sees the tasks, and is dropped.
+fn assert_owner<R: Wait + Clone + Drop>(rt: &impl Abort, owner: Root<R>, tasks: usize) {
+    assert_same(rt, owner.num_tasks(), tasks, "tasks");
+}
+
+/// Every owner sees the task, and once the last is dropped the weak handle finds none.
+#[test]
+fn items_are_no_owners(rt: HostRuntime) -> Result<(), Fail> {
+    let root = Root::new(rt, rt.alloc())?;
+    let weak = root.downgrade()?;
+    let item = root.add_child(rt.alloc(), "task")?;
+    let other = root.clone()?;
+    drop(root);
+    let third = weak.upgrade()?.ok_or("there is an owner")?;
+    assert_owner(&rt, other, 1);
+    assert_owner(&rt, third, 1);
+    assert_same(&rt, weak.upgrade()?.is_none(), true, "no owner");
+    assert_counts(&rt, &item)
+}
+
+/// The item goes on without an owner.
+fn assert_counts<R: Wait + Clone + Drop>(rt: &impl Abort, item: &Item<R>) -> Result<(), Fail> {
+    item.init(Some(10), None);
+    item.set(5);
+    item.inc_by(2);
+    item.inc();
+    assert_same(rt, item.step(), Some(8), "step of the item");
+    assert_same(rt, item.steps().step(), 8, "step");
+    item.steps().set(1);
+    assert_same(rt, item.step(), Some(1), "step of the item after set");
+    assert_same(rt, item.steps().step(), 1, "step after set");
+    let (steps, counter) = (item.steps().counter()?, item.counter()?);
+    assert_same(rt, steps.load(Ordering::SeqCst), 1, "counter of the steps");
+    assert_same(rt, counter.load(Ordering::SeqCst), 1, "counter of the item");
+    Ok(())
+}
+
+/// Adds 2 and 1 to a counter, in a function that has no leave to wait.
+fn advance(steps: &Steps) -> u64 {
+    steps.inc_by(2);
+    steps.inc();
+    steps.step()
+}
+
+#[test]
+fn steps_wrap(rt: HostRuntime) -> Result<(), Fail> {
+    let root = Root::new(rt, rt.alloc())?;
+    let item = root.add_child(rt.alloc(), "task")?;
+    item.set(u64::MAX);
+    assert_same(&rt, advance(item.steps()), 2, "steps");
+    assert_same(&rt, item.step(), Some(2), "item");
+    Ok(())
+}
+
+#[test]
+fn items_show_key_and_step(rt: HostRuntime) -> Result<(), Fail> {
+    let root = Root::new(rt, rt.alloc())?;
+    let item = root.add_child(rt.alloc(), "task")?;
+    item.set(3);
+    let text = format!(in rt.alloc(); "{item:?}")?;
+    let begins = text.as_str().starts_with("Item { key: Key {");
+    let ends = text.as_str().ends_with("step: 3, .. }");
+    assert_same(&rt, (begins, ends), (true, true), text.as_str());
+    Ok(())
+}
+
+/// Adds and drops children of the root.
+fn add_and_drop<R: Wait + Clone + Drop>(
+    root: &Root<R>,
+    alloc: Global,
+    count: u32,
+) -> Result<(), Refusal> {
+    for _ in 0..count {
+        root.add_child(alloc, "more")?;
+    }
+    Ok(())
+}
+
+/// An item without an entry has a step alone, and its messages have no origin.
+fn assert_no_entry<R: Wait + Clone + Drop>(
+    rt: &impl Abort,
+    alloc: Global,
+    item: &mut Item<R>,
+) -> Result<(), Refusal> {
+    assert_same(rt, item.name(alloc)?, None, "name");
+    assert_same(rt, item.id(), UNKNOWN, "identifier");
+    item.set(5);
+    item.init(Some(10), None);
+    assert_same(rt, item.step(), Some(5), "step");
+    assert_same(rt, item.max(), None, "bound");
+    assert_same(rt, item.set_max(Some(7)), None, "bound before");
+    item.set_name(alloc, "nobody")?;
+    item.message(alloc, 0, MessageLevel::Info, "said")
+}
+
+/// After 65536 children the number is 0 again: the item there takes the place of the first, and
+/// loses its entry once the first is dropped.
+#[test]
+fn child_numbers_wrap(rt: HostRuntime) -> Result<(), Fail> {
+    let alloc: Global = rt.alloc();
+    let root = Root::new(rt, alloc)?;
+    let first = root.add_child(alloc, "A")?;
+    add_and_drop(&root, alloc, 65535)?;
+    let mut last = root.add_child_with_id(alloc, "Z", *b"LAST")?;
+    assert_same(&rt, root.num_tasks(), 1, "tasks");
+    assert_same(&rt, last.name(alloc)?.as_deref(), Some("Z"), "name");
+    assert_same(&rt, first.id(), *b"LAST", "identifier");
+    drop(first);
+    assert_no_entry(&rt, alloc, &mut last)?;
+    let mut said = Vec::new(alloc);
+    root.copy_messages(alloc, &mut said)?;
+    let want = messages_of(alloc, &[("", "said")])?;
+    assert_same(&rt, said.as_slice(), want.as_slice(), "messages");
+    Ok(())
+}
+
+/// A tree has these rows, and these messages since an earlier copy, which returned `previous`.
+fn assert_holds<R: Wait + Clone + Drop>(
+    rt: &impl Abort,
+    alloc: Global,
+    root: &Root<R>,
+    rows: &[Row],
+    messages: &[Message],
+    previous: Option<MessageCopyState>,
+) -> Result<(), Refusal> {
+    let mut later_rows = Vec::new(alloc);
+    root.sorted_snapshot(alloc, &mut later_rows)?;
+    assert_same(rt, rows, later_rows.as_slice(), "rows");
+    let mut later = Vec::new(alloc);
+    root.copy_new_messages(alloc, &mut later, previous)?;
+    assert_same(rt, messages, later.as_slice(), "messages");
+    Ok(())
+}
+
+#[test]
+fn snapshot_with_new_messages(rt: HostRuntime) -> Result<(), Fail> {
+    let alloc: Global = rt.alloc();
+    let root = Root::new(rt, alloc)?;
+    let mut item = root.add_child(alloc, "task")?;
+    item.info(alloc, 1, "one")?;
+    let (mut rows, mut said) = (Vec::new(alloc), Vec::new(alloc));
+    let state = root.snapshot_and_new_messages(alloc, &mut rows, &mut said, None)?;
+    assert_holds(&rt, alloc, &root, &rows, &said, None)?;
+    let sizes = (rows.len(), said.len(), state.pushed());
+    assert_same(&rt, sizes, (1, 1, 1), "first look");
+    item.done(alloc, 2, "two")?;
+    item.fail(alloc, 3, "three")?;
+    let child = item.add_child(alloc, "part")?;
+    let next = root.snapshot_and_new_messages(alloc, &mut rows, &mut said, Some(state))?;
+    assert_holds(&rt, alloc, &root, &rows, &said, Some(state))?;
+    let sizes = (rows.len(), said.len(), next.pushed());
+    assert_same(&rt, sizes, (2, 2, 3), "second look");
+    drop(child);
+    Ok(())
+}
+
+/// A copy of a tree keeps its capacity, and takes messages.
+#[test]
+fn deep_clones_take_messages(rt: HostRuntime) -> Result<(), Fail> {
+    let alloc: Global = rt.alloc();
+    let root = Root::new(rt, alloc)?;
+    let copy = root.deep_clone(alloc)?;
+    assert_same(&rt, copy.messages_capacity(), 20, "capacity");
+    copy.add_child(alloc, "task")?.info(alloc, 0, "one")?;
+    let mut messages = Vec::new(alloc);
+    copy.copy_messages(alloc, &mut messages)?;
+    assert_same(&rt, messages.len(), 1, "messages");
+    let tasks = (root.num_tasks(), copy.num_tasks());
+    assert_same(&rt, tasks, (0, 0), "tasks");
+    Ok(())
+}
+
+const COPIED: [ShortRow; 1] = [(&[0], "task", Some((3, Some(10))))];
+
+/// The copy has the row and the message that the tree had.
+fn assert_copied<R: Wait + Clone + Drop>(
+    rt: &impl Abort,
+    alloc: Global,
+    copy: &Root<R>,
+    rows: &mut Vec<Row>,
+    messages: &mut Vec<Message>,
+) -> Result<(), Refusal> {
+    copy.sorted_snapshot(alloc, rows)?;
+    let want = rows_of(alloc, &COPIED)?;
+    assert_same(rt, rows.as_slice(), want.as_slice(), "rows");
+    let state = copy.copy_new_messages(alloc, messages, None)?;
+    let counts = (messages.len(), state.pushed());
+    assert_same(rt, counts, (1, 1), "messages");
+    Ok(())
+}
+
+/// The next child of the copy has the number 1.
+fn assert_grows<R: Wait + Clone + Drop>(
+    rt: &impl Abort,
+    alloc: Global,
+    copy: &Root<R>,
+    rows: &mut Vec<Row>,
+) -> Result<(), Refusal> {
+    let other = copy.add_child(alloc, "other")?;
+    copy.sorted_snapshot(alloc, rows)?;
+    assert_same(rt, rows.len(), 2, "rows");
+    let last = rows.last().map(|row| row.key);
+    assert_same(rt, last, Some(key_at(&[1])), "key");
+    drop(other);
+    assert_same(rt, copy.num_tasks(), 1, "tasks");
+    Ok(())
+}
+
+/// A copy has counters of its own, and goes on without the tree.
+#[test]
+fn deep_clones_are_apart(rt: HostRuntime) -> Result<(), Fail> {
+    let alloc: Global = rt.alloc();
+    let root = Root::new(rt, alloc)?;
+    let mut item = root.add_child(alloc, "task")?;
+    item.init(Some(10), None);
+    item.set(3);
+    item.info(alloc, 0, "two")?;
+    let copy = root.deep_clone(alloc)?;
+    item.set(4);
+    item.done(alloc, 1, "three")?;
+    let (mut rows, mut said) = (Vec::new(alloc), Vec::new(alloc));
+    root.copy_messages(alloc, &mut said)?;
+    assert_same(&rt, said.len(), 2, "messages of the tree");
+    assert_copied(&rt, alloc, &copy, &mut rows, &mut said)?;
+    drop(item);
+    drop(root);
+    assert_grows(&rt, alloc, &copy, &mut rows)?;
+    Ok(())
+}
+
+/// Adds tasks with parts, sets their steps, sends two messages for each, and drops them.
+fn work<R: Wait + Clone + Drop>(root: &Root<R>, alloc: Global) -> Result<(), Refusal> {
+    for n in 0..100u64 {
+        let mut item: Item<R> = root.add_child(alloc, "task")?;
+        item.init(Some(100), None);
+        item.set(n);
+        item.info(alloc, n, "begun")?;
+        let part = item.add_child(alloc, "part")?;
+        part.inc();
+        part.message(alloc, n, MessageLevel::Success, "done")?;
+    }
+    Ok(())
+}
+
+/// Works, and says whether nothing was refused.
+fn works<R: Wait + Clone + Drop>(root: &Root<R>, alloc: Global) -> bool {
+    work(root, alloc).is_ok()
+}
+
+/// Of 800 messages the tree keeps the last 20.
+fn assert_last_kept<R: Wait + Clone + Drop>(
+    rt: &impl Abort,
+    alloc: Global,
+    root: &Root<R>,
+) -> Result<(), Refusal> {
+    let (mut kept, mut last) = (Vec::new(alloc), Vec::new(alloc));
+    root.copy_messages(alloc, &mut kept)?;
+    let seen = Some(MessageCopyState::new(780));
+    let state = root.copy_new_messages(alloc, &mut last, seen)?;
+    assert_same(rt, (kept.len(), state.pushed()), (20, 800), "messages");
+    assert_same(rt, kept.as_slice(), last.as_slice(), "last messages");
+    Ok(())
+}
+
+#[test]
+fn four_threads_share_a_root(rt: HostRuntime) -> Result<(), Fail> {
+    let alloc: Global = rt.alloc();
+    let root = Root::new(rt, alloc)?;
+    let shared = &root;
+    thread::scope(thread::scope_env(), &rt, |scope| {
+        for _ in 0..4u32 {
+            if scope.spawn(move || works(shared, alloc)).is_err() {
+                works(shared, alloc);
+            }
+        }
+    });
+    assert_same(&rt, root.num_tasks(), 0, "tasks");
+    assert_last_kept(&rt, alloc, &root)?;
+    Ok(())
+}

@@ -1,0 +1,357 @@
+//! A locked tree and a session that get the same events: their replies are equal.
+use crate::fixtures::assert_same;
+use crate::runs::options;
+use prodash::messages::{MessageCopyState, MessageLevel, Messages};
+use prodash::progress::{Id, Rows, UNKNOWN};
+use prodash::render::line::draw::MemoryScreen;
+use prodash::tree::{Event, Handle, Item, Reply, Root, Session};
+use prodash::unit::label;
+use prodash::{Refusal, Text};
+use std::alloc::{AllocError, Global};
+use std::process::Abort;
+use std::sync::Wait;
+use std::test::*;
+
+/// A locked tree whose items are named by handles, as those of a session. No item has the handle 0,
+/// and a dropped item's place is empty.
+#[derive(Drop)]
+struct LockedTree<R: Wait + Clone + Drop> {
+    root: Root<R>,
+    items: Vec<Option<Item<R>>>,
+}
+
+impl<R: Wait + Clone + Drop> LockedTree<R> {
+    fn new(rt: R, alloc: Global) -> Result<LockedTree<R>, Refusal> {
+        let mut items = Vec::new(alloc);
+        items.push(None)?;
+        Ok(LockedTree {
+            root: Root::new(rt, alloc)?,
+            items,
+        })
+    }
+
+    /// Returns the last handle of an item that isn't past `wanted`, or the first if all are.
+    fn handle_near(&self, wanted: u64) -> Option<Handle> {
+        let mut found = None;
+        for (handle, item) in self.items.iter().enumerate() {
+            if item.is_some() && (found.is_none() || handle as u64 <= wanted) {
+                found = Some(handle as u64);
+            }
+        }
+        found
+    }
+
+    fn item(&self, handle: Handle) -> Result<&Item<R>, Refusal> {
+        match self.items.get(handle as usize) {
+            Some(Some(item)) => Ok(item),
+            _ => Err(Refusal::Gone),
+        }
+    }
+
+    fn item_mut(&mut self, handle: Handle) -> Result<&mut Item<R>, Refusal> {
+        match self.items.get_mut(handle as usize) {
+            Some(Some(item)) => Ok(item),
+            _ => Err(Refusal::Gone),
+        }
+    }
+
+    /// Adds a child by the call with an identifier if it has one, and else by the other.
+    fn child_of(
+        &mut self,
+        alloc: Global,
+        parent: Handle,
+        name: &str,
+        id: Id,
+    ) -> Result<Item<R>, Refusal> {
+        match (parent, id == UNKNOWN) {
+            (0, true) => self.root.add_child(alloc, name),
+            (0, false) => self.root.add_child_with_id(alloc, name, id),
+            (_, true) => self.item_mut(parent)?.add_child(alloc, name),
+            (_, false) => self.item_mut(parent)?.add_child_with_id(alloc, name, id),
+        }
+    }
+
+    fn add_child(
+        &mut self,
+        alloc: Global,
+        parent: Handle,
+        name: &str,
+        id: Id,
+    ) -> Result<Reply, Refusal> {
+        let made = self.items.len() as Handle;
+        let child = self.child_of(alloc, parent, name, id)?;
+        self.items.push(Some(child))?;
+        Ok(Reply::Made(made))
+    }
+
+    fn drop_item(&mut self, handle: Handle) -> Reply {
+        if let Some(place) = self.items.get_mut(handle as usize) {
+            *place = None;
+        }
+        Reply::Done
+    }
+
+    /// Sends a message by `message` at an even moment, and else by the call for its level.
+    fn say(
+        &mut self,
+        alloc: Global,
+        handle: Handle,
+        at: u64,
+        level: MessageLevel,
+        text: &str,
+    ) -> Result<Reply, Refusal> {
+        let item = self.item_mut(handle)?;
+        match level {
+            _ if at % 2 == 0 => item.message(alloc, at, level, text)?,
+            MessageLevel::Info => item.info(alloc, at, text)?,
+            MessageLevel::Success => item.done(alloc, at, text)?,
+            MessageLevel::Failure => item.fail(alloc, at, text)?,
+        }
+        Ok(Reply::Done)
+    }
+
+    /// Applies an event to items.
+    fn change(&mut self, alloc: Global, event: &Event) -> Result<Reply, Refusal> {
+        match event {
+            Event::AddChild { parent, name, id } => {
+                return self.add_child(alloc, *parent, name.as_str(), *id);
+            }
+            Event::Drop { item } => return Ok(self.drop_item(*item)),
+            Event::Message {
+                item,
+                at,
+                level,
+                text,
+            } => return self.say(alloc, *item, *at, *level, text.as_str()),
+            Event::SetMax { item, max } => {
+                return Ok(Reply::Bound(self.item(*item)?.set_max(*max)));
+            }
+            Event::Init { item, max, unit } => self.item(*item)?.init(*max, *unit),
+            Event::SetName { item, name } => self.item(*item)?.set_name(alloc, name.as_str())?,
+            Event::Set { item, step } => self.item(*item)?.set(*step),
+            Event::IncBy { item, step: 1 } => self.item(*item)?.inc(),
+            Event::IncBy { item, step } => self.item(*item)?.inc_by(*step),
+            Event::Blocked { item, reason, eta } => self.item(*item)?.blocked(reason, *eta),
+            Event::Halted { item, reason, eta } => self.item(*item)?.halted(reason, *eta),
+            Event::Running { item } => self.item(*item)?.running(),
+            _ => return self.look(alloc, event),
+        }
+        Ok(Reply::Done)
+    }
+
+    /// Applies an event that only reads.
+    fn look(&self, alloc: Global, event: &Event) -> Result<Reply, Refusal> {
+        Ok(match event {
+            Event::Name { item } => Reply::Name(self.item(*item)?.name(alloc)?.map(Text::new)),
+            Event::Id { item } => Reply::Id(self.item(*item)?.id()),
+            Event::Step { item } => { Reply::Step(self.item(*item)?.step().ok_or(Refusal::Gone)?) }
+            Event::Max { item } => Reply::Bound(self.item(*item)?.max()),
+            Event::Unit { item } => Reply::Unit(self.item(*item)?.unit()),
+            Event::NumTasks => Reply::Count(self.root.num_tasks()),
+            Event::Snapshot => {
+                let mut rows = Vec::new(alloc);
+                self.root.sorted_snapshot(alloc, &mut rows)?;
+                Reply::Rows(Rows::new(rows))
+            }
+            Event::CopyMessages => {
+                let mut messages = Vec::new(alloc);
+                self.root.copy_messages(alloc, &mut messages)?;
+                Reply::Messages(Messages::new(messages))
+            }
+            Event::CopyNew { previous } => {
+                let mut messages = Vec::new(alloc);
+                let state = self
+                    .root
+                    .copy_new_messages(alloc, &mut messages, *previous)?;
+                Reply::New(Messages::new(messages), state)
+            }
+            _ => return Err(Refusal::Closed),
+        })
+    }
+}
+
+/// How many kinds of events there are for the handle of an item or the root.
+const KINDS: u64 = 20;
+
+/// Returns a number that the previous one decides, spread over all bits.
+fn number_after(n: u64) -> u64 {
+    let n = n
+        .wrapping_mul(0x9e37_79b9_7f4a_7c15)
+        .wrapping_add(0x1234_5678_9abc_def1);
+    n ^ (n >> 29)
+}
+
+const TEXTS: [&str; 4] = ["task", "", "long name", "ü"];
+
+fn text(alloc: Global, n: u64) -> Result<Text, AllocError> {
+    Text::from_str(alloc, TEXTS[(n % 4) as usize])
+}
+
+fn bound(n: u64) -> Option<u64> {
+    if n % 3 == 0 { None } else { Some(n % 50) }
+}
+
+/// Adds a child of the root or of an item, with or without an identifier.
+fn added(alloc: Global, item: Handle, n: u64) -> Result<Event, AllocError> {
+    Ok(Event::AddChild {
+        parent: if n % 4 == 0 { 0 } else { item },
+        name: text(alloc, n >> 3)?,
+        id: if n % 2 == 0 { UNKNOWN } else { *b"TASK" },
+    })
+}
+
+/// Sends a message of one of the levels.
+fn said(alloc: Global, item: Handle, n: u64) -> Result<Event, AllocError> {
+    Ok(Event::Message {
+        item,
+        at: n >> 8,
+        level: match n % 3 {
+            0 => MessageLevel::Info,
+            1 => MessageLevel::Success,
+            _ => MessageLevel::Failure,
+        },
+        text: text(alloc, n >> 3)?,
+    })
+}
+
+/// Returns an event of a kind. It is on this item, or reads the tree.
+fn event_of_kind(alloc: Global, kind: u64, item: Handle, n: u64) -> Result<Event, AllocError> {
+    match kind {
+        0 => added(alloc, item, n),
+        3 => Ok(Event::SetName {
+            item,
+            name: text(alloc, n)?,
+        }),
+        10 => said(alloc, item, n),
+        _ => Ok(plain_event(kind, item, n)),
+    }
+}
+
+/// An event without a text.
+#[rattlefmt::skip]
+fn plain_event(kind: u64, item: Handle, n: u64) -> Event {
+    let max = bound(n);
+    match kind {
+        1 => Event::Drop { item },
+        2 => Event::Init { item, max, unit: if n % 3 == 0 { Some(label("items")) } else { None } },
+        4 => Event::SetMax { item, max },
+        5 => Event::Set { item, step: n },
+        6 => Event::IncBy { item, step: n % 4 },
+        7 => Event::Blocked { item, reason: "blocked", eta: max },
+        8 => Event::Halted { item, reason: "halted", eta: max },
+        9 => Event::Running { item },
+        11 => Event::Name { item },
+        12 => Event::Id { item },
+        13 => Event::Step { item },
+        14 => Event::Max { item },
+        15 => Event::NumTasks,
+        16 => Event::Snapshot,
+        17 => Event::CopyMessages,
+        18 => Event::Unit { item },
+        _ => Event::CopyNew { previous: max.map(MessageCopyState::new) },
+    }
+}
+
+/// Returns the kind of an event that isn't the first: each in turn, but no drops before there are
+/// some items.
+fn kind_of(place: u64) -> u64 {
+    let kind = place % KINDS;
+    if kind == 1 && place < 20 * KINDS {
+        0
+    } else {
+        kind
+    }
+}
+
+/// A session, a screen for it, and a locked tree that gets the same events.
+#[derive(Drop)]
+struct Mirror<R: Wait + Clone + Drop> {
+    session: Session,
+    screen: MemoryScreen,
+    tree: LockedTree<R>,
+}
+
+impl<R: Wait + Clone + Drop> Mirror<R> {
+    fn new(rt: R, alloc: Global) -> Result<Mirror<R>, Refusal> {
+        Ok(Mirror {
+            session: Session::new(alloc, &options(20))?,
+            screen: MemoryScreen::new(alloc, 0)?,
+            tree: LockedTree::new(rt, alloc)?,
+        })
+    }
+
+    /// The event at a place, which a number decides: on the newest item for an even number.
+    fn event_at(&self, alloc: Global, place: u64, n: u64) -> Result<Event, AllocError> {
+        let newest = self.tree.items.len() as u64;
+        let near = if n % 2 == 0 {
+            newest
+        } else {
+            (n >> 16).checked_rem(newest).unwrap_or(0)
+        };
+        match self.tree.handle_near(near) {
+            Some(item) => event_of_kind(alloc, kind_of(place), item, n),
+            None => event_of_kind(alloc, 0, 0, n),
+        }
+    }
+
+    /// Both reply the same to an event, and the session refuses none.
+    fn assert_changes(
+        &mut self,
+        rt: &impl Abort,
+        alloc: Global,
+        place: u64,
+        event: &Event,
+    ) -> Result<(), Refusal> {
+        let want = self.session.apply(alloc, event, &mut self.screen);
+        let refused = matches!(want, Reply::Refused(_));
+        assert_same(rt, refused, false, (place, event));
+        let got = self.tree.change(alloc, event)?;
+        assert_same(rt, got, want, (place, event));
+        Ok(())
+    }
+
+    /// Both reply the same to an event that only reads, after the event at a place.
+    fn assert_looks(
+        &mut self,
+        rt: &impl Abort,
+        alloc: Global,
+        look: &Event,
+        after: (u64, &Event),
+    ) -> Result<(), Refusal> {
+        let want = self.session.apply(alloc, look, &mut self.screen);
+        let got = self.tree.look(alloc, look)?;
+        assert_same(rt, got, want, after);
+        Ok(())
+    }
+
+    /// Both reply the same to the event at a place, and look the same after it.
+    fn assert_place(
+        &mut self,
+        rt: &impl Abort,
+        alloc: Global,
+        place: u64,
+        n: u64,
+    ) -> Result<(), Refusal> {
+        let event = self.event_at(alloc, place, n)?;
+        self.assert_changes(rt, alloc, place, &event)?;
+        let after = (place, &event);
+        self.assert_looks(rt, alloc, &Event::Snapshot, after)?;
+        self.assert_looks(rt, alloc, &Event::CopyMessages, after)?;
+        self.assert_looks(rt, alloc, &Event::NumTasks, after)
+    }
+}
+
+/// After each of 2000 events the replies, the snapshots, the messages and the numbers of tasks of
+/// both are equal.
+#[test]
+fn a_locked_tree_replies_as_a_session(rt: HostRuntime) -> Result<(), Fail> {
+    let alloc: Global = rt.alloc();
+    let mut mirror = Mirror::new(rt, alloc)?;
+    let mut n = 1u64;
+    for place in 0..2000u64 {
+        n = number_after(n);
+        mirror.assert_place(&rt, alloc, place, n)?;
+    }
+    assert_same(&rt, mirror.screen.bytes().is_empty(), true, "screen");
+    Ok(())
+}

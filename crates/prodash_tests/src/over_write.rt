@@ -1,0 +1,201 @@
+use crate::fixtures::Ask::{Print, Quit, Show};
+use crate::fixtures::{Ask, Task, assert_same, draw, renderer};
+use Outcome::{Fails, Takes};
+use prodash::Refusal;
+use prodash::render::line::draw::{Answer, MemoryScreen, OverWrite, Screen};
+use std::alloc::Global;
+use std::io::{self, Error, ErrorKind, Write};
+use std::process::Abort;
+use std::test::Fail;
+
+/// What a writer does with a write.
+#[derive(Clone, Copy, Debug)]
+enum Outcome {
+    /// It takes at most this many bytes.
+    Takes(usize),
+    /// It returns an error of this kind.
+    Fails(ErrorKind),
+}
+
+/// A writer that does with its writes what a list says, the last of the list again and again.
+#[derive(Drop)]
+struct FakeWriter {
+    bytes: Vec<u8>,
+    outcomes: &'static [Outcome],
+    flushes: bool,
+    /// How often it was asked to write, and to flush.
+    calls: (usize, usize),
+}
+
+impl FakeWriter {
+    fn new(alloc: Global, outcomes: &'static [Outcome], flushes: bool) -> FakeWriter {
+        FakeWriter {
+            bytes: Vec::new(alloc),
+            outcomes,
+            flushes,
+            calls: (0, 0),
+        }
+    }
+}
+
+impl Write for FakeWriter {
+    fn write(&mut self, buf: &[u8]) -> io::Result<usize> {
+        self.calls.0 = self.calls.0.saturating_add(1);
+        let Some((outcome, rest)) = self.outcomes.split_first() else {
+            return Ok(0);
+        };
+        if !rest.is_empty() {
+            self.outcomes = rest;
+        }
+        match outcome {
+            Takes(most) => {
+                let count = buf.len().min(*most);
+                self.bytes.extend_from_slice(&buf[..count])?;
+                Ok(count)
+            }
+            Fails(kind) => Err(Error::from(*kind)),
+        }
+    }
+
+    fn flush(&mut self) -> io::Result<()> {
+        self.calls.1 = self.calls.1.saturating_add(1);
+        if self.flushes {
+            Ok(())
+        } else {
+            Err(Error::from(ErrorKind::Interrupted))
+        }
+    }
+}
+
+/// What a writer does, whether it flushes, what is returned of puts of `abcd` until one is refused
+/// or the list ends, then of a flush; the bytes that the writer has in the end, and its calls.
+#[derive(Clone, Copy)]
+struct Row(
+    &'static [Outcome],
+    bool,
+    &'static [Result<usize, Refusal>],
+    Result<(), Refusal>,
+    &'static str,
+    (usize, usize),
+);
+
+const BROKEN: Result<usize, Refusal> = Err(Refusal::Broken);
+
+const UNFLUSHED: Result<(), Refusal> = Err(Refusal::Broken);
+
+#[rattlefmt::skip]
+const ROWS: [Row; 9] = [
+    Row(&[Takes(9)], true, &[Ok(4)], Ok(()), "abcd", (1, 1)),
+    // a short write is no fault
+    Row(&[Takes(3)], true, &[Ok(3), Ok(3)], Ok(()), "abcabc", (2, 1)),
+    Row(&[Takes(1), Takes(4)], true, &[Ok(1), Ok(4)], Ok(()), "aabcd", (2, 1)),
+    // nothing taken is, and so is an error, an interrupted write too
+    Row(&[Takes(0)], true, &[BROKEN], UNFLUSHED, "", (1, 0)),
+    Row(&[Takes(2), Takes(0), Takes(4)], true, &[Ok(2), BROKEN], UNFLUSHED, "ab", (2, 0)),
+    Row(&[Fails(ErrorKind::Interrupted), Takes(4)], true, &[BROKEN], UNFLUSHED, "", (1, 0)),
+    Row(&[Takes(4), Fails(ErrorKind::Interrupted)], true, &[Ok(4), BROKEN], UNFLUSHED, "abcd", (2, 0)),
+    Row(&[Fails(ErrorKind::WouldBlock)], true, &[BROKEN], UNFLUSHED, "", (1, 0)),
+    // a refused flush
+    Row(&[Takes(4)], false, &[Ok(4)], UNFLUSHED, "abcd", (1, 1)),
+];
+
+/// A put of `abcd` returns this, and breaks the screen if it is refused.
+fn assert_put(rt: &impl Abort, screen: &mut OverWrite<FakeWriter>, want: Result<usize, Refusal>) {
+    assert_same(rt, screen.put(b"abcd"), want, "put");
+    assert_same(rt, screen.is_broken(), want.is_err(), "broken by a put");
+}
+
+/// Once broken it stays broken.
+fn assert_stays_broken(rt: &impl Abort, screen: &mut OverWrite<FakeWriter>) {
+    assert_same(rt, screen.put(b"abcd"), BROKEN, "put once broken");
+    assert_same(rt, screen.put(b""), BROKEN, "put of nothing once broken");
+    assert_same(rt, screen.flush(), UNFLUSHED, "flush once broken");
+    assert_same(rt, screen.is_broken(), true, "once broken");
+}
+
+/// Puts until one is refused or the list ends, then flushes. The screen calls its writer no more
+/// once it is broken.
+fn assert_row(rt: &impl Abort, alloc: Global, row: &Row) {
+    let Row(outcomes, flushes, puts, flushed, bytes, calls) = *row;
+    let mut screen = OverWrite::new(FakeWriter::new(alloc, outcomes, flushes));
+    assert_same(rt, screen.is_broken(), false, outcomes);
+    for want in puts {
+        assert_put(rt, &mut screen, *want);
+    }
+    assert_same(rt, screen.flush(), flushed, outcomes);
+    assert_same(rt, screen.is_broken(), flushed.is_err(), outcomes);
+    if flushed.is_err() {
+        assert_stays_broken(rt, &mut screen);
+    }
+    let writer = screen.into_inner();
+    assert_same(rt, writer.bytes.as_slice(), bytes.as_bytes(), outcomes);
+    assert_same(rt, writer.calls, calls, outcomes);
+}
+
+#[test]
+fn over_write_breaks_with_its_writer(rt: HostRuntime) {
+    for row in &ROWS {
+        assert_row(&rt, rt.alloc(), row);
+    }
+}
+
+#[test]
+fn over_write_may_take_no_bytes_of_none(rt: HostRuntime) {
+    let mut screen = OverWrite::new(FakeWriter::new(rt.alloc(), &[Takes(0)], true));
+    assert_same(&rt, screen.put(b""), Ok(0), "put");
+    assert_same(&rt, screen.is_broken(), false, "broken");
+}
+
+const TASK: Task = ("task", Some((3, Some(10))));
+
+#[rattlefmt::skip]
+const FRAMES: [(Ask, Answer); 4] = [
+    (Show(&[TASK]), Answer::Drawn),
+    (Print(&[("task", "one")], &[("task", Some((4, Some(10))))]), Answer::Drawn),
+    (Show(&[]), Answer::Drawn),
+    (Quit, Answer::Ended),
+];
+
+/// A new renderer draws all frames on a screen.
+fn assert_frames<S: Screen>(rt: &impl Abort, alloc: Global, screen: &mut S) {
+    let mut state = renderer(alloc, (40, 24));
+    for (ask, want) in &FRAMES {
+        let got = draw(alloc, screen, &mut state, *ask);
+        assert_same(rt, got, Ok(*want), "frame");
+    }
+}
+
+#[test]
+fn over_write_has_the_bytes_of_a_memory_screen(rt: HostRuntime) -> Result<(), Fail> {
+    let alloc = rt.alloc();
+    let mut memory = MemoryScreen::new(alloc, 400)?;
+    assert_frames(&rt, alloc, &mut memory);
+    let mut list = OverWrite::new(Vec::new(alloc));
+    assert_frames(&rt, alloc, &mut list);
+    assert_same(&rt, list.into_inner().as_slice(), memory.bytes(), "list");
+    let mut slow = OverWrite::new(FakeWriter::new(alloc, &[Takes(1)], true));
+    assert_frames(&rt, alloc, &mut slow);
+    let slow = slow.into_inner();
+    assert_same(&rt, slow.bytes.as_slice(), memory.bytes(), "slow");
+    let calls = (memory.bytes().len(), FRAMES.len());
+    assert_same(&rt, slow.calls, calls, "calls");
+    Ok(())
+}
+
+const BREAKS: [Outcome; 2] = [Takes(5), Fails(ErrorKind::Interrupted)];
+
+const AFTER: [Ask; 3] = [Show(&[TASK]), Show(&[]), Quit];
+
+#[test]
+fn renderer_ends_once_its_writer_fails(rt: HostRuntime) {
+    let mut screen = OverWrite::new(FakeWriter::new(rt.alloc(), &BREAKS, true));
+    let mut state = renderer(rt.alloc(), (40, 24));
+    for ask in &AFTER {
+        let answer = draw(rt.alloc(), &mut screen, &mut state, *ask);
+        assert_same(&rt, answer, Err(Refusal::Broken), "answer");
+        assert_same(&rt, state.ended(), Some(Refusal::Broken), "end");
+    }
+    let writer = screen.into_inner();
+    assert_same(&rt, writer.bytes.as_slice(), b" task".as_slice(), "bytes");
+    assert_same(&rt, writer.calls, (2, 0), "calls");
+}

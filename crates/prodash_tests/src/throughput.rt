@@ -1,0 +1,229 @@
+use crate::fixtures::{ShortRow, assert_same, key_at, rows};
+use prodash::unit::display;
+use prodash::{Refusal, Throughput};
+use std::alloc::Global;
+use std::process::Abort;
+use std::test::Fail;
+
+/// A moment, the step of a key at it if the key has progress, and the change in one second that is
+/// returned.
+type Turn = (u64, Option<u64>, Option<u64>);
+
+const MAX: u64 = u64::MAX;
+
+/// Three samples, 40 in 1.2 seconds; then a second without a change.
+#[rattlefmt::skip]
+const STEADY: [Turn; 8] = [
+    (0, Some(3), None),
+    (400_000_000, Some(10), None),
+    (800_000_000, Some(20), None),
+    (1_200_000_000, Some(30), None),
+    (1_600_000_000, Some(50), Some(33)),
+    (2_000_000_000, Some(50), Some(33)),
+    (2_400_000_000, Some(50), Some(33)),
+    (2_800_000_000, Some(50), Some(0)),
+];
+
+/// Marks at the first, the fourth, the seventh and the last sample, of which the last alone takes
+/// more than a second.
+#[rattlefmt::skip]
+const UNEVEN: [Turn; 9] = [
+    (0, None, None),
+    (100, Some(0), None),
+    (300_000_100, Some(10), None),
+    (600_000_100, Some(20), None),
+    (1_200_000_100, Some(80), Some(66)),
+    (1_500_000_100, Some(90), Some(66)),
+    (1_800_000_100, Some(100), Some(66)),
+    (2_300_000_100, Some(150), Some(63)),
+    (5_000_000_100, Some(700), Some(203)),
+];
+
+/// Steps that rise and fall by the greatest number: a fall counts as 0.
+#[rattlefmt::skip]
+const GREATEST: [Turn; 5] = [
+    (0, None, None),
+    (400_000_000, Some(0), None),
+    (800_000_000, Some(MAX), None),
+    (1_200_000_000, Some(0), None),
+    (1_600_000_000, Some(MAX), Some(MAX)),
+];
+
+/// A nanosecond more than a second is a mark, and a second is none.
+#[rattlefmt::skip]
+const NANOSECOND: [Turn; 3] = [
+    (0, None, None),
+    (1, Some(0), None),
+    (1_000_000_002, Some(MAX), Some(18_446_744_055_262_807_559)),
+];
+
+#[rattlefmt::skip]
+const SECOND: [Turn; 4] = [
+    (0, None, None),
+    (1, Some(0), None),
+    (1_000_000_001, Some(7), None),
+    (1_000_000_002, Some(9), Some(8)),
+];
+
+/// Nothing is recorded after the clock went back, but the new moment is kept.
+#[rattlefmt::skip]
+const BACK: [Turn; 4] = [
+    (1000, None, None),
+    (400, Some(5), None),
+    (900, Some(5), None),
+    (1_000_000_901, Some(12), Some(6)),
+];
+
+/// Moments without a step are left out.
+#[rattlefmt::skip]
+const GAPS: [Turn; 6] = [
+    (0, None, None),
+    (10, Some(1), None),
+    (20, None, None),
+    (2_000_000_020, Some(5), Some(2)),
+    (2_000_000_030, None, None),
+    (2_000_000_040, Some(6), Some(2)),
+];
+
+/// A moment that comes twice has an elapsed time of 0.
+#[rattlefmt::skip]
+const TWICE: [Turn; 4] = [
+    (0, None, None),
+    (0, Some(4), None),
+    (0, Some(9), None),
+    (1_000_000_001, Some(9), Some(0)),
+];
+
+#[rattlefmt::skip]
+const LAST_MOMENT: [Turn; 2] = [
+    (0, None, None),
+    (MAX, Some(0), None),
+];
+
+#[rattlefmt::skip]
+const TABLES: [&[Turn]; 9] = [
+    &STEADY,
+    &UNEVEN,
+    &GREATEST,
+    &NANOSECOND,
+    &SECOND,
+    &BACK,
+    &GAPS,
+    &TWICE,
+    &LAST_MOMENT,
+];
+
+/// The number of a key, its step if it has progress, and the change in one second that is returned.
+type Change = (u16, Option<u64>, Option<u64>);
+
+/// A moment, and the changes of keys at it.
+type Moment = (u64, &'static [Change]);
+
+/// The tracker returns these changes at a moment.
+fn assert_changes(
+    rt: &impl Abort,
+    alloc: Global,
+    tracker: &mut Throughput,
+    at: u64,
+    changes: &[Change],
+) -> Result<(), Refusal> {
+    tracker.update_elapsed(at);
+    for (number, step, want) in changes {
+        let got = tracker.update_and_get(alloc, &key_at(&[*number]), *step)?;
+        let want = want.map(|change| display::Throughput::new(change, 1_000_000_000));
+        assert_same(rt, got, want, (at, *number));
+    }
+    Ok(())
+}
+
+fn assert_turns(rt: &impl Abort, alloc: Global, turns: &[Turn]) -> Result<(), Refusal> {
+    let mut tracker = Throughput::new(alloc);
+    for (at, step, want) in turns {
+        assert_changes(rt, alloc, &mut tracker, *at, &[(0, *step, *want)])?;
+    }
+    Ok(())
+}
+
+#[test]
+fn throughput_changes_at_marks(rt: HostRuntime) -> Result<(), Fail> {
+    for turns in &TABLES {
+        assert_turns(&rt, rt.alloc(), turns)?;
+    }
+    Ok(())
+}
+
+/// A tracker after these moments.
+fn tracker_after(
+    rt: &impl Abort,
+    alloc: Global,
+    moments: &[Moment],
+) -> Result<Throughput, Refusal> {
+    let mut tracker = Throughput::new(alloc);
+    for (at, changes) in moments {
+        assert_changes(rt, alloc, &mut tracker, *at, changes)?;
+    }
+    Ok(tracker)
+}
+
+/// The key 7 has the steps of `STEADY`, and the first two moments have another key.
+#[rattlefmt::skip]
+const APART: [Moment; 8] = [
+    (0, &[(7, Some(3), None), (3, None, None)]),
+    (400_000_000, &[(7, Some(10), None), (3, Some(0), None)]),
+    (800_000_000, &[(7, Some(20), None)]),
+    (1_200_000_000, &[(7, Some(30), None)]),
+    (1_600_000_000, &[(7, Some(50), Some(33))]),
+    (2_000_000_000, &[(7, Some(50), Some(33))]),
+    (2_400_000_000, &[(7, Some(50), Some(33))]),
+    (2_800_000_000, &[(7, Some(50), Some(0))]),
+];
+
+#[test]
+fn keys_are_measured_apart(rt: HostRuntime) -> Result<(), Fail> {
+    tracker_after(&rt, rt.alloc(), &APART)?;
+    Ok(())
+}
+
+/// Three keys at two moments.
+#[rattlefmt::skip]
+const THREE: [Moment; 2] = [
+    (0, &[(1, Some(10), None), (2, Some(10), None), (3, Some(10), None)]),
+    (5, &[(1, Some(10), None), (2, Some(10), None), (3, Some(10), None)]),
+];
+
+/// Two seconds after the second moment.
+const LATER: u64 = 2_000_000_005;
+
+/// Two seconds later.
+const LAST: u64 = 4_000_000_005;
+
+const LISTED: [ShortRow; 2] = [(&[3], "three", None), (&[1], "one", Some((10, None)))];
+
+const OF_LISTED: [Change; 3] = [
+    (1, Some(30), Some(10)),
+    (2, Some(30), None),
+    (3, Some(30), Some(10)),
+];
+
+#[test]
+fn unlisted_keys_are_forgotten(rt: HostRuntime) -> Result<(), Fail> {
+    let alloc = rt.alloc();
+    let mut tracker = tracker_after(&rt, alloc, &THREE)?;
+    tracker.reconcile(rows(alloc, &LISTED)?.as_slice());
+    assert_changes(&rt, alloc, &mut tracker, LATER, &OF_LISTED)?;
+    Ok(())
+}
+
+#[test]
+fn copies_are_equal_and_independent(rt: HostRuntime) -> Result<(), Fail> {
+    let alloc = rt.alloc();
+    let mut tracker = tracker_after(&rt, alloc, &THREE)?;
+    let mut copy = tracker.copy(alloc, rows(alloc, &LISTED)?.as_slice())?;
+    let mut later = tracker.copy(alloc, &[])?;
+    tracker.reconcile(&[]);
+    assert_changes(&rt, alloc, &mut copy, LATER, &[(1, Some(30), Some(10))])?;
+    assert_changes(&rt, alloc, &mut copy, LAST, &[(1, Some(70), Some(20))])?;
+    assert_changes(&rt, alloc, &mut tracker, LATER, &[(1, Some(30), None)])?;
+    assert_changes(&rt, alloc, &mut later, LATER, &[(1, Some(30), Some(10))])?;
+    Ok(())
+}
