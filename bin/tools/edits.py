@@ -2,7 +2,7 @@
 import os
 import re
 
-from functions import checker_name, functions_of, may_call
+from functions import checker_name, functions_of
 
 
 class Edit:
@@ -13,8 +13,8 @@ class Edit:
         # The changed files by their paths, or why `rt` can't apply the edit.
         self.texts, self.fault = rt.read_edit(file, crate.folder)
         self.steps = list(steps_in(file)) if not self.fault else []
-        # The changed functions with their new bodies, by the checker's names; empty if something else changes too.
-        self.changed = {}
+        # The changed functions, by the checker's names; empty if something else changes too.
+        self.changed = set()
 
     def applied(self, texts, read):
         """Returns the texts with this edit made too, or None if an `old:` text no longer stands there once."""
@@ -28,7 +28,7 @@ class Edit:
 
     def find_functions(self, crate, read, printed):
         """Finds the functions that the edit changes."""
-        texts, changed = {}, {}
+        texts, changed = {}, set()
         for path, old, new in self.steps:
             text = texts[path] if path in texts else read(path)
             function = enclosing(text, old, new) if path.endswith(".rt") else None
@@ -36,16 +36,8 @@ class Edit:
             if not name:
                 return
             texts[path] = text.replace(old, new)
-            changed[name] = function, new_body(texts[path], function)
+            changed.add(name)
         self.changed = changed
-
-    def clashes(self, other):
-        """Returns whether both change one function, or one changes what the other may call."""
-        for name, (function, body) in self.changed.items():
-            for its_name, (its_function, its_body) in other.changed.items():
-                if name == its_name or may_call(body, its_function) or may_call(its_body, function):
-                    return True
-        return False
 
 
 def steps_in(file):
@@ -71,22 +63,16 @@ def enclosing(text, old, new):
     return min(around, key=lambda it: it.end - it.start, default=None)
 
 
-def new_body(text, function):
-    """Returns the body of a function of the unedited text in the edited one."""
-    same = (it for it in functions_of(text) if it[:5] == function[:5])
-    return next((text[it.start : it.end] for it in same), "")
-
-
 def rounds_of(edits, most):
-    """Puts edits that don't clash together, at most `most` of them, first those whose function has most edits."""
+    """Puts edits of different functions together, at most `most` of them, in as few rounds as the function with most edits allows."""
 
     def rivals(edit):
         return max(sum(name in it.changed for it in edits) for name in edit.changed)
 
     rounds = []
     for edit in sorted(edits, key=rivals, reverse=True):
-        free = (it for it in rounds if len(it) < most and not any(map(edit.clashes, it)))
-        found = next(free, None)
+        free = (it for it in rounds if len(it) < most and all(edit.changed.isdisjoint(other.changed) for other in it))
+        found = min(free, key=len, default=None)
         if found is None:
             rounds.append([edit])
         else:

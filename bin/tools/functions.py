@@ -107,19 +107,11 @@ def checker_name(crate, path, function, printed):
     name = "::".join([module, *([function.block] if function.block else []), function.name])
     if name in printed:
         return name
-    if not function.block or function.block == function.type:
+    if not function.block:
         return None
     pattern = re.escape(f"{module}::{function.type}") + r"\w+::" + re.escape(function.name)
+    if function.block == function.type:
+        # the checker names it in the module of its type
+        pattern = re.escape(f"{crate}::") + r"(?:\w+::)*" + re.escape(f"{function.type}::{function.name}")
     alike = [it for it in printed if re.fullmatch(pattern, it)]
     return alike[0] if len(alike) == 1 else None
-
-
-def may_call(body, function):
-    """Returns whether a body may call the function, judged by names alone."""
-    name = re.escape(function.name)
-    if function.type is None:
-        return bool(re.search(rf"(?<![.\w]){name}\b", body))
-    if function.name == "from" and "?" in body:
-        return True
-    path = rf"\b(?:Self|{re.escape(function.type)})\s*(?:::\s*<[^;]*>)?\s*::\s*{name}\b"
-    return bool(re.search(rf"\.\s*{name}\b|{path}", body))

@@ -22,6 +22,12 @@ pub fn lesser(x: usize, y: usize) -> usize
     if x < y { x } else { y }
 }
 
+pub fn least(x: usize, y: usize, z: usize) -> usize
+    ensures { result ≡ min (min x y) z }
+{
+    lesser(lesser(x, y), z)
+}
+
 pub fn zero() -> usize
     ensures { result ≡ 0 }
 {
@@ -37,6 +43,8 @@ FILES = {
 EDITS = {
     "must-fail/changes_nothing": ("old:     x\nnew:     { x }", "GOT THROUGH", ""),
     "edits/wrong_body": ("old: x < y\nnew: y < x", "refused at a goal", "small::lesser"),
+    "edits/caller_as_before": ("old:     lesser(lesser(x, y), z)\nnew:     { lesser(lesser(x, y), z) }", "GOT THROUGH", ""),
+    "edits/wrong_caller": ("old: lesser(lesser(x, y), z)\nnew: lesser(lesser(x, y), y)", "refused at a goal", "small::least"),
     "edits/names_nothing": ("old: absent\nnew: x", "DOES NOT READ", "0 times"),
     "edits/does_not_compile": ("old:     0\nnew:     absent", "DOES NOT READ", "src/lib.rt"),
 }
