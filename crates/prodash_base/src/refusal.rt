@@ -26,6 +26,9 @@ pub enum Refusal {
     /// As many owners of the root as a `u64` can count exist already. Nothing has changed.
     #[error("too many handles")]
     TooManyHandles,
+    /// A thread couldn't be started. None runs that the call started before.
+    #[error("no thread")]
+    NoThread,
 }
 
 impl From<AllocError> for Refusal {

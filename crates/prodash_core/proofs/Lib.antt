@@ -15,3 +15,4 @@ pub mod WorkedRuns
 pub mod WorkedDashboard
 pub mod DashboardLaws
 pub mod WorkedPrefixes
+pub mod ReadingEvents

@@ -21,6 +21,7 @@ renders_after r input s (Ok answer) r' s' h = h.renderer
 renders_after r input s (Err refusals.Memory) r' s' h = h.renderer
 renders_after r input s (Err refusals.TooManyMessages) r' s' h = absurd h
 renders_after r input s (Err refusals.TooManyHandles) r' s' h = absurd h
+renders_after r input s (Err refusals.NoThread) r' s' h = absurd h
 renders_after r input s (Err refusals.Gone) r' s' h = absurd h
 renders_after r input s (Err refusals.Closed) r' s' h = h.renderer
 renders_after r input s (Err refusals.Broken) r' s' h = ⊎_elim (λ a. a.renderer ∙ (λ i. record r { ended = a.ended i })) (λ b. b.renderer) h
@@ -76,6 +77,7 @@ frame_idle r input s (Ok answers.Ended) r' s' m h = cc
 frame_idle r input s (Err refusals.Memory) r' s' m h = (h.renderer, h.screen)
 frame_idle r input s (Err refusals.TooManyMessages) r' s' m h = cc
 frame_idle r input s (Err refusals.TooManyHandles) r' s' m h = cc
+frame_idle r input s (Err refusals.NoThread) r' s' m h = cc
 frame_idle r input s (Err refusals.Gone) r' s' m h = cc
 frame_idle r input s (Err refusals.Closed) r' s' m h = cc
 frame_idle r input s (Err refusals.Broken) r' s' m h = cc

@@ -43,6 +43,7 @@ plays_by (OnTree memory change) said law w s (Err refusals.Memory) t' h =
     record { may = h.0; accepted = h.1; session = λ i. record w { tree = h.2 i }; screen = refl }
 plays_by (OnTree memory change) said law w s (Err refusals.TooManyMessages) t' h = refused w s change refusals.TooManyMessages t' h
 plays_by (OnTree memory change) said law w s (Err refusals.TooManyHandles) t' h = refused w s change refusals.TooManyHandles t' h
+plays_by (OnTree memory change) said law w s (Err refusals.NoThread) t' h = refused w s change refusals.NoThread t' h
 plays_by (OnTree memory change) said law w s (Err refusals.Gone) t' h = refused w s change refusals.Gone t' h
 plays_by (OnTree memory change) said law w s (Err refusals.Closed) t' h = refused w s change refusals.Closed t' h
 plays_by (OnTree memory change) said law w s (Err refusals.Broken) t' h = refused w s change refusals.Broken t' h

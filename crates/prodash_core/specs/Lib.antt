@@ -1,6 +1,9 @@
 pub mod Tables
 pub mod Trees
+pub mod Refusals
+pub mod Replies
 pub mod Sessions
 pub mod Runs
 pub mod Dashboard
 pub mod Prefixes
+pub mod Traits

@@ -90,6 +90,7 @@ then_orderly frame (Err refusals.Closed) attempts h hs = hs
 then_orderly frame (Err refusals.Gone) attempts h hs = hs
 then_orderly frame (Err refusals.TooManyMessages) attempts h hs = hs
 then_orderly frame (Err refusals.TooManyHandles) attempts h hs = hs
+then_orderly frame (Err refusals.NoThread) attempts h hs = hs
 
 -- the frames of a list of inputs
 pub orderly_frames : (r : Renderer) (xs : List Rendering) → AllByRecursion IsOrderly (drawn_frames r xs)

@@ -45,6 +45,7 @@ all_written_step r s input (Err refusals.Broken) s₁ attempts n h whole more = 
 all_written_step r s input (Err refusals.Gone) s₁ attempts n h whole more = absurd h
 all_written_step r s input (Err refusals.TooManyMessages) s₁ attempts n h whole more = absurd h
 all_written_step r s input (Err refusals.TooManyHandles) s₁ attempts n h whole more = absurd h
+all_written_step r s input (Err refusals.NoThread) s₁ attempts n h whole more = absurd h
 
 -- on a screen that isn't broken every frame is written
 all_written : (r : Renderer) (s : ScreenState) (xs : List Rendering) (s' : ScreenState) → RendersAll r s xs s' → NotBroken r.ended → s'.broken ≡ false → AllWritten (attempts_of r xs)

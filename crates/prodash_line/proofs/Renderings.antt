@@ -74,6 +74,7 @@ breaks_exactly_once r s input (Err refusals.Broken) s' h = record {
 breaks_exactly_once r s input (Err refusals.Gone) s' h = absurd h
 breaks_exactly_once r s input (Err refusals.TooManyMessages) s' h = absurd h
 breaks_exactly_once r s input (Err refusals.TooManyHandles) s' h = absurd h
+breaks_exactly_once r s input (Err refusals.NoThread) s' h = absurd h
 
 -- `Broken` is returned exactly if it was returned before or the screen breaks
 pub breaks_exactly : (r : Renderer) (s : ScreenState) (xs : List Rendering) (s' : ScreenState) → RendersAll r s xs s' → RendersEach BreaksExactly r s xs s'
@@ -102,6 +103,7 @@ broken_once r s input (Err refusals.Broken) s' h b = ⊎_elim (λ refuses. ap (�
 broken_once r s input (Err refusals.Gone) s' h b = absurd h
 broken_once r s input (Err refusals.TooManyMessages) s' h b = absurd h
 broken_once r s input (Err refusals.TooManyHandles) s' h b = absurd h
+broken_once r s input (Err refusals.NoThread) s' h b = absurd h
 
 pub stays_broken : (r : Renderer) (s : ScreenState) (xs : List Rendering) (s' : ScreenState) → RendersAll r s xs s' → s.broken ≡ true → s'.broken ≡ true
 stays_broken r s [] s' h b = ap (λ q. q.broken) h ∙ b
@@ -129,6 +131,7 @@ flushed_once r s input (Err refusals.Broken) s' h whole flushed = ⊎_elim
 flushed_once r s input (Err refusals.Gone) s' h whole flushed = absurd h
 flushed_once r s input (Err refusals.TooManyMessages) s' h whole flushed = absurd h
 flushed_once r s input (Err refusals.TooManyHandles) s' h whole flushed = absurd h
+flushed_once r s input (Err refusals.NoThread) s' h whole flushed = absurd h
 
 -- a screen that isn't broken has flushed all that it took, if it had before
 pub stays_flushed : (r : Renderer) (s : ScreenState) (xs : List Rendering) (s' : ScreenState) → RendersAll r s xs s' → s.flushed ≡ s.bytes → s'.broken ≡ false → s'.flushed ≡ s'.bytes
@@ -148,6 +151,7 @@ broken_refuses r s input (Err refusals.Broken) s' b h =
 broken_refuses r s input (Err refusals.Gone) s' b h = absurd h
 broken_refuses r s input (Err refusals.TooManyMessages) s' b h = absurd h
 broken_refuses r s input (Err refusals.TooManyHandles) s' b h = absurd h
+broken_refuses r s input (Err refusals.NoThread) s' b h = absurd h
 
 pub refuses_all : (r : Renderer) (s : ScreenState) (xs : List Rendering) (s' : ScreenState) → r.ended ≡ Some refusals.Broken → RendersAll r s xs s'
     → AllBroken (attempts_of r xs) × (s'.bytes ≡ s.bytes)
@@ -205,6 +209,7 @@ writes_step r s input (Err refusals.Broken) s₁ xs s' lines same h hs more = �
 writes_step r s input (Err refusals.Gone) s₁ xs s' lines same h hs more = absurd h
 writes_step r s input (Err refusals.TooManyMessages) s₁ xs s' lines same h hs more = absurd h
 writes_step r s input (Err refusals.TooManyHandles) s₁ xs s' lines same h hs more = absurd h
+writes_step r s input (Err refusals.NoThread) s₁ xs s' lines same h hs more = absurd h
 
 -- the frames are written over the lines on screen
 pub writes_attempts : (r : Renderer) (s : ScreenState) (xs : List Rendering) (s' : ScreenState) (lines : List Line) → RendersAll r s xs s' → r.widths ≡ widths_of lines

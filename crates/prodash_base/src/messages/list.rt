@@ -5,6 +5,7 @@ ghost use Rattle.prodash_base.specs.plumbing.SameMessages as same;
 ghost use Rattle.prodash_base.specs.Messages.{same_messages};
 
 use crate::messages::Message;
+use std::alloc::AllocError;
 use std::marker::Model;
 
 /// Messages that were copied from a ring. Contracts see the list.
@@ -42,6 +43,15 @@ impl Messages {
         ensures { result.items ≡ self }
     {
         self.messages
+    }
+}
+
+impl Clone for Messages {
+    ghost is_clone = { λ a b. b ≡ a };
+
+    fn clone(&self) -> Result<Messages, AllocError> {
+        let messages = self.messages.clone()?;
+        Ok(Messages { messages })
     }
 }
 

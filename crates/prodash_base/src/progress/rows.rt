@@ -5,6 +5,7 @@ ghost use Rattle.prodash_base.specs.plumbing.SameRows as same;
 ghost use Rattle.prodash_base.specs.Rows.{rows_of, same_rows};
 
 use crate::progress::Row;
+use std::alloc::AllocError;
 use std::marker::Model;
 
 /// The rows of a snapshot. Contracts see the list of their paths and entries.
@@ -49,6 +50,15 @@ impl Rows {
         ensures { rows_of result.items ≡ self }
     {
         self.rows
+    }
+}
+
+impl Clone for Rows {
+    ghost is_clone = { λ a b. b ≡ a };
+
+    fn clone(&self) -> Result<Rows, AllocError> {
+        let rows = self.rows.clone()?;
+        Ok(Rows { rows })
     }
 }
 

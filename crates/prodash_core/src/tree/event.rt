@@ -1,10 +1,11 @@
-ghost use Rattle.std.specs.Prelude.{◌≡◌};
+ghost use Rattle.std.specs.Prelude.{◌≡◌, false};
 
 use prodash_base::messages::{MessageCopyState, MessageLevel, Messages};
 use prodash_base::progress::{Id, Rows, Step};
 use prodash_base::time::Moment;
 use prodash_base::unit::Unit;
 use prodash_base::{Refusal, Text};
+use std::alloc::AllocError;
 
 /// A handle for the root or an item. The root's is 0, and each `AddChild` makes the next.
 pub type Handle = u64;
@@ -208,5 +209,119 @@ impl Event {
             self,
             Event::Tick { .. } | Event::Resize { .. } | Event::Quit { .. }
         )
+    }
+}
+
+impl Clone for Event {
+    ghost is_clone = { λ a b. b ≡ a };
+
+    fn clone(&self) -> Result<Event, AllocError> {
+        Ok(match self {
+            Event::AddChild { parent, name, id } => Event::AddChild {
+                parent: *parent,
+                name: name.clone()?,
+                id: *id,
+            },
+            Event::Drop { item } => Event::Drop { item: *item },
+            Event::Init { item, max, unit } => Event::Init {
+                item: *item,
+                max: *max,
+                unit: *unit,
+            },
+            Event::SetName { item, name } => Event::SetName {
+                item: *item,
+                name: name.clone()?,
+            },
+            Event::SetMax { item, max } => Event::SetMax {
+                item: *item,
+                max: *max,
+            },
+            Event::Set { item, step } => Event::Set {
+                item: *item,
+                step: *step,
+            },
+            Event::IncBy { item, step } => Event::IncBy {
+                item: *item,
+                step: *step,
+            },
+            Event::Blocked { item, reason, eta } => Event::Blocked {
+                item: *item,
+                reason: *reason,
+                eta: *eta,
+            },
+            Event::Halted { item, reason, eta } => Event::Halted {
+                item: *item,
+                reason: *reason,
+                eta: *eta,
+            },
+            Event::Running { item } => Event::Running { item: *item },
+            Event::Message {
+                item,
+                at,
+                level,
+                text,
+            } => Event::Message {
+                item: *item,
+                at: *at,
+                level: *level,
+                text: text.clone()?,
+            },
+            Event::Name { item } => Event::Name { item: *item },
+            Event::Id { item } => Event::Id { item: *item },
+            Event::Step { item } => Event::Step { item: *item },
+            Event::Max { item } => Event::Max { item: *item },
+            Event::Unit { item } => Event::Unit { item: *item },
+            Event::NumTasks => Event::NumTasks,
+            Event::Snapshot => Event::Snapshot,
+            Event::CopyMessages => Event::CopyMessages,
+            Event::CopyNew { previous } => Event::CopyNew {
+                previous: *previous,
+            },
+            Event::DropRoot => Event::DropRoot,
+            Event::Tick { at, show } => Event::Tick {
+                at: *at,
+                show: *show,
+            },
+            Event::Resize {
+                at,
+                show,
+                columns,
+                rows,
+            } => Event::Resize {
+                at: *at,
+                show: *show,
+                columns: *columns,
+                rows: *rows,
+            },
+            Event::Quit { at } => Event::Quit { at: *at },
+        })
+    }
+}
+
+impl Clone for Reply {
+    ghost use Rattle.prodash_core.specs.Replies.{owns_memory};
+
+    ghost is_clone = { λ a b. b ≡ a };
+
+    ghost is_infallible = { λ a. owns_memory a ≡ false };
+
+    fn clone(&self) -> Result<Reply, AllocError> {
+        Ok(match self {
+            Reply::Made(handle) => Reply::Made(*handle),
+            Reply::Done => Reply::Done,
+            Reply::Bound(bound) => Reply::Bound(*bound),
+            Reply::Name(None) => Reply::Name(None),
+            Reply::Name(Some(name)) => Reply::Name(Some(name.clone()?)),
+            Reply::Id(id) => Reply::Id(*id),
+            Reply::Step(step) => Reply::Step(*step),
+            Reply::Unit(unit) => Reply::Unit(*unit),
+            Reply::Count(count) => Reply::Count(*count),
+            Reply::Rows(rows) => Reply::Rows(rows.clone()?),
+            Reply::Messages(messages) => Reply::Messages(messages.clone()?),
+            Reply::New(messages, state) => Reply::New(messages.clone()?, *state),
+            Reply::Drawn => Reply::Drawn,
+            Reply::Ended => Reply::Ended,
+            Reply::Refused(refusal) => Reply::Refused(*refusal),
+        })
     }
 }

@@ -53,6 +53,22 @@ impl Session {
         })
     }
 
+    /// Returns an equal session, whose counters are its own: what is applied to one of the two
+    /// doesn't change the other.
+    ///
+    /// # Errors
+    ///
+    /// `Memory`, if out of memory.
+    pub fn deep_clone(&self, alloc: Global) -> Result<Session, Refusal>
+        ensures ok { IfOk result (λ copy. copy ≡ self.now) }
+        ensures err { IfErr result (λ e. e ≡ Refusal.Memory) }
+    {
+        Ok(Session {
+            tree: self.tree.deep_clone(alloc)?,
+            renderer: self.renderer.deep_clone(alloc)?,
+        })
+    }
+
     /// Applies an event and returns the reply. A frame is written to the screen; no other event
     /// touches it. The reply to an event that is refused is `Refused`, with the reason.
     pub fn apply<S: Screen>(&mut self, alloc: Global, event: &Event, screen: &mut S) -> Reply

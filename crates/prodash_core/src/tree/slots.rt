@@ -75,6 +75,16 @@ impl Slots {
     }
 }
 
+impl Clone for Slots {
+    ghost is_clone = { λ a b. b ≡ a };
+
+    /// Returns a copy, whose counters are its own.
+    fn clone(&self) -> Result<Slots, AllocError> {
+        let slots = self.slots.clone()?;
+        Ok(Slots { slots })
+    }
+}
+
 impl Counters<Handle> for Slots {
     ghost use Rattle.prodash_core.specs.Trees.{counter_at};
 

@@ -1,8 +1,10 @@
-ghost use Rattle.std.specs.Prelude.{◌≡◌, IfOk, IfErr, false};
+ghost use Rattle.std.specs.Prelude.{◌≡◌, ℕ, List, IfOk, IfErr, false};
 ghost use Rattle.prodash_base.specs.Rings.{messages_since};
+ghost use Rattle.prodash_base.specs.declared.messages.MessageLevel as severity;
 ghost use Rattle.prodash_base.specs.Rows.{phase_of};
 ghost use Rattle.prodash_core.specs.Tables.{ListsEachOnce};
 ghost use Rattle.prodash_core.specs.Trees.{Tree, new_tree, slot_at, item_at, or_gone, tree_rows, snapshot_of, set_phase, is_frame, Changes, Plays};
+ghost use Rattle.prodash_core.specs.Refusals.{refusal_of};
 
 use crate::tree::event::{Event, Handle, Reply};
 use crate::tree::options::RootOptions;
@@ -54,6 +56,22 @@ impl TreeState {
         })
     }
 
+    /// Returns an equal tree, whose counters are its own.
+    ///
+    /// # Errors
+    ///
+    /// `Memory`, if out of memory.
+    pub fn deep_clone(&self, alloc: Global) -> Result<TreeState, Refusal>
+        ensures ok { IfOk result (λ copy. copy ≡ self.now) }
+        ensures err { IfErr result (λ e. e ≡ Refusal.Memory) }
+    {
+        Ok(TreeState {
+            table: self.table.clone()?,
+            slots: self.slots.clone()?,
+            ring: self.ring.deep_clone(alloc)?,
+        })
+    }
+
     /// Applies an event that is no frame, and returns the reply.
     ///
     /// # Errors
@@ -99,6 +117,38 @@ impl TreeState {
             Event::CopyMessages => self.copy_messages(alloc),
             Event::CopyNew { previous } => self.copy_new(alloc, *previous),
             Event::DropRoot => self.drop_root(),
+            Event::Tick { .. } | Event::Resize { .. } | Event::Quit { .. } => unreachable!(),
+        }
+    }
+
+    /// Returns the refusal of an event that is no frame, if `apply` refuses it however much memory
+    /// there is. It takes no memory.
+    pub fn refusal(&self, event: &Event) -> Option<Refusal>
+        requires { is_frame event.now ≡ false }
+        ensures { result ≡ refusal_of self.now event.now }
+    {
+        match event {
+            Event::AddChild { parent, .. } => self.slot(*parent).err(),
+            Event::Message { item, .. } => self.refusal_of_message(*item),
+            Event::Drop { item }
+            | Event::Init { item, .. }
+            | Event::SetName { item, .. }
+            | Event::SetMax { item, .. }
+            | Event::Set { item, .. } => self.item(*item).err(),
+            Event::IncBy { item, .. }
+            | Event::Blocked { item, .. }
+            | Event::Halted { item, .. }
+            | Event::Running { item } => self.item(*item).err(),
+            Event::Name { item }
+            | Event::Id { item }
+            | Event::Step { item }
+            | Event::Max { item }
+            | Event::Unit { item } => self.item(*item).err(),
+            Event::NumTasks
+            | Event::Snapshot
+            | Event::CopyMessages
+            | Event::CopyNew { .. }
+            | Event::DropRoot => self.root().err(),
             Event::Tick { .. } | Event::Resize { .. } | Event::Quit { .. } => unreachable!(),
         }
     }
@@ -175,6 +225,23 @@ impl TreeState {
             Err(Refusal::Gone)
         } else {
             self.slot(item)
+        }
+    }
+
+    /// Returns the refusal of a message of an item, if it is refused however much memory there is.
+    fn refusal_of_message(&self, item: Handle) -> Option<Refusal>
+        ensures { (at : ℕ) (level : MessageLevel) (text : List ℕ)
+            → result ≡ refusal_of self.now (Event.Message item at level text) }
+    {
+        match self.item(item) {
+            Err(refusal) => Some(refusal),
+            Ok(_) => {
+                if self.ring.pushed() == u64::MAX {
+                    Some(Refusal::TooManyMessages)
+                } else {
+                    None
+                }
+            }
         }
     }
 

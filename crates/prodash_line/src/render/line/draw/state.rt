@@ -145,6 +145,21 @@ impl State {
         }
     }
 
+    /// Returns an equal state.
+    ///
+    /// # Errors
+    ///
+    /// `Memory`, if out of memory.
+    pub fn deep_clone(&self, alloc: Global) -> Result<State, Refusal>
+        ensures ok { IfOk result (λ copy. copy ≡ self.now) }
+        ensures err { IfErr result (λ e. e ≡ Refusal.Memory) }
+    {
+        Ok(State {
+            past: self.past.deep_clone(alloc)?,
+            frame: LineWriter::new(alloc),
+        })
+    }
+
     /// Returns what the latest accepted tick with a root saw of the messages, or none before the
     /// first. The next tick is given the messages that came since.
     pub fn seen(&self) -> Option<MessageCopyState>
@@ -184,6 +199,24 @@ impl Past {
             cursor_hidden: false,
             ending: None,
         }
+    }
+
+    /// Returns an equal copy.
+    fn deep_clone(&self, alloc: Global) -> Result<Past, Refusal>
+        ensures ok { IfOk result (λ copy. copy ≡ self.now) }
+        ensures err { IfErr result (λ e. e ≡ Refusal.Memory) }
+    {
+        Ok(Past {
+            options: self.options,
+            widths: self.widths.clone()?,
+            last_progress_midpoint: self.last_progress_midpoint,
+            last_rows: self.last_rows.clone()?,
+            origin_widths: self.origin_widths.clone()?,
+            seen: self.seen,
+            tracker: self.copied_tracker(alloc, self.latest_rows())?,
+            cursor_hidden: self.cursor_hidden,
+            ending: self.ending,
+        })
     }
 
     /// Returns the refusal of every further frame, if there is one.
@@ -239,6 +272,17 @@ impl Past {
         }
     }
 
+    /// Returns a copy of the tracker, if there is one. It is to observe these rows.
+    fn copied_tracker(&self, alloc: Global, rows: &[Row]) -> Result<Option<Throughput>, Refusal>
+        ensures ok { IfOk result (λ tracker. tracker ≡ self.now.tracker) }
+        ensures reason { IfErr result (λ e. e ≡ Refusal.Memory) }
+    {
+        match &self.tracker {
+            None => Ok(None),
+            Some(tracker) => Ok(Some(tracker.copy(alloc, rows)?)),
+        }
+    }
+
     /// Returns a copy of the tracker, if there is one, at a moment. It is to observe these rows.
     pub(crate) fn tracker_at(
         &self,
@@ -249,12 +293,11 @@ impl Past {
         ensures ok { IfOk result (λ tracker. tracker ≡ tracker_at at self.now.tracker) }
         ensures reason { IfErr result (λ e. e ≡ Refusal.Memory) }
     {
-        let Some(tracker) = &self.tracker else {
-            return Ok(None);
-        };
-        let mut tracker = tracker.copy(alloc, rows)?;
-        tracker.update_elapsed(at);
-        Ok(Some(tracker))
+        let mut tracker = self.copied_tracker(alloc, rows)?;
+        if let Some(tracker) = &mut tracker {
+            tracker.update_elapsed(at);
+        }
+        Ok(tracker)
     }
 
     /// Keeps whether the cursor is hidden once a frame is written.

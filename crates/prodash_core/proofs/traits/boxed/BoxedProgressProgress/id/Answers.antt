@@ -1,0 +1,7 @@
+use Rattle.std.proofs.Common.{subst}
+use Rattle.prodash_core.proofs.traits.boxed.BoxedProgressProgress.id.Goals as goal
+
+pub returns : goal.returns
+returns g c =
+    subst (λ d. (goal.Progress-dyn g d).Progress.has_id d.1 c.id.result)
+    c.deref_box-1.ensures.1 c.id.ensures

@@ -1,0 +1,135 @@
+ghost use Rattle.std.specs.Prelude.{◌≡◌, ◌⊎◌, ℕ, List, None, IfOk, IfErr, OnOk, OnErr};
+ghost use Rattle.prodash_base.specs.Adjacency.{IsAscending, paths_of};
+ghost use Rattle.prodash_base.specs.Rows.{PathRow, rows_of};
+
+use prodash_base::Refusal;
+use prodash_base::messages::{Message, MessageCopyState};
+use prodash_base::progress::Row;
+use std::alloc::Global;
+
+/// The root of a tree of tasks, as a renderer sees it.
+pub trait Root {
+    ghost use Rattle.std.specs.Prelude.{ℕ, List, Option};
+    ghost use Rattle.prodash_base.specs.Rows.{PathRow};
+    ghost use Rattle.prodash_base.specs.declared.messages.Message.{Message};
+
+    /// The handle that finds the root again.
+    type WeakRoot;
+
+    /// What one look may return, for the number of messages that were seen before, if any: the
+    /// rows, the new messages, and the number of messages that were seen then.
+    ghost looks: { Self → Option ℕ → List PathRow → List Message → ℕ → Type 0 } = { λ _ _ _ _ _. Unit {0} };
+
+    /// The rows that may be returned by themselves.
+    ghost has_rows: { Self → List PathRow → Type 0 } = { λ _ _. Unit {0} };
+
+    /// The messages that may be returned by themselves.
+    ghost has_messages: { Self → List Message → Type 0 } = { λ _ _. Unit {0} };
+
+    /// What a copy of the new messages may return by itself, as `looks` without the rows.
+    ghost has_news: { Self → Option ℕ → List Message → ℕ → Type 0 } = { λ _ _ _ _. Unit {0} };
+
+    /// The numbers of tasks that may be returned.
+    ghost has_tasks: { Self → ℕ → Type 0 } = { λ _ _. Unit {0} };
+
+    /// The greatest numbers of messages that it may keep.
+    ghost keeps_at_most: { Self → ℕ → Type 0 } = { λ _ _. Unit {0} };
+
+    /// The handles that may be returned.
+    ghost has_handle: { Self → Self.WeakRoot → Type 0 } = { λ _ _. Unit {0} };
+
+    /// Returns the greatest number of messages that are kept.
+    fn messages_capacity(&self) -> usize
+        ensures { keeps_at_most self.now result };
+
+    /// Returns the number of tasks.
+    fn num_tasks(&self) -> usize
+        ensures { has_tasks self.now result };
+
+    /// Replaces the contents of `out` with the rows, in strictly ascending order of their keys.
+    ///
+    /// # Errors
+    ///
+    /// `Memory`, if there is no memory for the rows; then `out` stays as it was.
+    fn sorted_snapshot(&self, alloc: Global, out: &mut Vec<Row>) -> Result<(), Refusal>
+        ensures ok { OnOk result (has_rows self.now (rows_of out.new.items)) }
+        ensures ascending { OnOk result (IsAscending (paths_of out.new.items)) }
+        ensures err { OnErr result (out.new.items ≡ out.old.items) }
+        ensures reason { IfErr result (λ e. e ≡ Refusal.Memory) };
+
+    /// Replaces the contents of `out` with the messages that are kept, the oldest first.
+    ///
+    /// # Errors
+    ///
+    /// `Memory`, if there is no memory for the messages; then `out` stays as it was.
+    fn copy_messages(&self, alloc: Global, out: &mut Vec<Message>) -> Result<(), Refusal>
+        ensures ok { OnOk result (has_messages self.now out.new.items) }
+        ensures err { OnErr result (out.new.items ≡ out.old.items) }
+        ensures reason { IfErr result (λ e. e ≡ Refusal.Memory) };
+
+    /// Replaces the contents of `out` with the messages that are kept and were sent since the copy
+    /// that returned `previous`, the oldest first, or with all that are kept if it is `None`.
+    /// Returns the state for the next copy.
+    ///
+    /// # Errors
+    ///
+    /// `Memory`, if there is no memory for the messages; then `out` stays as it was.
+    fn copy_new_messages(
+        &self,
+        alloc: Global,
+        out: &mut Vec<Message>,
+        previous: Option<MessageCopyState>,
+    ) -> Result<MessageCopyState, Refusal>
+        ensures ok { IfOk result (λ state. has_news self.now previous out.new.items state) }
+        ensures err { OnErr result (out.new.items ≡ out.old.items) }
+        ensures reason { IfErr result (λ e. e ≡ Refusal.Memory) };
+
+    /// Does what `sorted_snapshot` and `copy_new_messages` do, with nothing between them.
+    ///
+    /// # Errors
+    ///
+    /// `Memory`, if there is no memory for the copies; then both lists stay as they were.
+    fn snapshot_and_new_messages(
+        &self,
+        alloc: Global,
+        rows: &mut Vec<Row>,
+        messages: &mut Vec<Message>,
+        previous: Option<MessageCopyState>,
+    ) -> Result<MessageCopyState, Refusal>
+        ensures ok { IfOk result (λ state.
+            looks self.now previous (rows_of rows.new.items) messages.new.items state) }
+        ensures ascending { OnOk result (IsAscending (paths_of rows.new.items)) }
+        ensures err_rows { OnErr result (rows.new.items ≡ rows.old.items) }
+        ensures err_messages { OnErr result (messages.new.items ≡ messages.old.items) }
+        ensures reason { IfErr result (λ e. e ≡ Refusal.Memory) };
+
+    /// Returns a handle that finds the root again as long as it has an owner.
+    ///
+    /// # Errors
+    ///
+    /// `Memory`, if the root can't have one more holder.
+    fn downgrade(&self) -> Result<Self::WeakRoot, Refusal>
+        ensures ok { IfOk result (λ handle. has_handle self.now handle) }
+        ensures reason { IfErr result (λ e. e ≡ Refusal.Memory) };
+}
+
+/// A handle that finds the root of a tree again as long as it has an owner.
+pub trait WeakRoot {
+    ghost use Rattle.std.specs.Prelude.{Option};
+
+    /// The root of the tree.
+    type Root;
+
+    /// The root that may be found, if any.
+    ghost finds: { Self → Option Self.Root → Type 0 } = { λ _ _. Unit {0} };
+
+    /// Returns one more owner of the root, or `None` if it has none.
+    ///
+    /// # Errors
+    ///
+    /// `TooManyHandles`, if there are 2^64 - 1 owners. `Memory`, if the root can't have one more
+    /// holder.
+    fn upgrade(&self) -> Result<Option<Self::Root>, Refusal>
+        ensures ok { IfOk result (λ root. finds self.now root) }
+        ensures reason { IfErr result (λ e. (e ≡ Refusal.Memory) ⊎ (e ≡ Refusal.TooManyHandles)) };
+}
