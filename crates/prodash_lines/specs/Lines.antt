@@ -1,0 +1,67 @@
+-- The lines of events.
+use Rattle.std.specs.Prelude.{◌≡◌, ℕ, List, [], ◌∷◌, ◌++◌, Bool, true, false, not, nat_eq, codes, Option, Some, None, IsTrue, ⊤}
+use Rattle.std.specs.List.{list_any}
+use Rattle.std.specs.Fmt.{decimal}
+use Rattle.prodash_base.specs.declared.messages.MessageLevel.{MessageLevel}
+use Rattle.prodash_base.specs.declared.messages.MessageLevel.TheVariants.{Info, Success, Failure}
+use Rattle.prodash_core.specs.declared.tree.event.Event.{Event}
+use Rattle.prodash_core.specs.declared.tree.event.Event.TheVariants.{AddChild, Drop, Init, SetName, SetMax, Set, IncBy, Blocked, Halted, Running, Message, Name, Id, Step, Max, NumTasks, Snapshot, CopyMessages, CopyNew, DropRoot, Tick, Resize, Quit}
+use Rattle.prodash_core.specs.declared.tree.event.Event.TheVariants as events
+
+-- a word and a number
+abbrev pub word_line : List ℕ → ℕ → List ℕ
+word_line word n = word ++ codes " " ++ decimal n
+
+-- a word, a number and a text
+abbrev pub text_line : List ℕ → ℕ → List ℕ → List ℕ
+text_line word n text = word ++ codes " " ++ decimal n ++ codes " " ++ text
+
+-- a bound, or `-` for none
+abbrev pub bound_word : Option ℕ → List ℕ
+bound_word None = codes "-"
+bound_word (Some n) = decimal n
+
+-- the word of a message's level
+abbrev pub level_word : MessageLevel → List ℕ
+level_word Info = codes "info"
+level_word Success = codes "done"
+level_word Failure = codes "fail"
+
+-- the word of a tick whose rows are shown or hidden
+abbrev pub tick_word : Bool → List ℕ
+tick_word true = codes "tick"
+tick_word false = codes "hold"
+
+-- a text without a line feed
+abbrev pub IsOneLine : List ℕ → Type 0
+IsOneLine text = IsTrue (not (list_any (λ b. nat_eq b 10) text))
+
+-- the line of an event; of some events there is none
+abbrev pub IsLineOf : Event → List ℕ → Type 0
+IsLineOf (AddChild parent name id) line =
+    (line ≡ text_line (codes "add") parent name) × IsOneLine name
+IsLineOf (Drop item) line = line ≡ word_line (codes "drop") item
+IsLineOf (Init item max unit) line = (word : List ℕ)
+    × (line ≡ text_line (codes "init") item (bound_word max ++ codes " " ++ word))
+IsLineOf (SetName item name) line =
+    (line ≡ text_line (codes "name") item name) × IsOneLine name
+IsLineOf (SetMax item max) line = line ≡ text_line (codes "max") item (bound_word max)
+IsLineOf (Set item step) line = line ≡ text_line (codes "set") item (decimal step)
+IsLineOf (IncBy item step) line = line ≡ text_line (codes "inc") item (decimal step)
+IsLineOf (Blocked item reason eta) line = (line ≡ word_line (codes "blocked") item) × (eta ≡ None)
+IsLineOf (Halted item reason eta) line = (line ≡ word_line (codes "halted") item) × (eta ≡ None)
+IsLineOf (Running item) line = line ≡ word_line (codes "running") item
+IsLineOf (Message item at level text) line =
+    (line ≡ text_line (level_word level) item (decimal at ++ codes " " ++ text)) × IsOneLine text
+IsLineOf DropRoot line = line ≡ codes "droproot"
+IsLineOf (Tick at show) line = line ≡ word_line (tick_word show) at
+IsLineOf (Resize at show columns rows) line =
+    (line ≡ text_line (codes "resize") at (decimal columns ++ codes " " ++ decimal rows))
+    × (show ≡ true)
+IsLineOf (Quit at) line = line ≡ word_line (codes "quit") at
+IsLineOf _ line = ⊥
+
+-- an event that adds an item
+abbrev pub IsAddition : Event → Type 0
+IsAddition (AddChild parent name id) = ⊤
+IsAddition _ = ⊥

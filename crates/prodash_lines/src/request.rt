@@ -1,0 +1,12 @@
+use prodash_core::tree::Event;
+
+/// What a line asks for.
+#[derive(Debug, Drop)]
+pub enum Request {
+    /// An event.
+    Apply(Event),
+    /// An event that adds an item, and the name of the item.
+    Name(String, Event),
+    /// Nothing: the line is not an event.
+    Fault,
+}
