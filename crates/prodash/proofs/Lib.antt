@@ -1,1 +1,4 @@
+pub mod EngineSteps
+mod JournalLaws
+mod TreeRefusals
 mod WorkedItems

@@ -1,4 +1,8 @@
 pub mod Items
+pub mod Engines
+pub mod Logs
+pub mod Wrappers
+pub mod Journals
 pub use Rattle.prodash_base.specs.Path
 pub use Rattle.prodash_base.specs.Rows
 pub use Rattle.prodash_base.specs.Messages
@@ -31,7 +35,10 @@ pub use Rattle.prodash_line.specs.Fits
 pub use Rattle.prodash_line.specs.Renderings
 pub use Rattle.prodash_core.specs.Tables
 pub use Rattle.prodash_core.specs.Trees
+pub use Rattle.prodash_core.specs.Refusals
+pub use Rattle.prodash_core.specs.Replies
 pub use Rattle.prodash_core.specs.Sessions
 pub use Rattle.prodash_core.specs.Runs
 pub use Rattle.prodash_core.specs.Dashboard
 pub use Rattle.prodash_core.specs.Prefixes
+pub use Rattle.prodash_core.specs.Traits

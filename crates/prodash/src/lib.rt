@@ -13,7 +13,7 @@
 //!
 //! let events = vec![in alloc;
 //!     Event::AddChild { parent: 0, name: Text::from_str(alloc, "task")?, id: UNKNOWN },
-//!     Event::Init { item: 1, max: Some(10) },
+//!     Event::Init { item: 1, max: Some(10), unit: None },
 //!     Event::Set { item: 1, step: 3 },
 //!     Event::Tick { at: 0, show: true },
 //! ]?;
@@ -28,13 +28,15 @@
 //!         timestamp: false,
 //!         hide_cursor: false,
 //!     },
+//!     throughput: false,
 //! };
 //! let mut screen = MemoryScreen::new(alloc, 0)?;
 //! let replies = run(alloc, &options, &events, &mut screen)?;
 //! // screen.bytes() is " task 3/10 [=======>-------------------]", a line feed, and ESC [1A
 //! ```
 //!
-//! To report progress from threads, make a [`tree::Root`] and add [`tree::Item`]s to it.
+//! To report progress from threads, make a [`tree::Root`] and add [`tree::Item`]s to it. To draw
+//! it from a thread of its own, call [`render::line::render`].
 //!
 //! Then see [`progress`] for what a task shows, [`unit`] for values as texts, [`messages`] for what
 //! tasks say, [`tree`] for the tasks without a screen, and [`render::line`] for the screen without
@@ -50,4 +52,5 @@ pub mod tree;
 pub mod unit;
 
 pub use prodash_base::{Refusal, Text, Throughput};
+pub use prodash_core::traits::{BoxedProgress, Count, NestedProgress, Progress, Root, WeakRoot};
 pub use unit::Unit;

@@ -1,9 +1,11 @@
 //! The tree of tasks, which threads share, sessions of events on one, and whole runs.
 mod item;
 mod locked;
+pub mod recorded;
 pub mod root;
 mod slots;
 mod steps;
+mod traits;
 
 pub use item::Item;
 pub use prodash_core::tree::{

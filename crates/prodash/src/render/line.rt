@@ -1,3 +1,6 @@
 //! The line renderer: a row for each task, below the messages.
 pub mod draw;
+pub mod engine;
 pub mod page;
+
+pub use engine::{JoinHandle, Options, StackSizes, StreamKind, render, render_with_stacks};

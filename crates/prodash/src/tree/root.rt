@@ -4,9 +4,6 @@ ghost use Rattle.prodash_base.specs.Adjacency.{IsAscending, paths_of};
 ghost use Rattle.prodash_base.specs.Path.{child, child_limit};
 ghost use Rattle.prodash.specs.Items.{new_place};
 
-#[cfg(test)]
-mod tests;
-
 use crate::messages::{Message, MessageCopyState};
 use crate::progress::{Id, Row, UNKNOWN};
 use crate::tree::item::Item;

@@ -1,0 +1,5 @@
+use Rattle.prodash.proofs.JournalLaws.{is_journal}
+use Rattle.prodash.proofs.tree.recorded.journal.Journal.new.Goals as goal
+
+pub invariant_of-result : goal.invariant_of-result
+invariant_of-result g c = is_journal _ _ _ _ c.requires c.into_entries.ensures.replays

@@ -1,0 +1,58 @@
+-- Journals: the accepted events of a tree, each with its reply.
+use Rattle.std.specs.Prelude.{◌≡◌, ℕ, ◌+◌, List, [], ◌∷◌, Ok}
+use Rattle.std.specs.List.{sum_by}
+use Rattle.prodash_core.specs.Trees.{Tree, new_tree, Plays}
+use Rattle.prodash_core.specs.declared.tree.event.Event.{Event}
+use Rattle.prodash_core.specs.declared.tree.event.Event.TheVariants.{IncBy}
+use Rattle.prodash_core.specs.declared.tree.event.Reply.{Reply}
+
+-- The entries lead from one tree to another: each event, in order, is accepted and has the entry's
+-- reply. So no event is a frame.
+abbrev pub Leads : Tree → List (Event × Reply) → Tree → Type 0
+Leads t [] t' = t' ≡ t
+Leads t (entry ∷ entries) t' =
+    (t₁ : Tree) × Plays t entry.0 (Ok entry.1) t₁ × Leads t₁ entries t'
+
+-- The entries replay: they lead from a tree with nothing but its root, which keeps this many
+-- messages, to the other tree.
+abbrev pub Replays : ℕ → List (Event × Reply) → Tree → Type 0
+Replays capacity entries t = Leads (new_tree capacity) entries t
+
+-- the entries replay and end at some tree
+abbrev pub IsJournal : ℕ → List (Event × Reply) → Type 0
+IsJournal capacity entries = (t : Tree) × Replays capacity entries t
+
+-- what an event adds to the counter of an item
+abbrev pub amount_of : Event → ℕ
+amount_of (IncBy n step) = step
+amount_of _ = 0
+
+-- what all events of a journal add, without a bound
+abbrev pub amount : List (Event × Reply) → ℕ
+amount entries = sum_by (λ entry. amount_of entry.0) entries
+
+-- a recorded tree: how many messages it keeps, its state, and its journal
+pub record Recorded : Type 0 where
+  pub capacity : ℕ
+  pub tree : Tree
+  pub entries : List (Event × Reply)
+
+-- what an item has done: the number of its accepted calls, and the sum of what they add
+pub record Tally : Type 0 where
+  pub calls : ℕ
+  pub sum : ℕ
+
+-- the tally of an item that has made no call
+abbrev pub no_calls : Tally
+no_calls = record { calls = 0; sum = 0 }
+
+-- the tally after an accepted call
+abbrev pub with_call : Tally → Event → Tally
+with_call tally e = record { calls = tally.calls + 1; sum = tally.sum + amount_of e }
+
+-- all shares' calls together, and the sum of their sums
+abbrev pub calls_of : List Tally → ℕ
+calls_of shares = sum_by (λ share. share.calls) shares
+
+abbrev pub sum_of : List Tally → ℕ
+sum_of shares = sum_by (λ share. share.sum) shares

@@ -1,0 +1,327 @@
+//! Progress that is logged in lines.
+ghost use Rattle.std.specs.Prelude.{◌≡◌, ◌⊎◌, ℕ, List, OnOk, OnErr, IfOk, IfErr, option_map, string_bytes};
+ghost use Rattle.prodash.specs.Logs.{new_log, child_log, joined, line_text, message_text, IsFirstPart, IsSecondPart};
+
+mod names;
+mod texts;
+mod ticker;
+mod traits;
+
+use crate::messages::MessageLevel;
+use crate::progress::{AtomicStep, Id, Step, StepShared, UNKNOWN};
+use crate::time::{Clock, Moment};
+use crate::unit::Unit;
+use log::{Log as Logger, error, info};
+use prodash_base::{Refusal, Text};
+use std::alloc::Global;
+use std::marker::{Model, PhantomData};
+use std::mem;
+use std::sync::atomic::{AtomicBool, Ordering};
+use std::sync::{Arc, Wait};
+use std::thread::Threads;
+
+/// The size of the stack of the thread that a log starts, in bytes.
+const STACK_SIZE: usize = 1 << 20;
+
+/// Progress whose steps are logged as lines, at most one in half a second of the clock `K` for all
+/// logs that share it, and whose messages are logged as they are sent. It needs no tree and no
+/// renderer. Contracts see all but its counter.
+#[derive(Drop)]
+pub struct Log<L: Logger + Drop, K: Clock + Drop> {
+    alloc: Global,
+    name: Text,
+    id: Id,
+    max: Option<Step>,
+    unit: Option<Unit>,
+    level: usize,
+    max_level: Option<usize>,
+    counter: StepShared,
+    /// Whether the next step is logged.
+    trigger: Arc<AtomicBool>,
+    logger: Arc<L>,
+    clock: PhantomData<K>,
+}
+
+impl<L: Logger + Drop, K: Clock + Drop> Model for Log<L, K> {
+    ghost use Rattle.prodash.specs.Logs.{LogState};
+
+    ghost Value = { LogState };
+
+    ghost view = { λ log. record {
+      name = log.name;
+      id = log.id;
+      max = log.max;
+      unit = log.unit;
+      level = log.level;
+      max_level = log.max_level;
+    } };
+}
+
+impl<L: Logger + Drop, K: Clock + Drop + Send + Sync + 'static> Log<L, K> {
+    /// Returns a log of this name, which logs the steps of itself and of the logs below it down to
+    /// `max_level`, or of all if it is `None`. It starts a thread, which ends after the last of
+    /// them is dropped.
+    ///
+    /// # Errors
+    ///
+    /// `Memory`, if there is no memory for it. `NoThread`, if the thread can't be started.
+    pub fn new<R: Threads + Wait + Clone + Drop + Send + Sync + 'static>(
+        rt: &R,
+        alloc: Global,
+        name: &str,
+        max_level: Option<usize>,
+        logger: L,
+        clock: Arc<K>,
+    ) -> Result<Log<L, K>, Refusal>
+        ensures ok { IfOk result (λ log. log ≡ new_log name.now UNKNOWN 0 max_level) }
+        ensures err { IfErr result (λ e. (e ≡ Refusal.Memory) ⊎ (e ≡ Refusal.NoThread)) }
+    {
+        Log::with_stack_size(rt, alloc, name, max_level, logger, clock, STACK_SIZE)
+    }
+
+    /// Does what `new` does, with a stack of this size for the thread, in bytes.
+    ///
+    /// # Errors
+    ///
+    /// As `new`: a thread whose stack is too large for the system can't be started.
+    pub fn with_stack_size<R: Threads + Wait + Clone + Drop + Send + Sync + 'static>(
+        rt: &R,
+        alloc: Global,
+        name: &str,
+        max_level: Option<usize>,
+        logger: L,
+        clock: Arc<K>,
+        stack_size: usize,
+    ) -> Result<Log<L, K>, Refusal>
+        ensures ok { IfOk result (λ log. log ≡ new_log name.now UNKNOWN 0 max_level) }
+        ensures err { IfErr result (λ e. (e ≡ Refusal.Memory) ⊎ (e ≡ Refusal.NoThread)) }
+    {
+        let log = Log {
+            alloc,
+            name: Text::from_str(alloc, name)?,
+            id: UNKNOWN,
+            max: None,
+            unit: None,
+            level: 0,
+            max_level,
+            counter: Arc::new(alloc, AtomicStep::new(0))?,
+            trigger: Arc::new(alloc, AtomicBool::new(true))?,
+            logger: Arc::new(alloc, logger)?,
+            clock: PhantomData,
+        };
+        ticker::start(rt, Arc::try_clone(&log.trigger)?, clock, stack_size)?;
+        Ok(log)
+    }
+}
+
+impl<L: Logger + Drop, K: Clock + Drop> Log<L, K> {
+    /// Returns the line that would be logged now, as `main::work → 3 / 10`.
+    ///
+    /// # Errors
+    ///
+    /// `Memory`, if there is no memory for it.
+    pub fn line(&self, alloc: Global) -> Result<String, Refusal>
+        ensures ok { IfOk result (λ line. (step : ℕ) × (string_bytes line
+            ≡ line_text self.now step)) }
+        ensures err { IfErr result (λ e. e ≡ Refusal.Memory) }
+    {
+        let step = self.counter.load(Ordering::SeqCst);
+        texts::line(alloc, self.name.as_str(), self.max, self.unit, step)
+    }
+
+    /// Returns the line of a message, as `✓main::work → done`.
+    ///
+    /// # Errors
+    ///
+    /// `Memory`, if there is no memory for it.
+    pub fn message_line(
+        &self,
+        alloc: Global,
+        level: MessageLevel,
+        message: &str,
+    ) -> Result<String, Refusal>
+        ensures ok { IfOk result (λ line. string_bytes line
+            ≡ message_text self.now.name level message.now) }
+        ensures err { IfErr result (λ e. e ≡ Refusal.Memory) }
+    {
+        texts::message_line(alloc, self.name.as_str(), level, message)
+    }
+
+    /// Sets the step, and logs the line of it if one is due.
+    pub fn set(&self, step: Step) {
+        self.counter.store(step, Ordering::SeqCst);
+        self.log_step();
+    }
+
+    /// Adds `step` to the step, and logs the line of it if one is due. A sum past 2^64 - 1 starts
+    /// again from 0.
+    pub fn inc_by(&self, step: Step) {
+        self.counter.fetch_add(step, Ordering::SeqCst);
+        self.log_step();
+    }
+
+    /// Adds 1 to the step, as `inc_by`.
+    pub fn inc(&self) {
+        self.inc_by(1);
+    }
+
+    /// Returns the step.
+    pub fn step(&self) -> Step {
+        self.counter.load(Ordering::SeqCst)
+    }
+
+    /// Returns one more owner of the counter. What changes the counter through it logs no line.
+    ///
+    /// # Errors
+    ///
+    /// `Memory`, if the counter can't have one more owner.
+    pub fn counter(&self) -> Result<StepShared, Refusal>
+        ensures { IfErr result (λ e. e ≡ Refusal.Memory) }
+    {
+        Ok(Arc::try_clone(&self.counter)?)
+    }
+
+    /// Sets the bound and the unit. The step stays as it is.
+    pub fn init(&mut self, max: Option<Step>, unit: Option<Unit>)
+        ensures { self.new ≡ record self.old { max = max; unit = unit } }
+    {
+        self.max = max;
+        self.unit = unit;
+    }
+
+    /// Returns the unit, if there is one.
+    pub fn unit(&self) -> Option<Unit>
+        ensures { result ≡ self.now.unit }
+    {
+        self.unit
+    }
+
+    /// Returns the bound, if there is one.
+    pub fn max(&self) -> Option<Step>
+        ensures { result ≡ self.now.max }
+    {
+        self.max
+    }
+
+    /// Sets the bound, and returns the bound before.
+    pub fn set_max(&mut self, max: Option<Step>) -> Option<Step>
+        ensures previous { result ≡ self.old.max }
+        ensures set { self.new ≡ record self.old { max = max } }
+    {
+        mem::replace(&mut self.max, max)
+    }
+
+    /// Returns the identifier.
+    pub fn id(&self) -> Id
+        ensures { result ≡ self.now.id }
+    {
+        self.id
+    }
+
+    /// Replaces all of the joined name but its first part: `main::work`, set to `rest`, is
+    /// `main::rest`, and `main` is too.
+    ///
+    /// # Errors
+    ///
+    /// `Memory`, if there is no memory for the name. Nothing has changed then.
+    pub fn set_name(&mut self, alloc: Global, name: &str) -> Result<(), Refusal>
+        ensures ok { OnOk result ((first : List ℕ) × IsFirstPart self.old.name first
+            × (self.new ≡ record self.old { name = joined first name.now })) }
+        ensures err { OnErr result (self.new ≡ self.old) }
+        ensures reason { IfErr result (λ e. e ≡ Refusal.Memory) }
+    {
+        let first = names::first_part(self.name.as_str());
+        self.name = names::joined(alloc, first, name)?;
+        Ok(())
+    }
+
+    /// Returns a copy of the second part of the joined name, or `None` if it has only one: of
+    /// `main::work::part` it is `work`.
+    ///
+    /// # Errors
+    ///
+    /// `Memory`, if there is no memory for the copy.
+    pub fn name(&self, alloc: Global) -> Result<Option<String>, Refusal>
+        ensures ok { IfOk result (λ name.
+            IsSecondPart self.now.name (option_map string_bytes name)) }
+        ensures err { IfErr result (λ e. e ≡ Refusal.Memory) }
+    {
+        match names::second_part(self.name.as_str()) {
+            None => Ok(None),
+            Some(second) => Ok(Some(String::from_str(alloc, second)?)),
+        }
+    }
+
+    /// Logs a message, as an error if it is a failure, and else as information. Its moment isn't
+    /// logged.
+    ///
+    /// # Errors
+    ///
+    /// `Memory`, if there is no memory for its line. Nothing is logged then.
+    pub fn message(
+        &self,
+        alloc: Global,
+        _at: Moment,
+        level: MessageLevel,
+        message: &str,
+    ) -> Result<(), Refusal>
+        ensures { IfErr result (λ e. e ≡ Refusal.Memory) }
+    {
+        let line = self.message_line(alloc, level, message)?;
+        match level {
+            MessageLevel::Failure => error!(self.logger; "{line}"),
+            MessageLevel::Info | MessageLevel::Success => info!(self.logger; "{line}"),
+        }
+        Ok(())
+    }
+
+    /// Returns a log below this one, without a bound and a unit, at the step 0. Both log at most
+    /// one step in half a second between them.
+    ///
+    /// # Errors
+    ///
+    /// `Memory`, if there is no memory for it.
+    pub fn add_child(&self, alloc: Global, name: &str) -> Result<Log<L, K>, Refusal>
+        ensures ok { IfOk result (λ child. child ≡ child_log self.now name.now UNKNOWN) }
+        ensures err { IfErr result (λ e. e ≡ Refusal.Memory) }
+    {
+        self.add_child_with_id(alloc, name, UNKNOWN)
+    }
+
+    /// Returns a log with an identifier below this one, as `add_child`.
+    ///
+    /// # Errors
+    ///
+    /// `Memory`, if there is no memory for it.
+    pub fn add_child_with_id(&self, alloc: Global, name: &str, id: Id) -> Result<Log<L, K>, Refusal>
+        ensures ok { IfOk result (λ child. child ≡ child_log self.now name.now id) }
+        ensures err { IfErr result (λ e. e ≡ Refusal.Memory) }
+    {
+        Ok(Log {
+            alloc: self.alloc,
+            name: names::joined(alloc, self.name.as_str(), name)?,
+            id,
+            max: None,
+            unit: None,
+            level: self.level.saturating_add(1),
+            max_level: self.max_level,
+            counter: Arc::new(alloc, AtomicStep::new(0))?,
+            trigger: Arc::try_clone(&self.trigger)?,
+            logger: Arc::try_clone(&self.logger)?,
+            clock: PhantomData,
+        })
+    }
+
+    /// Logs the line of now, if steps of this level are logged and the trigger is set, and unsets
+    /// the trigger. A line that runs out of memory is left out.
+    fn log_step(&self) {
+        if self.max_level.is_some_and(|most| self.level > most) {
+            return;
+        }
+        if self.trigger.swap(false, Ordering::SeqCst) {
+            if let Ok(line) = self.line(self.alloc) {
+                info!(self.logger; "{line}");
+            }
+        }
+    }
+}

@@ -1,0 +1,70 @@
+//! The lines of a log.
+ghost use Rattle.std.specs.Prelude.{◌≡◌, ◌++◌, Some, None, IfOk, IfErr, string_bytes};
+ghost use Rattle.prodash.specs.Logs.{arrowed, step_text, sign_of, message_text};
+
+use crate::messages::MessageLevel;
+use crate::progress::Step;
+use crate::unit::Unit;
+use prodash_base::Refusal;
+use std::alloc::Global;
+
+/// Returns the line of a step, as `main::work → 3 / 10`.
+pub(super) fn line(
+    alloc: Global,
+    name: &str,
+    max: Option<Step>,
+    unit: Option<Unit>,
+    step: Step,
+) -> Result<String, Refusal>
+    ensures ok { IfOk result (λ line. string_bytes line
+        ≡ arrowed name.now (step_text max unit step)) }
+    ensures err { IfErr result (λ e. e ≡ Refusal.Memory) }
+{
+    match (max, unit) {
+        (max, Some(unit)) => line_in_unit(alloc, name, max, unit, step),
+        (Some(max), None) => Ok(format!(in alloc; "{name} → {step} / {max}")?),
+        (None, None) => Ok(format!(in alloc; "{name} → {step}")?),
+    }
+}
+
+/// Returns the line of a step in a unit, as `main::work → 3/10 items`.
+fn line_in_unit(
+    alloc: Global,
+    name: &str,
+    max: Option<Step>,
+    unit: Unit,
+    step: Step,
+) -> Result<String, Refusal>
+    ensures ok { IfOk result (λ line. string_bytes line
+        ≡ arrowed name.now (step_text max (Some unit) step)) }
+    ensures err { IfErr result (λ e. e ≡ Refusal.Memory) }
+{
+    let mut value = String::new(alloc);
+    unit.display(alloc, step, max, None).append_to(&mut value)?;
+    Ok(format!(in alloc; "{name} → {value}")?)
+}
+
+/// Returns the line of a message, as `✓main::work → done`.
+pub(super) fn message_line(
+    alloc: Global,
+    name: &str,
+    level: MessageLevel,
+    message: &str,
+) -> Result<String, Refusal>
+    ensures ok { IfOk result (λ line. string_bytes line ≡ message_text name.now level message.now) }
+    ensures err { IfErr result (λ e. e ≡ Refusal.Memory) }
+{
+    let sign = sign_of(level);
+    Ok(format!(in alloc; "{sign}{name} → {message}")?)
+}
+
+/// Returns the sign of a level.
+fn sign_of(level: MessageLevel) -> &'static str
+    ensures { result.now ≡ sign_of level }
+{
+    match level {
+        MessageLevel::Info => "ℹ",
+        MessageLevel::Failure => "𐄂",
+        MessageLevel::Success => "✓",
+    }
+}

@@ -1,0 +1,14 @@
+//! Drawing from a thread of its own: a tree is drawn once a frame, until its root is gone or the
+//! handle of the renderer ends it.
+mod event;
+mod handle;
+mod mailbox;
+mod options;
+mod step;
+mod threads;
+
+pub use event::EngineEvent;
+pub use handle::JoinHandle;
+pub use options::{Options, StreamKind};
+pub use step::Engine;
+pub use threads::{StackSizes, render, render_with_stacks};

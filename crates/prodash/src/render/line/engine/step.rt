@@ -1,0 +1,161 @@
+//! The engine: each event draws one frame of what its root shows then.
+ghost use Rattle.std.specs.Prelude.{◌≡◌, ◌⊎◌, IfOk, IfErr};
+ghost use Rattle.prodash_line.specs.Renderer.{Renders, new_renderer};
+ghost use Rattle.prodash.specs.Engines.{MaySee, StepsAt};
+
+use crate::messages::{MessageCopyState, Messages};
+use crate::progress::Rows;
+use crate::render::line::draw::{self, Answer, Input, Screen};
+use crate::render::line::engine::event::EngineEvent;
+use prodash_base::Refusal;
+use prodash_core::traits::{Root, WeakRoot};
+use std::alloc::Global;
+use std::marker::Model;
+
+/// Draws the frames of a root that it finds by a weak root. Contracts see its renderer, its screen
+/// and the weak root. A function that steps one takes the type of the weak root as a parameter.
+///
+/// ```rust
+/// fn last_frame<W: WeakRoot + Drop>(alloc: Global, weak: W, options: Options) -> Result<(), Refusal>
+/// where
+///     W::Root: Root + Drop,
+/// {
+///     let screen = MemoryScreen::new(alloc, 4096)?;
+///     let mut engine = Engine::new(alloc, screen, weak, options, false)?;
+///     engine.step(EngineEvent::Tick { at: 0, show: true })?;
+///     engine.step(EngineEvent::Quit { at: 1 })?;
+///     let bytes = engine.screen().bytes();
+///     // ..
+/// }
+/// ```
+#[derive(Drop)]
+pub struct Engine<S: Screen, W: WeakRoot> {
+    alloc: Global,
+    renderer: draw::State,
+    screen: S,
+    weak: W,
+}
+
+impl<S: Screen, W: WeakRoot> Model for Engine<S, W> {
+    ghost use Rattle.std.specs.Coded.{codes};
+    ghost use Rattle.std.specs.FinMap as finite;
+    ghost use Rattle.prodash.specs.Engines.{EngineState};
+
+    ghost Value = { EngineState S W };
+
+    ghost coded = { Prim.hlevel (codes, finite.code) };
+
+    ghost view = { λ e. record { renderer = e.renderer; screen = e.screen; weak = e.weak } };
+}
+
+impl<S: Screen, W: WeakRoot> Engine<S, W>
+where
+    W::Root: Root + Drop,
+{
+    /// Returns an engine that has drawn nothing yet.
+    ///
+    /// # Errors
+    ///
+    /// `Memory`, if there is no memory for it.
+    pub fn new(
+        alloc: Global,
+        screen: S,
+        weak: W,
+        options: draw::Options,
+        throughput: bool,
+    ) -> Result<Engine<S, W>, Refusal>
+        ensures ok { IfOk result (λ engine. engine ≡ record {
+          renderer = new_renderer options throughput;
+          screen = screen;
+          weak = weak;
+        }) }
+        ensures err { IfErr result (λ e. e ≡ Refusal.Memory) }
+    {
+        Ok(Engine {
+            alloc,
+            renderer: draw::State::new(alloc, options, throughput),
+            screen,
+            weak,
+        })
+    }
+
+    /// Returns the screen.
+    pub fn screen(&self) -> &S
+        ensures { result.now ≡ self.now.screen }
+    {
+        &self.screen
+    }
+
+    /// Draws the frame of an event.
+    ///
+    /// A tick takes the rows and the new messages of the root in one look. If there is no root, it
+    /// draws the closing frame. What a frame prints and draws is what `draw::all` says.
+    ///
+    /// # Errors
+    ///
+    /// - `Closed`: a closing frame was drawn. `Broken`: the screen broke during an earlier frame.
+    ///   Every further event is refused with the same, before anything else is tried.
+    /// - `Memory`: it is out of memory. `TooManyHandles`: a tick can't own the root, since it has
+    ///   as many owners as a `u64` can count. Nothing is written, and nothing has changed.
+    /// - `Broken`: the screen broke during this frame, of which it has taken a prefix.
+    pub fn step(&mut self, event: EngineEvent) -> Result<Answer, Refusal>
+        ensures step { StepsAt event
+            (MaySee (W.finds self.old.weak) W.Root.looks self.old.renderer.seen)
+            self.old.renderer (S.state self.old.screen) result
+            self.new.renderer (S.state self.new.screen) }
+        ensures weak { self.new.weak ≡ self.old.weak }
+    {
+        if let Some(refusal) = self.renderer.ended() {
+            return Err(refusal);
+        }
+        match event {
+            EngineEvent::Tick { at, show } => {
+                let seen = self.look()?;
+                self.draw(Input::Tick { at, show, seen })
+            }
+            EngineEvent::Resize {
+                at,
+                show,
+                columns,
+                rows,
+            } => self.draw(Input::Resize {
+                at,
+                show,
+                columns,
+                rows,
+            }),
+            EngineEvent::Quit { at } => self.draw(Input::Quit { at }),
+        }
+    }
+
+    /// Draws the frame of an input.
+    fn draw(&mut self, input: Input) -> Result<Answer, Refusal>
+        ensures frame { Renders self.old.renderer input (S.state self.old.screen) result
+            self.new.renderer (S.state self.new.screen) }
+        ensures weak { self.new.weak ≡ self.old.weak }
+    {
+        draw::all(self.alloc, &mut self.screen, &mut self.renderer, input)
+    }
+
+    /// Looks at the root: returns its rows, its messages that are new since the latest tick, and
+    /// the state after them; or `None` if there is no root.
+    fn look(&self) -> Result<Option<(Rows, Messages, MessageCopyState)>, Refusal>
+        ensures ok { IfOk result (λ seen. MaySee (W.finds self.now.weak) W.Root.looks
+            self.now.renderer.seen seen) }
+        ensures err { IfErr result
+            (λ e. (e ≡ Refusal.Memory) ⊎ (e ≡ Refusal.TooManyHandles)) }
+    {
+        let Some(root) = self.weak.upgrade()? else {
+            return Ok(None);
+        };
+        let mut rows = Vec::new(self.alloc);
+        let mut messages = Vec::new(self.alloc);
+        let state = root.snapshot_and_new_messages(
+            self.alloc,
+            &mut rows,
+            &mut messages,
+            self.renderer.seen(),
+        )?;
+        Ok(Some((Rows::new(rows), Messages::new(messages), state)))
+    }
+}

@@ -1,0 +1,253 @@
+//! The threads of a renderer: its event loop, its ticker, and the delay before rows are shown.
+use crate::render::line::draw::{Answer, OverWrite, Screen};
+use crate::render::line::engine::event::EngineEvent;
+use crate::render::line::engine::handle::JoinHandle;
+use crate::render::line::engine::mailbox::{Mailbox, Request};
+use crate::render::line::engine::options::Options;
+use crate::render::line::engine::step::Engine;
+use crate::time::Clock;
+use prodash_base::Refusal;
+use prodash_core::traits::{Root, WeakRoot};
+use std::alloc::Global;
+use std::io::Write;
+use std::sync::atomic::{AtomicBool, Ordering};
+use std::sync::{Arc, Wait};
+use std::thread::{Builder, Threads};
+
+/// The sizes of the stacks of the threads that a renderer starts, in bytes: 2 MiB each by default.
+#[derive(Clone, Copy, Debug)]
+pub struct StackSizes {
+    /// The thread that draws.
+    pub event_loop: usize,
+    /// The thread that asks for a frame after each frame's time.
+    pub ticker: usize,
+    /// The thread that shows the rows after the initial delay. Without a delay it isn't started.
+    pub delay: usize,
+}
+
+impl Default for StackSizes {
+    fn default() -> StackSizes {
+        StackSizes {
+            event_loop: 0x20_0000,
+            ticker: 0x20_0000,
+            delay: 0x20_0000,
+        }
+    }
+}
+
+/// Draws the tree of a weak root onto a writer, from threads of its own: one frame at once, and one
+/// more after each frame's time. It ends when the root has no owner, when the writer fails, when a
+/// frame sees no rows and the renderer isn't to keep running, or when the handle ends it.
+///
+/// A frame that runs out of memory, or can't own the root, is left out.
+///
+/// # Errors
+///
+/// - `Memory`: there is no memory for the threads.
+/// - `NoThread`: a thread couldn't be started. Those that were have ended.
+///
+/// What the call was handed is dropped then, and nothing is drawn.
+///
+/// ```rust
+/// let root = Root::new(rt, alloc)?;
+/// let clock = Arc::new(alloc, SystemClock::new(rt))?;
+/// let handle = render(rt, alloc, stderr, root.downgrade()?, clock, Options::default())?;
+/// let mut item = root.add_child(alloc, "task")?;
+/// // work
+/// handle.shutdown_and_wait();
+/// ```
+pub fn render<
+    R: Wait + Threads + Clone + Drop + Send + Sync + 'static,
+    O: Write + Drop + Send + 'static,
+    T: Root + Drop + Send + 'static,
+    W: WeakRoot<Root = T> + Drop + Send + 'static,
+    K: Clock + Drop + Send + Sync + 'static,
+>(
+    rt: R,
+    alloc: Global,
+    out: O,
+    weak: W,
+    clock: Arc<K>,
+    options: Options,
+) -> Result<JoinHandle<R>, Refusal> {
+    render_with_stacks(rt, alloc, out, weak, clock, options, StackSizes::default())
+}
+
+/// Does what [`render`] does, with stacks of these sizes.
+///
+/// # Errors
+///
+/// As [`render`]: a thread whose stack is too large for the system can't be started.
+pub fn render_with_stacks<
+    R: Wait + Threads + Clone + Drop + Send + Sync + 'static,
+    O: Write + Drop + Send + 'static,
+    T: Root + Drop + Send + 'static,
+    W: WeakRoot<Root = T> + Drop + Send + 'static,
+    K: Clock + Drop + Send + Sync + 'static,
+>(
+    rt: R,
+    alloc: Global,
+    out: O,
+    weak: W,
+    clock: Arc<K>,
+    options: Options,
+    stacks: StackSizes,
+) -> Result<JoinHandle<R>, Refusal> {
+    let engine = Engine::new(
+        alloc,
+        OverWrite::new(out),
+        weak,
+        options.draw(),
+        options.throughput,
+    )?;
+    start(rt, alloc, engine, clock, options, stacks)
+}
+
+/// What the event loop and the ticker share with whoever started them.
+#[derive(Drop)]
+struct Shared<R: Wait + Drop, K: Clock + Drop> {
+    rt: R,
+    mailbox: Arc<Mailbox>,
+    clock: Arc<K>,
+    /// Whether rows are shown.
+    shown: Arc<AtomicBool>,
+    /// The nanoseconds from one frame to the next.
+    frame: u64,
+}
+
+impl<R: Wait + Clone + Drop, K: Clock + Drop> Shared<R, K> {
+    fn share(&self) -> Result<Shared<R, K>, Refusal> {
+        Ok(Shared {
+            rt: self.rt.clone()?,
+            mailbox: Arc::try_clone(&self.mailbox)?,
+            clock: Arc::try_clone(&self.clock)?,
+            shown: Arc::try_clone(&self.shown)?,
+            frame: self.frame,
+        })
+    }
+}
+
+/// Starts the threads of a renderer.
+fn start<
+    R: Wait + Threads + Clone + Drop + Send + Sync + 'static,
+    S: Screen + Drop + Send + 'static,
+    T: Root + Drop + Send + 'static,
+    W: WeakRoot<Root = T> + Drop + Send + 'static,
+    K: Clock + Drop + Send + Sync + 'static,
+>(
+    rt: R,
+    alloc: Global,
+    engine: Engine<S, W>,
+    clock: Arc<K>,
+    options: Options,
+    stacks: StackSizes,
+) -> Result<JoinHandle<R>, Refusal> {
+    let delay = options.initial_delay.unwrap_or(0);
+    let shared = Shared {
+        rt,
+        mailbox: Arc::new(alloc, Mailbox::new())?,
+        clock,
+        shown: Arc::new(alloc, AtomicBool::new(delay == 0))?,
+        frame: options.nanoseconds_per_frame,
+    };
+    let for_loop = shared.share()?;
+    let for_ticker = shared.share()?;
+    let for_delay = shared.share()?;
+    let event_loop = Builder::new()
+        .stack_size(stacks.event_loop)
+        .spawn(&shared.rt, move || run(for_loop, engine))
+        .or(Err(Refusal::NoThread))?;
+    let ticker = Builder::new()
+        .stack_size(stacks.ticker)
+        .spawn(&shared.rt, move || tick(for_ticker));
+    let Ok(ticker) = ticker else {
+        shared.mailbox.cancel(&shared.rt);
+        event_loop.join(&shared.rt);
+        return Err(Refusal::NoThread);
+    };
+    if delay > 0 && !starts_delay(&shared.rt, for_delay, delay, stacks.delay) {
+        shared.mailbox.cancel(&shared.rt);
+        event_loop.join(&shared.rt);
+        ticker.join(&shared.rt);
+        return Err(Refusal::NoThread);
+    }
+    shared.mailbox.begin(&shared.rt);
+    let Shared { rt, mailbox, .. } = shared;
+    Ok(JoinHandle::new(rt, mailbox, event_loop))
+}
+
+/// Starts the thread that shows the rows after a delay. Returns whether it is started.
+fn starts_delay<
+    R: Wait + Threads + Drop + Send + Sync + 'static,
+    K: Clock + Drop + Send + Sync + 'static,
+>(rt: &R, shared: Shared<R, K>, delay: u64, stack: usize) -> bool {
+    Builder::new()
+        .stack_size(stack)
+        .spawn(rt, move || {
+            shared.clock.sleep(delay);
+            shared.shown.store(true, Ordering::SeqCst);
+        })
+        .is_ok()
+}
+
+/// The event loop: draws a frame for each request, until the renderer has ended. A quit that is
+/// refused for now is tried again after a frame's time.
+fn run<
+    R: Wait + Drop,
+    K: Clock + Drop,
+    S: Screen + Drop,
+    T: Root + Drop,
+    W: WeakRoot<Root = T> + Drop,
+>(shared: Shared<R, K>, mut engine: Engine<S, W>) {
+    for _ in shared.rt.forever() {
+        let request = shared.mailbox.next(&shared.rt);
+        let Some(event) = event_of(&shared, request) else {
+            break;
+        };
+        match engine.step(event) {
+            Ok(Answer::Drawn) => {}
+            Err(Refusal::Memory | Refusal::TooManyHandles) => {
+                if let EngineEvent::Quit { .. } = event {
+                    shared.mailbox.quit(&shared.rt);
+                    shared.clock.sleep(shared.frame);
+                }
+            }
+            Ok(Answer::Ended) | Err(_) => break,
+        }
+    }
+    shared.mailbox.end(&shared.rt);
+}
+
+/// Returns the event for a request, at the time of the clock, or `None` if the loop is to end.
+fn event_of<R: Wait + Drop, K: Clock + Drop>(
+    shared: &Shared<R, K>,
+    request: Request,
+) -> Option<EngineEvent> {
+    let at = shared.clock.now();
+    let show = shared.shown.load(Ordering::SeqCst);
+    match request {
+        Request::Resize(columns, rows) => Some(EngineEvent::Resize {
+            at,
+            show,
+            columns,
+            rows,
+        }),
+        Request::Tick => Some(EngineEvent::Tick { at, show }),
+        Request::Quit => Some(EngineEvent::Quit { at }),
+        Request::Cancel => None,
+    }
+}
+
+/// The ticker: asks for a frame and sleeps for a frame's time, until the event loop has ended.
+fn tick<R: Wait + Drop, K: Clock + Drop>(shared: Shared<R, K>) {
+    if !shared.mailbox.has_begun(&shared.rt) {
+        return;
+    }
+    for _ in shared.rt.forever() {
+        if !shared.mailbox.is_running(&shared.rt) {
+            break;
+        }
+        shared.mailbox.tick(&shared.rt);
+        shared.clock.sleep(shared.frame);
+    }
+}

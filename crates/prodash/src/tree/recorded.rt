@@ -1,0 +1,18 @@
+//! A tree on which the calls of many threads are recorded in one journal.
+//!
+//! Each thread has a [`RecordedItem`], and makes its calls under the lock of the tree. At the end
+//! each item gives back its [`Share`], and [`RecordedRoot::close`] takes them for the [`Journal`]:
+//! the events and their replies, as one thread could have made them, with as many entries as calls
+//! were accepted.
+mod journal;
+mod ledgers;
+mod locked;
+mod root;
+mod share;
+mod state;
+
+pub use journal::Journal;
+pub use ledgers::{Ledgers, TreeLedger};
+pub use root::{RecordedItem, RecordedRoot, Unclosed};
+pub use share::Share;
+pub use state::RecordedState;

@@ -1,0 +1,212 @@
+//! What the locks of a recorded tree protect.
+ghost use Rattle.std.specs.Prelude.{◌≡◌, ◌+◌, ◌<◌, ◌≤◌, ◌↔◌, ◌++◌, ◌∷◌, [], Ok, Err, false, IsTrue, IfOk, IfSome, OnOk, OnErr, length};
+ghost use Rattle.std.specs.Option.{ForSome, ForNone};
+ghost use Rattle.prodash_core.specs.Trees.{is_frame, Plays};
+ghost use Rattle.prodash.specs.Journals.{no_calls, with_call, amount, calls_of, sum_of};
+
+use crate::tree::recorded::journal::Journal;
+use crate::tree::recorded::ledgers::{Cut, TreeLedger};
+use crate::tree::recorded::share::Share;
+use crate::tree::recorded::state::RecordedState;
+use prodash_base::Refusal;
+use prodash_core::tree::{Event, Reply};
+use std::alloc::Global;
+use std::sync::ledger;
+use std::sync::ledger::{Book, Ledger};
+
+/// The parts of the ledgers that no share has yet.
+#[derive(Drop)]
+pub(crate) struct Rest<C: TreeLedger, S: Ledger> {
+    /// The number of shares that were made.
+    made: u64,
+    call_part: ledger::Share<C>,
+    sum_part: ledger::Share<S>,
+    ghost calls: { call_part.parts + made ≡ 18446744073709551615 },
+    ghost sums: { sum_part.parts + made ≡ 18446744073709551615 },
+    ghost no_calls: { call_part.amount ≡ 0 },
+    ghost no_sum: { sum_part.amount ≡ 0 },
+}
+
+impl<C: TreeLedger, S: Ledger> Rest<C, S> {
+    /// Returns all parts: no share was made.
+    pub(crate) fn new(call_part: ledger::Share<C>, sum_part: ledger::Share<S>) -> Rest<C, S>
+        requires calls { (call_part.parts ≡ 18446744073709551615) × (call_part.amount ≡ 0) }
+        requires sums { (sum_part.parts ≡ 18446744073709551615) × (sum_part.amount ≡ 0) }
+        ensures { result.made ≡ 0 }
+    {
+        Rest {
+            made: 0,
+            call_part,
+            sum_part,
+        }
+    }
+
+    /// Returns whether no further share can be made.
+    pub(crate) fn is_full(&self) -> bool
+        ensures { IsTrue result ↔ (self.now.made ≡ u64.MAX) }
+    {
+        self.made == u64::MAX
+    }
+
+    /// Makes the share of an item that has made no call.
+    pub(crate) fn share(&mut self) -> Share<C, S>
+        requires { self.old.made < u64.MAX }
+        ensures share { result ≡ no_calls }
+        ensures made { self.new.made ≡ self.old.made + 1 }
+    {
+        let Rest {
+            made,
+            call_part,
+            sum_part,
+        } = self;
+        let calls = call_part.split_off(1, 0);
+        let sums = sum_part.split_off(1, 0);
+        *made += 1;
+        Share::new(calls, sums)
+    }
+
+    /// Returns whether there are as many shares as were made, or more.
+    pub(crate) fn is_all(&self, shares: &[Share<C, S>]) -> bool
+        ensures { IsTrue result ↔ (self.now.made ≤ length shares.now) }
+    {
+        self.made <= shares.len() as u64
+    }
+
+    /// Returns these parts with those of the shares.
+    pub(crate) fn with_shares(
+        self,
+        shares: Vec<Share<C, S>>,
+    ) -> (ledger::Share<C>, ledger::Share<S>)
+        requires { self.made ≤ length shares.items }
+        ensures calls { (18446744073709551615 ≤ result.0.parts)
+            × (result.0.amount ≡ calls_of shares.items) }
+        ensures sums { (18446744073709551615 ≤ result.1.parts)
+            × (result.1.amount ≡ sum_of shares.items) }
+    {
+        let Rest {
+            made: _,
+            call_part,
+            sum_part,
+        } = self;
+        let mut calls = call_part;
+        let mut sums = sum_part;
+        for share in shares {
+            let (call_part, sum_part) = share.into_parts();
+            calls.merge(call_part);
+            sums.merge(sum_part);
+        }
+        (calls, sums)
+    }
+}
+
+/// The tree with its journal, and the totals of all calls. Once the journal is taken out, no share
+/// has a part any more.
+#[derive(Drop)]
+pub(crate) struct Locked<C: TreeLedger, S: Ledger> {
+    state: Option<RecordedState>,
+    calls: Book<C>,
+    sums: Book<S>,
+    /// All parts, once the journal is taken out.
+    all: ledger::Share<C>,
+    call_cut: Cut<C>,
+    sum_cut: Cut<S>,
+    ghost opened: { ForSome state (λ s. s.capacity ≡ C.message_buffer_capacity) },
+    ghost counted: { ForSome state (λ s. calls.total ≡ length s.entries) },
+    ghost summed: { ForSome state (λ s. sums.total ≡ amount s.entries) },
+    ghost taken: { ForNone state (all.parts ≡ 18446744073709551615) },
+}
+
+impl<C: TreeLedger, S: Ledger> Locked<C, S> {
+    /// Returns a tree with an empty journal.
+    pub(crate) fn new(
+        state: RecordedState,
+        calls: Book<C>,
+        sums: Book<S>,
+        none: ledger::Share<C>,
+    ) -> Locked<C, S>
+        requires opened { (state.capacity ≡ C.message_buffer_capacity) × (state.entries ≡ []) }
+        requires calls { (calls.total ≡ 0) × (C.parts ≡ 18446744073709551615) }
+        requires sums { (sums.total ≡ 0) × (S.parts ≡ 18446744073709551615) }
+    {
+        Locked {
+            state: Some(state),
+            calls,
+            sums,
+            all: none,
+            call_cut: Cut::new(),
+            sum_cut: Cut::new(),
+        }
+    }
+
+    /// Applies an event that is no frame, for the item that has the share, and returns the reply.
+    #[tactic(auto, using(crate::proofs::JournalLaws::counting))]
+    pub(crate) fn call(
+        &mut self,
+        alloc: Global,
+        event: &Event,
+        share: &mut Share<C, S>,
+    ) -> Result<Reply, Refusal>
+        requires { is_frame event.now ≡ false }
+        ensures reply { IfOk result (λ r.
+            IfSome self.old.state (λ old. IfSome self.new.state (λ new.
+            Plays old.tree event.now (Ok r) new.tree
+            × (new.entries ≡ old.entries ++ (event.now, r) ∷ [])))) }
+        ensures ok { OnOk result (share.new ≡ with_call share.old event.now) }
+        ensures err { OnErr result ((share.new ≡ share.old) × (self.new.state ≡ self.old.state)) }
+        ensures full { (share.old.calls ≡ u64.MAX) ↔ (result ≡ Err Refusal.TooManyHandles) }
+    {
+        if share.calls() == u64::MAX {
+            return Err(Refusal::TooManyHandles);
+        }
+        self.call_cut.show();
+        let Locked {
+            state,
+            calls,
+            sums,
+            all,
+            ..
+        } = self;
+        match state {
+            Some(state) => {
+                let reply = state.apply(alloc, event)?;
+                share.count(event, calls, sums);
+                Ok(reply)
+            }
+            None => {
+                share.has_a_part(all);
+                unreachable!()
+            }
+        }
+    }
+
+    /// Takes the journal out, against all parts.
+    pub(crate) fn finish(
+        &mut self,
+        mut calls: ledger::Share<C>,
+        mut sums: ledger::Share<S>,
+    ) -> Journal<C>
+        requires calls { 18446744073709551615 ≤ calls.parts }
+        requires sums { 18446744073709551615 ≤ sums.parts }
+        ensures count { length result ≡ calls.amount }
+        ensures sum { amount result ≡ sums.amount }
+    {
+        self.call_cut.show();
+        self.sum_cut.show();
+        let mut no_calls = calls.empty();
+        calls.give(&mut no_calls, 0, 0);
+        let mut no_sums = sums.empty();
+        sums.give(&mut no_sums, 0, 0);
+        match self.state.take() {
+            Some(state) => {
+                self.calls.audit(&mut calls);
+                self.sums.audit(&mut sums);
+                self.all = calls;
+                Journal::new(state)
+            }
+            None => {
+                self.all.give(&mut calls, 0, 0);
+                unreachable!()
+            }
+        }
+    }
+}

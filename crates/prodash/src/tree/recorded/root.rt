@@ -1,0 +1,166 @@
+//! Owners of recorded trees, and their items.
+ghost use Rattle.std.specs.Prelude.{◌≡◌, ◌⊎◌, ◌↔◌, Err, false, IfOk, IfErr, OnOk, OnErr, length};
+ghost use Rattle.prodash_core.specs.Trees.{is_frame};
+ghost use Rattle.prodash.specs.Journals.{IsJournal, no_calls, with_call, amount, calls_of, sum_of};
+
+use crate::tree::recorded::journal::Journal;
+use crate::tree::recorded::ledgers::{Ledgers, TreeLedger};
+use crate::tree::recorded::locked::{Locked, Rest};
+use crate::tree::recorded::share::Share;
+use crate::tree::recorded::state::RecordedState;
+use crate::tree::root::Options;
+use prodash_base::Refusal;
+use prodash_core::tree::{Event, Reply};
+use std::alloc::Global;
+use std::marker::Model;
+use std::sync::ledger::Ledger;
+use std::sync::{Arc, Mutex, Wait};
+
+/// The owner of a recorded tree. Its two ledgers, of calls and of sums, name the tree.
+///
+/// ```rust
+/// let root = RecordedRoot::<C, S>::new(alloc, ledgers, &Options::default())?;
+/// let mut item = root.share(&rt)?;
+/// let name = Text::from_str(alloc, "task")?;
+/// let made = item.call(&rt, alloc, Event::AddChild { parent: 0, name, id: UNKNOWN })?;
+/// let mut shares = Vec::new(alloc);
+/// shares.push(item.give_back())?;
+/// if let Ok(journal) = root.close(&rt, shares) {
+///     assert_eq!(rt; journal.entries().len(), 1);
+/// }
+/// ```
+#[derive(Drop)]
+pub struct RecordedRoot<C: TreeLedger, S: Ledger> {
+    tree: Arc<Mutex<Locked<C, S>>>,
+    rest: Mutex<Rest<C, S>>,
+}
+
+/// Makes calls on a recorded tree. Contracts see the number of the accepted calls and their sum.
+#[derive(Drop)]
+pub struct RecordedItem<C: TreeLedger, S: Ledger> {
+    tree: Arc<Mutex<Locked<C, S>>>,
+    share: Share<C, S>,
+}
+
+impl<C: TreeLedger, S: Ledger> Model for RecordedItem<C, S> {
+    ghost use Rattle.prodash.specs.Journals.{Tally};
+
+    ghost Value = { Tally };
+
+    ghost view = { λ item. item.share };
+}
+
+/// The root of a recorded tree that couldn't be closed, since some of its shares are missing, and
+/// the shares that came. By its type it is the root of the same tree: with the missing shares added
+/// it can be closed.
+#[derive(Drop)]
+pub struct Unclosed<C: TreeLedger, S: Ledger> {
+    /// The root.
+    pub root: RecordedRoot<C, S>,
+    /// The shares that came.
+    pub shares: Vec<Share<C, S>>,
+}
+
+impl<C: TreeLedger, S: Ledger> RecordedRoot<C, S> {
+    /// Returns a tree with nothing but its root, and an empty journal.
+    ///
+    /// # Errors
+    ///
+    /// `Memory`, if there is no memory for it.
+    pub fn new(
+        alloc: Global,
+        ledgers: Ledgers,
+        options: &Options,
+    ) -> Result<RecordedRoot<C, S>, Refusal>
+        requires calls { (ledgers.calls.name ≡ C.name) × (ledgers.calls.parts ≡ C.parts) }
+        requires sums { (ledgers.sums.name ≡ S.name) × (ledgers.sums.parts ≡ S.parts) }
+        requires capacity { options.now.message_buffer_capacity ≡ C.message_buffer_capacity }
+        ensures { IfErr result (λ e. e ≡ Refusal.Memory) }
+    {
+        let state = RecordedState::new(alloc, options)?;
+        let Ledgers { calls, sums } = ledgers;
+        let (calls, mut call_part) = calls.open::<C>();
+        let (sums, sum_part) = sums.open::<S>();
+        let locked = Locked::new(state, calls, sums, call_part.empty());
+        let tree = Arc::new(alloc, Mutex::new(locked))?;
+        let rest = Mutex::new(Rest::new(call_part, sum_part));
+        Ok(RecordedRoot { tree, rest })
+    }
+
+    /// Returns an item that makes calls on the tree. It may wait for a lock that only `share`
+    /// takes.
+    ///
+    /// # Errors
+    ///
+    /// `TooManyHandles`, if 2^64-1 shares were made. `Memory`, if the tree can't have one more
+    /// owner.
+    pub fn share<R: Wait>(&self, rt: &R) -> Result<RecordedItem<C, S>, Refusal>
+        ensures ok { IfOk result (λ item. item ≡ no_calls) }
+        ensures err { IfErr result (λ e. (e ≡ Refusal.Memory) ⊎ (e ≡ Refusal.TooManyHandles)) }
+    {
+        let mut rest = self.rest.lock(rt);
+        if rest.is_full() {
+            return Err(Refusal::TooManyHandles);
+        }
+        let tree = Arc::try_clone(&self.tree)?;
+        let share = rest.share();
+        Ok(RecordedItem { tree, share })
+    }
+
+    /// Returns the journal of all calls, if all shares that were made are here. It may wait for the
+    /// lock of the tree.
+    ///
+    /// # Errors
+    ///
+    /// The root and the shares, if there are fewer shares than were made.
+    pub fn close<R: Wait>(
+        self,
+        rt: &R,
+        shares: Vec<Share<C, S>>,
+    ) -> Result<Journal<C>, Unclosed<C, S>>
+        ensures replays { IfOk result (λ j. IsJournal C.message_buffer_capacity j) }
+        ensures count { IfOk result (λ j. length j ≡ calls_of shares.items) }
+        ensures amount { IfOk result (λ j. amount j ≡ sum_of shares.items) }
+        ensures unclosed { IfErr result (λ u. u.shares ≡ shares) }
+    {
+        let RecordedRoot { tree, rest } = self;
+        let rest = rest.into_inner();
+        if !rest.is_all(&shares) {
+            let rest = Mutex::new(rest);
+            let root = RecordedRoot { tree, rest };
+            return Err(Unclosed { root, shares });
+        }
+        let (calls, sums) = rest.with_shares(shares);
+        let journal = tree.lock(rt).finish(calls, sums);
+        // shows that it replays
+        let _ = journal.entries();
+        Ok(journal)
+    }
+}
+
+impl<C: TreeLedger, S: Ledger> RecordedItem<C, S> {
+    /// Applies an event that is no frame, and returns the reply. It waits for the lock of the tree.
+    /// An event that is refused gets no entry of the journal.
+    ///
+    /// # Errors
+    ///
+    /// `TooManyHandles`, if the item has made 2^64-1 calls. Then `Gone`, `TooManyMessages` and
+    /// `Memory`, as `RecordedState::apply`.
+    pub fn call<R: Wait>(&mut self, rt: &R, alloc: Global, event: Event) -> Result<Reply, Refusal>
+        requires { is_frame event ≡ false }
+        ensures ok { OnOk result (self.new ≡ with_call self.old event) }
+        ensures err { OnErr result (self.new ≡ self.old) }
+        ensures full { (self.old.calls ≡ u64.MAX) ↔ (result ≡ Err Refusal.TooManyHandles) }
+    {
+        let RecordedItem { tree, share } = self;
+        tree.lock(rt).call(alloc, &event, share)
+    }
+
+    /// Returns the item's share, which says what the item has done.
+    pub fn give_back(self) -> Share<C, S>
+        ensures { result ≡ self }
+    {
+        let RecordedItem { tree: _, share } = self;
+        share
+    }
+}

@@ -1,0 +1,136 @@
+//! A tree beside its journal.
+ghost use Rattle.std.specs.Prelude.{◌≡◌, ◌≢◌, ◌++◌, ◌∷◌, [], Ok, Err, None, false, IfOk, IfErr, OnErr, IfSome, IfNone, length};
+ghost use Rattle.prodash_core.specs.Trees.{new_tree, is_frame, Plays};
+ghost use Rattle.prodash_core.specs.Refusals.{refusal_of};
+ghost use Rattle.prodash.specs.Journals.{Replays};
+
+use crate::tree::root::Options;
+use prodash_base::Refusal;
+use prodash_core::tree::{Event, Reply, RootOptions, TreeState};
+use std::alloc::Global;
+use std::marker::Model;
+
+/// A tree that keeps a journal of the events that it accepted, each with its reply. Contracts see
+/// the tree, the journal, and how many messages the tree keeps. The journal replays: from a tree
+/// with nothing but its root, its events have its replies, and lead to this tree.
+///
+/// ```rust
+/// let mut state = RecordedState::new(alloc, &Options::default())?;
+/// let name = Text::from_str(alloc, "task")?;
+/// state.apply(alloc, &Event::AddChild { parent: 0, name, id: UNKNOWN })?;
+/// assert_eq!(rt; state.entries().len(), 1);
+/// ```
+#[derive(Drop)]
+pub struct RecordedState {
+    capacity: usize,
+    tree: TreeState,
+    entries: Vec<(Event, Reply)>,
+}
+
+impl Model for RecordedState {
+    ghost use Rattle.prodash.specs.Journals.{Recorded, Replays};
+    ghost use Rattle.std.specs.Coded.{codes};
+    ghost use Rattle.std.specs.FinMap as finite;
+
+    ghost Value = { Recorded };
+
+    ghost coded = { Prim.hlevel (codes, finite.code) };
+
+    ghost view = { λ s.
+        record { capacity = s.capacity; tree = s.tree; entries = s.entries.items } };
+
+    ghost invariant = { λ s. Replays s.capacity s.entries.items s.tree };
+}
+
+impl RecordedState {
+    /// Returns a tree with nothing but its root, and an empty journal.
+    ///
+    /// # Errors
+    ///
+    /// `Memory`, if there is no memory for it.
+    pub fn new(alloc: Global, options: &Options) -> Result<RecordedState, Refusal>
+        ensures tree { IfOk result (λ s. s.tree ≡ new_tree options.now.message_buffer_capacity) }
+        ensures capacity { IfOk result (λ s.
+            s.capacity ≡ options.now.message_buffer_capacity) }
+        ensures entries { IfOk result (λ s. s.entries ≡ []) }
+        ensures err { IfErr result (λ e. e ≡ Refusal.Memory) }
+    {
+        let options = RootOptions {
+            initial_capacity: options.initial_capacity,
+            message_buffer_capacity: options.message_buffer_capacity,
+        };
+        Ok(RecordedState {
+            capacity: options.message_buffer_capacity,
+            tree: TreeState::new(alloc, &options)?,
+            entries: Vec::new(alloc),
+        })
+    }
+
+    /// Applies an event that is no frame, appends it to the journal with its reply, and returns
+    /// the reply.
+    ///
+    /// # Errors
+    ///
+    /// As `TreeState::apply`, and `Memory` also if there is no memory for the entry. An event that
+    /// is refused leaves the tree and the journal as they were.
+    #[tactic(auto, using(crate::proofs::JournalLaws::applying))]
+    pub fn apply(&mut self, alloc: Global, event: &Event) -> Result<Reply, Refusal>
+        requires { is_frame event.now ≡ false }
+        ensures reply { IfOk result (λ r. Plays self.old.tree event.now (Ok r) self.new.tree) }
+        ensures entry { IfOk result (λ r.
+            self.new.entries ≡ self.old.entries ++ (event.now, r) ∷ []) }
+        ensures capacity { self.new.capacity ≡ self.old.capacity }
+        ensures err { OnErr result (self.new ≡ self.old) }
+        ensures refused { IfSome (refusal_of self.old.tree event.now) (λ e. result ≡ Err e) }
+        ensures memory { IfNone (refusal_of self.old.tree event.now)
+            (IfErr result (λ e. e ≡ Refusal.Memory)) }
+        ensures handles { IfErr result (λ e. e ≢ Refusal.TooManyHandles) }
+    {
+        let RecordedState { tree, entries, .. } = self;
+        if let Some(refusal) = tree.refusal(event) {
+            return Err(refusal);
+        }
+        entries.reserve(1)?;
+        let kept = event.clone()?;
+        let (reply, copy) = applied(tree, alloc, event)?;
+        entries.push_reserved((kept, reply));
+        Ok(copy)
+    }
+
+    /// Returns the journal so far.
+    pub fn entries(&self) -> &[(Event, Reply)]
+        ensures same { result.now ≡ self.now.entries }
+        ensures replays { Replays self.now.capacity self.now.entries self.now.tree }
+    {
+        self.entries.as_slice()
+    }
+
+    /// Returns the journal.
+    pub(crate) fn into_entries(self) -> Vec<(Event, Reply)>
+        ensures same { result.items ≡ self.entries }
+        ensures replays { Replays self.capacity result.items self.tree }
+    {
+        let RecordedState {
+            capacity: _,
+            tree: _,
+            entries,
+        } = self;
+        entries
+    }
+}
+
+/// Applies an event that the tree doesn't refuse, and returns the reply and a copy of it. An event
+/// that is refused leaves the tree as it was.
+#[tactic(auto, using(crate::proofs::JournalLaws::copying))]
+fn applied(tree: &mut TreeState, alloc: Global, event: &Event) -> Result<(Reply, Reply), Refusal>
+    requires frame { is_frame event.now ≡ false }
+    requires refused { refusal_of tree.old event.now ≡ None }
+    ensures reply { IfOk result (λ r. Plays tree.old event.now (Ok r.0) tree.new) }
+    ensures copy { IfOk result (λ r. r.1 ≡ r.0) }
+    ensures err { OnErr result (tree.new ≡ tree.old) }
+    ensures reason { IfErr result (λ e. e ≡ Refusal.Memory) }
+{
+    let reply = tree.apply(alloc, event)?;
+    let copy = reply.clone()?;
+    Ok((reply, copy))
+}
