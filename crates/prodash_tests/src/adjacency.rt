@@ -39,7 +39,7 @@ const DEEP: &[&[u16]] = &[
 /// The keys of rows, the index of one, on which sides it and its ancestors have siblings, and the
 /// highest level at which they do.
 #[rattlefmt::skip]
-const LOCATIONS: [(&[&[u16]], usize, Adjacency, Level); 21] = [
+const LOCATIONS: &[(&[&[u16]], usize, Adjacency, Level)] = &[
     (TASKS, 0, Adjacency(Both, No, No, No, No, No), 1),
     (TASKS, 1, Adjacency(Both, Both, No, No, No, No), 2),
     (TASKS, 2, Adjacency(Both, Above, No, No, No, No), 2),
@@ -96,7 +96,7 @@ fn adjacency_at(
 
 #[test]
 fn neighbours_are_found_past_orphans(rt: HostRuntime) -> Result<(), Fail> {
-    for (keys, index, want, level) in &LOCATIONS {
+    for (keys, index, want, level) in LOCATIONS {
         let got = adjacency_at(&rt, rt.alloc(), keys, *index)?;
         assert_same(&rt, (got, got.level()), (*want, *level), (*index, *keys));
     }

@@ -2,7 +2,8 @@ use crate::fixtures::ShortEvent::{
     Add, Blocked, Halted, Hide, Init, Quit, Say, Set, SetMax, Show, Tell,
 };
 use crate::fixtures::ShortReply::{Drawn, Ended};
-use crate::options::{Run, TERMINAL, assert_run};
+use crate::fixtures::TERMINAL;
+use crate::options::{Run, assert_run};
 use prodash::messages::MessageLevel::{Failure, Info, Success};
 use prodash::render::line::draw::Options;
 use prodash::time::Moment;
@@ -35,7 +36,7 @@ const COLORED_PLAIN: Options = Options {
 const CLOCK: Moment = 3_723_000_000_000;
 
 #[rattlefmt::skip]
-const RUNS: [Run; 23] = [
+const RUNS: &[Run] = &[
     // a row below and at four fifths, above them, at its bound and at 0
     (COLORED, &[Add(0, "task"), Init(1, 10), Set(1, 3), Show], " \x1b[1;36mtask\x1b[0m \x1b[1;2m3/10\x1b[0m [\x1b[33m=======\x1b[0m\x1b[33m>\x1b[0m\x1b[2;33m-------------------\x1b[0m]\n\x1b[1A", Drawn),
     (COLORED, &[Add(0, "task"), Init(1, 10), Set(1, 8), Show], " \x1b[1;36mtask\x1b[0m \x1b[1;2m8/10\x1b[0m [\x1b[33m====================\x1b[0m\x1b[33m>\x1b[0m\x1b[2;33m------\x1b[0m]\n\x1b[1A", Drawn),
@@ -69,7 +70,7 @@ const RUNS: [Run; 23] = [
 
 #[test]
 fn colors_and_times_have_exact_bytes(rt: HostRuntime) -> Result<(), Fail> {
-    for row in &RUNS {
+    for row in RUNS {
         assert_run(&rt, rt.alloc(), row)?;
     }
     Ok(())

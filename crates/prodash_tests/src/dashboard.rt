@@ -40,7 +40,7 @@ const OFF: [bool; 4] = [false; 4];
 /// that it leaves of 65530 and 5, the switches that it leaves (messages hidden, messages maximized,
 /// information hidden, information maximized), and the answer.
 #[rattlefmt::skip]
-const KEYS: [(KeyCode, bool, (u16, u16), [bool; 4], Answer); 24] = [
+const KEYS: &[(KeyCode, bool, (u16, u16), [bool; 4], Answer)] = &[
     (Char('c'), true, (65530, 5), OFF, Stop),
     (Char('['), true, (65530, 5), OFF, Stop),
     (Char('q'), false, (65530, 5), OFF, Stop),
@@ -90,7 +90,7 @@ fn offsets(state: &State) -> (u16, u16) {
 
 #[test]
 fn keys_scroll_toggle_and_interrupt(rt: HostRuntime) -> Result<(), Fail> {
-    for (code, control, want, on, answer) in &KEYS {
+    for (code, control, want, on, answer) in KEYS {
         let key = if *control {
             with_control(*code)
         } else {
@@ -124,7 +124,7 @@ const WAITS_FOR_NONE: InterruptMode = InterruptMode::Deferred { requested: false
 
 /// What is sent one after another, each with the answer, and the mode at the end.
 #[rattlefmt::skip]
-const RUNS: [(&[(Sent, Answer)], InterruptMode); 9] = [
+const RUNS: &[(&[(Sent, Answer)], InterruptMode)] = &[
     (&[(Tick, Redraw)], InterruptMode::Instantly),
     (&[(Mode(Instantly), Redraw)], InterruptMode::Instantly),
     (&[(Mode(Deferred), Redraw), (Mode(Instantly), Redraw)], InterruptMode::Instantly),
@@ -161,7 +161,7 @@ fn after(
 
 #[test]
 fn deferred_requests_wait(rt: HostRuntime) -> Result<(), Fail> {
-    for (run, mode) in &RUNS {
+    for (run, mode) in RUNS {
         let state = after(&rt, rt.alloc(), run)?;
         assert_same(&rt, state.interrupt_mode, *mode, *run);
         assert_same(&rt, switches(&state), OFF, *run);
@@ -171,7 +171,7 @@ fn deferred_requests_wait(rt: HostRuntime) -> Result<(), Fail> {
 
 /// The key, the offsets of tasks and of messages before, and after.
 #[rattlefmt::skip]
-const ENDS: [(char, (u16, u16), (u16, u16)); 9] = [
+const ENDS: &[(char, (u16, u16), (u16, u16))] = &[
     ('K', (9, 0), (9, 0)),
     ('U', (9, 9), (9, 0)),
     ('J', (9, 65535), (9, 65535)),
@@ -185,7 +185,7 @@ const ENDS: [(char, (u16, u16), (u16, u16)); 9] = [
 
 #[test]
 fn offsets_stop_at_their_ends(rt: HostRuntime) -> Result<(), Fail> {
-    for (letter, before, after) in &ENDS {
+    for (letter, before, after) in ENDS {
         let mut state = scrolled(rt.alloc(), before.0, before.1)?;
         let answer = state.handle(Event::Input(pressed(Char(*letter))));
         assert_same(&rt, answer, Redraw, (*letter, *before));

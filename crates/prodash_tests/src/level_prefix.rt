@@ -17,7 +17,7 @@ const GRANDCHILD: &[&[u16]] = &[&[1], &[1, 1, 1]];
 
 /// The keys of rows, and the prefix of each.
 #[rattlefmt::skip]
-const PREFIXES: [(&[&[u16]], &[&str]); 4] = [
+const PREFIXES: &[(&[&[u16]], &[&str])] = &[
     (TASKS, &["", "├", "│ ├", "│ └", "├"]),
     (NESTED, &["├", "├", "│ ├", "│ │ └", "│ └", "├"]),
     (ORPHAN, &["│  "]),
@@ -41,7 +41,7 @@ fn assert_prefixes(
 
 #[test]
 fn branches_lead_to_rows(rt: HostRuntime) -> Result<(), Fail> {
-    for (keys, prefixes) in &PREFIXES {
+    for (keys, prefixes) in PREFIXES {
         let rows = rows_at(rt.alloc(), keys)?;
         assert_prefixes(&rt, rt.alloc(), &rows, prefixes)?;
     }

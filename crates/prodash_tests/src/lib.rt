@@ -1,5 +1,5 @@
-//! Tests of the libraries, which call them through `prodash` as a user does. Nothing uses this
-//! crate.
+//! Tests of the tree, its sessions and the dashboard, which call them through `prodash` as a user
+//! does. Nothing uses this crate.
 #![tactic(auto)]
 
 #[cfg(test)]
@@ -8,47 +8,43 @@ pub mod caller;
 #[cfg(test)]
 mod colors;
 #[cfg(test)]
+mod copies;
+#[cfg(test)]
 mod dashboard;
+#[cfg(test)]
+mod engine;
+#[cfg(test)]
+mod events;
 #[cfg(test)]
 mod fixtures;
 #[cfg(test)]
-mod frames;
+mod held_lock;
 #[cfg(test)]
-mod keys;
+mod initial_delay;
+#[cfg(test)]
+mod journal_lines;
 #[cfg(test)]
 mod level_prefix;
 #[cfg(test)]
 mod locked;
 #[cfg(test)]
-mod message_lines;
-#[cfg(test)]
-mod messages;
+mod logs;
 #[cfg(test)]
 mod mirror;
 #[cfg(test)]
-mod moments;
-#[cfg(test)]
 mod options;
-#[cfg(test)]
-mod over_write;
-#[cfg(test)]
-mod pages;
 #[cfg(test)]
 mod paths;
 #[cfg(test)]
+mod recorded;
+#[cfg(test)]
 mod runs;
 #[cfg(test)]
-mod screens;
-#[cfg(test)]
-mod styles;
+mod stacks;
 #[cfg(test)]
 mod tables;
 pub mod tasks;
 #[cfg(test)]
-mod throughput;
+mod traits;
 #[cfg(test)]
-mod unit_rows;
-#[cfg(test)]
-mod units;
-#[cfg(test)]
-mod values;
+mod wrappers;

@@ -202,7 +202,7 @@ fn deep_clones_take_messages(rt: HostRuntime) -> Result<(), Fail> {
     Ok(())
 }
 
-const COPIED: [ShortRow; 1] = [(&[0], "task", Some((3, Some(10))))];
+const COPIED: &[ShortRow] = &[(&[0], "task", Some((3, Some(10))))];
 
 /// The copy has the row and the message that the tree had.
 fn assert_copied<R: Wait + Clone + Drop>(
@@ -213,7 +213,7 @@ fn assert_copied<R: Wait + Clone + Drop>(
     messages: &mut Vec<Message>,
 ) -> Result<(), Refusal> {
     copy.sorted_snapshot(alloc, rows)?;
-    let want = rows_of(alloc, &COPIED)?;
+    let want = rows_of(alloc, COPIED)?;
     assert_same(rt, rows.as_slice(), want.as_slice(), "rows");
     let state = copy.copy_new_messages(alloc, messages, None)?;
     let counts = (messages.len(), state.pushed());

@@ -1,23 +1,12 @@
 use crate::fixtures::ShortEvent::{Add, Drop, DropRoot, Hide, Init, Quit, Resize, Say, Set, Show};
 use crate::fixtures::ShortReply::{Drawn, Ended, Refused};
-use crate::fixtures::{ShortEvent, ShortReply, TASK_FRAME, assert_same, event, reply};
+use crate::fixtures::{ShortEvent, ShortReply, TASK_FRAME, TERMINAL, assert_same, event, reply};
 use prodash::Refusal;
 use prodash::render::line::draw::{MemoryScreen, Options};
 use prodash::tree::{Event, RootOptions, SessionOptions, run};
 use std::alloc::{AllocError, Global};
 use std::process::Abort;
 use std::test::Fail;
-
-/// Frames on a terminal of 40 columns and 20 rows.
-pub(crate) const TERMINAL: Options = Options {
-    level_filter: None,
-    terminal_dimensions: (40, 20),
-    keep_running_if_progress_is_empty: true,
-    output_is_terminal: true,
-    colored: false,
-    timestamp: false,
-    hide_cursor: false,
-};
 
 /// The same for an output that is no terminal.
 const PLAIN: Options = Options {
@@ -78,7 +67,7 @@ const BELOW: &str =
 pub(crate) type Run = (Options, &'static [ShortEvent], &'static str, ShortReply);
 
 #[rattlefmt::skip]
-const RUNS: [Run; 38] = [
+const RUNS: &[Run] = &[
     // a tick without tasks prints its messages and closes the renderer, shown or hidden
     (STOPS, &[Add(0, "t"), Say(1, "one"), Drop(1), Show], " t one\n\x1b[2K\r", Ended),
     (STOPS, &[Add(0, "t"), Say(1, "one"), Drop(1), Hide], " t one\n\x1b[2K\r", Ended),
@@ -150,7 +139,7 @@ pub(crate) fn assert_run(rt: &impl Abort, alloc: Global, row: &Run) -> Result<()
 
 #[test]
 fn options_have_exact_bytes(rt: HostRuntime) -> Result<(), Fail> {
-    for row in &RUNS {
+    for row in RUNS {
         assert_run(&rt, rt.alloc(), row)?;
     }
     Ok(())

@@ -1,5 +1,6 @@
 //! Each public path of `prodash`, named once.
 use std::alloc::{AllocError, Global};
+use std::io::Write;
 use std::sync::Wait;
 use std::test::Fail;
 
@@ -102,6 +103,12 @@ fn line<S: prodash::render::line::draw::Screen>(
     Ok(prodash::render::line::draw::all(alloc, screen, state, input)?)
 }
 
+fn screens<W: Write>(_writer: &prodash::render::line::draw::OverWrite<W>) {}
+
+fn styles(color: prodash::render::line::page::Color) -> prodash::render::line::page::Style {
+    prodash::render::line::page::Style::new().fg(color)
+}
+
 fn time<C: prodash::time::Clock>(alloc: Global, clock: &C) -> Result<usize, Fail> {
     clock.sleep(1);
     let time = prodash::time::format_time_for_messages(alloc, clock.now())?;
@@ -138,6 +145,13 @@ fn locked<R: Wait + Clone + Drop>(
 ) -> prodash::progress::Step {
     let steps: &prodash::tree::Steps = item.steps();
     steps.step()
+}
+
+fn prefix(alloc: Global, rows: &[prodash::progress::Row]) -> Result<Option<String>, Fail> {
+    if rows.len() != 1 {
+        return Ok(None);
+    }
+    Ok(Some(prodash::render::tui::level_prefix(alloc, rows, 0)?))
 }
 
 fn tui(

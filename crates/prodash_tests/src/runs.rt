@@ -4,9 +4,9 @@ use crate::fixtures::ShortEvent::{
 };
 use crate::fixtures::ShortReply::{Done, Drawn, Ended, Made, Messages, New, Refused, Rows};
 use crate::fixtures::{
-    FakeScreen, MESSAGE_FRAME, ShortEvent, ShortReply, TASK_FRAME, assert_same, event, reply,
+    FakeScreen, MESSAGE_FRAME, ShortEvent, ShortReply, TASK_FRAME, TERMINAL, assert_same, event,
+    reply,
 };
-use crate::options::TERMINAL;
 use prodash::Refusal;
 use prodash::render::line::draw::MemoryScreen;
 use prodash::tree::{Event, Reply, RootOptions, Session, SessionOptions, run};
@@ -15,7 +15,7 @@ use std::process::Abort;
 use std::test::Fail;
 
 /// An event, its reply, and the bytes that it writes.
-type Step = (ShortEvent, ShortReply, &'static str);
+pub(crate) type Step = (ShortEvent, ShortReply, &'static str);
 
 const GONE: ShortReply = Refused(Refusal::Gone);
 
@@ -142,7 +142,7 @@ const RUNS: [&[Step]; 9] = [
 
 /// With a ring of two messages.
 #[rattlefmt::skip]
-const LATEST: [Step; 5] = [
+const LATEST: &[Step] = &[
     (Add(0, "a"), Made(1), ""),
     (Say(1, "x"), Done, ""),
     (Say(1, "y"), Done, ""),
@@ -152,7 +152,7 @@ const LATEST: [Step; 5] = [
 
 /// On a screen that breaks once it has taken five bytes.
 #[rattlefmt::skip]
-const BREAKS: [Step; 6] = [
+const BREAKS: &[Step] = &[
     (Add(0, "task"), Made(1), ""),
     (Init(1, 10), Done, ""),
     (Set(1, 3), Done, ""),
@@ -237,11 +237,11 @@ fn runs_have_replies_and_bytes(rt: HostRuntime) -> Result<(), Fail> {
     for steps in &RUNS {
         assert_runs(&rt, rt.alloc(), &options(20), steps)?;
     }
-    assert_runs(&rt, rt.alloc(), &options(2), &LATEST)
+    assert_runs(&rt, rt.alloc(), &options(2), LATEST)
 }
 
 /// A session applies the event of a step on a new screen.
-fn assert_step(
+pub(crate) fn assert_step(
     rt: &impl Abort,
     alloc: Global,
     session: &mut Session,
@@ -275,7 +275,7 @@ fn sessions_apply_one_event_after_another(rt: HostRuntime) -> Result<(), Fail> {
 fn a_broken_screen_leaves_the_tree(rt: HostRuntime) -> Result<(), Fail> {
     let alloc = rt.alloc();
     let mut screen = FakeScreen::new(alloc, 200, 5, true)?;
-    let got = run(alloc, &options(20), &events(alloc, &BREAKS)?, &mut screen)?;
-    assert_ran(&rt, alloc, &BREAKS, &got, &screen.bytes)?;
+    let got = run(alloc, &options(20), &events(alloc, BREAKS)?, &mut screen)?;
+    assert_ran(&rt, alloc, BREAKS, &got, &screen.bytes)?;
     Ok(())
 }

@@ -9,6 +9,7 @@ use prodash::Refusal;
 use prodash::messages::{MessageCopyState, Messages};
 use prodash::progress::{Rows, State, Step, UNKNOWN};
 use prodash::tree::{Counted, Counters, RootOptions, TreeCore, TreeState};
+use prodash::unit::{Bytes, Kind, dynamic};
 use std::alloc::Global;
 use std::process::Abort;
 use std::test::Fail;
@@ -25,7 +26,7 @@ impl Counters<u64> for OwnNumbers {
     }
 }
 
-const LEFT: [ShortRow; 2] = [(&[0], "a", None), (&[0, 1], "b", Some((3, Some(10))))];
+const LEFT: &[ShortRow] = &[(&[0], "a", None), (&[0, 1], "b", Some((3, Some(10))))];
 
 #[test]
 fn a_table_has_one_entry_for_a_key(rt: HostRuntime) -> Result<(), Fail> {
@@ -46,13 +47,13 @@ fn a_table_has_one_entry_for_a_key(rt: HostRuntime) -> Result<(), Fail> {
     assert_same(&rt, table.init(c, progress), false, "init c");
     assert_same(&rt, table.name(b), Some("b"), "name of b");
     assert_same(&rt, table.name(c), None, "name of c");
-    let want = rows(rt.alloc(), &LEFT)?;
+    let want = rows(rt.alloc(), LEFT)?;
     assert_same(&rt, table.rows(rt.alloc(), &OwnNumbers)?, want, "rows");
     Ok(())
 }
 
 #[rattlefmt::skip]
-const EVENTS: [(ShortEvent, ShortReply); 6] = [
+const EVENTS: &[(ShortEvent, ShortReply)] = &[
     (Add(0, "a"), Made(1)),
     (Add(1, "b"), Made(2)),
     (Init(2, 10), Done),
@@ -61,7 +62,7 @@ const EVENTS: [(ShortEvent, ShortReply); 6] = [
     (Say(2, "y"), Done),
 ];
 
-const ROWS: [ShortRow; 2] = [(&[0], "a", None), (&[0, 0], "b", Some((3, Some(10))))];
+const ROWS: &[ShortRow] = &[(&[0], "a", None), (&[0, 0], "b", Some((3, Some(10))))];
 
 /// An event of no frame has this reply.
 fn assert_applies(
@@ -81,7 +82,7 @@ fn assert_applies(
 /// A tree after all events.
 fn grown(rt: &impl Abort, alloc: Global) -> Result<TreeState, Refusal> {
     let mut tree = TreeState::new(alloc, &RootOptions::default())?;
-    for (short, want) in &EVENTS {
+    for (short, want) in EVENTS {
         assert_applies(rt, alloc, &mut tree, *short, *want)?;
     }
     Ok(tree)
@@ -100,9 +101,28 @@ fn snapshot(alloc: Global, tree: &TreeState) -> Result<(Rows, Messages, MessageC
 fn a_tree_needs_no_renderer(rt: HostRuntime) -> Result<(), Fail> {
     let alloc = rt.alloc();
     let tree = grown(&rt, alloc)?;
-    assert_same(&rt, tree.rows(alloc)?, rows(alloc, &ROWS)?, "rows");
+    assert_same(&rt, tree.rows(alloc)?, rows(alloc, ROWS)?, "rows");
     let new = messages(alloc, &[("b", "y")])?;
-    let want = (rows(alloc, &ROWS)?, new, MessageCopyState::new(2));
+    let want = (rows(alloc, ROWS)?, new, MessageCopyState::new(2));
     assert_same(&rt, snapshot(alloc, &tree)?, want, "snapshot");
+    Ok(())
+}
+
+#[test]
+fn a_table_keeps_units(rt: HostRuntime) -> Result<(), Fail> {
+    let (a, b) = (key_at(&[0]), key_at(&[1]));
+    let unit = Some(dynamic(Kind::Bytes(Bytes)));
+    let mut table: TreeCore<u64> = TreeCore::new(rt.alloc());
+    table.insert(rt.alloc(), a, "a", UNKNOWN)?;
+    let counted = Some(Counted {
+        counter: 1,
+        done_at: None,
+        unit,
+        state: State::Running,
+    });
+    assert_same(&rt, table.unit(a), None, "before");
+    assert_same(&rt, table.init(a, counted), true, "init");
+    assert_same(&rt, table.unit(a), unit, "after");
+    assert_same(&rt, table.unit(b), None, "no task");
     Ok(())
 }

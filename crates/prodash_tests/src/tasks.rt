@@ -182,7 +182,7 @@ mod tests {
     }
 
     #[rattlefmt::skip]
-    const CHANGES: [Step; 31] = [
+    const CHANGES: &[Step] = &[
         (Ask::NumTasks, Told::Count(0)),
         (Ask::Add(0, "a"), Told::Made(1)),
         // without progress
@@ -221,11 +221,11 @@ mod tests {
 
     #[test]
     fn events_change_a_task(rt: HostRuntime) -> Result<(), Fail> {
-        grown(&rt, rt.alloc(), &CHANGES)?;
+        grown(&rt, rt.alloc(), CHANGES)?;
         Ok(())
     }
 
-    const DROPPED: [Step; 2] = [
+    const DROPPED: &[Step] = &[
         (Ask::Add(0, "a"), Told::Made(1)),
         (Ask::Drop(1), Told::Done),
     ];
@@ -266,14 +266,14 @@ mod tests {
     #[test]
     fn events_need_an_item(rt: HostRuntime) -> Result<(), Fail> {
         let alloc = rt.alloc();
-        let mut tree = grown(&rt, alloc, &DROPPED)?;
+        let mut tree = grown(&rt, alloc, DROPPED)?;
         assert_gone(&rt, alloc, &mut tree, 0)?;
         assert_gone(&rt, alloc, &mut tree, 1)?;
         assert_gone(&rt, alloc, &mut tree, 2)?;
         Ok(())
     }
 
-    const SIXTH_LEVEL: [Step; 11] = [
+    const SIXTH_LEVEL: &[Step] = &[
         (Ask::Add(0, "a"), Told::Made(1)),
         (Ask::Add(1, "b"), Told::Made(2)),
         (Ask::Add(2, "c"), Told::Made(3)),
@@ -291,14 +291,14 @@ mod tests {
     fn a_child_of_the_sixth_level_takes_the_place_of_its_parent(
         rt: HostRuntime,
     ) -> Result<(), Fail> {
-        let tree = grown(&rt, rt.alloc(), &SIXTH_LEVEL)?;
+        let tree = grown(&rt, rt.alloc(), SIXTH_LEVEL)?;
         let rows = tree.rows(rt.alloc())?;
         let last = rows.as_slice().last().ok_or("no row")?;
         assert_same(&rt, last.key, key_at(&[0, 0, 0, 0, 0, 0]), "key");
         Ok(())
     }
 
-    const ORPHAN: [Step; 4] = [
+    const ORPHAN: &[Step] = &[
         (Ask::Add(0, "a"), Told::Made(1)),
         (Ask::Add(1, "b"), Told::Made(2)),
         (Ask::Drop(1), Told::Done),
@@ -310,7 +310,7 @@ mod tests {
         let alloc = rt.alloc();
         let empty = adjacency_of_first(alloc, &new_tree(alloc)?)?;
         assert_same(&rt, empty, None, "empty tree");
-        let tree = grown(&rt, alloc, &ORPHAN)?;
+        let tree = grown(&rt, alloc, ORPHAN)?;
         let adjacency = Adjacency(No, No, No, No, No, No);
         assert_same(&rt, adjacency.level(), 0, "level");
         assert_same(&rt, adjacency_of_first(alloc, &tree)?, Some(adjacency), "b");
@@ -319,7 +319,7 @@ mod tests {
 
     /// What comes after 65536 children of the root.
     #[rattlefmt::skip]
-    const AFTER_ALL: [Step; 15] = [
+    const AFTER_ALL: &[Step] = &[
         (Ask::Add(0, "Z"), Told::Made(65537)),
         (Ask::Name(1), Told::Name(Some("Z"))),
         (Ask::NumTasks, Told::Count(65536)),
@@ -344,7 +344,7 @@ mod tests {
         for handle in 1..65537 {
             assert_reply(&rt, alloc, &mut tree, Ask::Add(0, "a"), Told::Made(handle))?;
         }
-        assert_replies(&rt, alloc, &mut tree, &AFTER_ALL)?;
+        assert_replies(&rt, alloc, &mut tree, AFTER_ALL)?;
         Ok(())
     }
 

@@ -13,7 +13,7 @@ const MAX: u64 = u64::MAX;
 
 /// Three samples, 40 in 1.2 seconds; then a second without a change.
 #[rattlefmt::skip]
-const STEADY: [Turn; 8] = [
+const STEADY: &[Turn] = &[
     (0, Some(3), None),
     (400_000_000, Some(10), None),
     (800_000_000, Some(20), None),
@@ -27,7 +27,7 @@ const STEADY: [Turn; 8] = [
 /// Marks at the first, the fourth, the seventh and the last sample, of which the last alone takes
 /// more than a second.
 #[rattlefmt::skip]
-const UNEVEN: [Turn; 9] = [
+const UNEVEN: &[Turn] = &[
     (0, None, None),
     (100, Some(0), None),
     (300_000_100, Some(10), None),
@@ -41,7 +41,7 @@ const UNEVEN: [Turn; 9] = [
 
 /// Steps that rise and fall by the greatest number: a fall counts as 0.
 #[rattlefmt::skip]
-const GREATEST: [Turn; 5] = [
+const GREATEST: &[Turn] = &[
     (0, None, None),
     (400_000_000, Some(0), None),
     (800_000_000, Some(MAX), None),
@@ -51,14 +51,14 @@ const GREATEST: [Turn; 5] = [
 
 /// A nanosecond more than a second is a mark, and a second is none.
 #[rattlefmt::skip]
-const NANOSECOND: [Turn; 3] = [
+const NANOSECOND: &[Turn] = &[
     (0, None, None),
     (1, Some(0), None),
     (1_000_000_002, Some(MAX), Some(18_446_744_055_262_807_559)),
 ];
 
 #[rattlefmt::skip]
-const SECOND: [Turn; 4] = [
+const SECOND: &[Turn] = &[
     (0, None, None),
     (1, Some(0), None),
     (1_000_000_001, Some(7), None),
@@ -67,7 +67,7 @@ const SECOND: [Turn; 4] = [
 
 /// Nothing is recorded after the clock went back, but the new moment is kept.
 #[rattlefmt::skip]
-const BACK: [Turn; 4] = [
+const BACK: &[Turn] = &[
     (1000, None, None),
     (400, Some(5), None),
     (900, Some(5), None),
@@ -76,7 +76,7 @@ const BACK: [Turn; 4] = [
 
 /// Moments without a step are left out.
 #[rattlefmt::skip]
-const GAPS: [Turn; 6] = [
+const GAPS: &[Turn] = &[
     (0, None, None),
     (10, Some(1), None),
     (20, None, None),
@@ -87,7 +87,7 @@ const GAPS: [Turn; 6] = [
 
 /// A moment that comes twice has an elapsed time of 0.
 #[rattlefmt::skip]
-const TWICE: [Turn; 4] = [
+const TWICE: &[Turn] = &[
     (0, None, None),
     (0, Some(4), None),
     (0, Some(9), None),
@@ -95,22 +95,22 @@ const TWICE: [Turn; 4] = [
 ];
 
 #[rattlefmt::skip]
-const LAST_MOMENT: [Turn; 2] = [
+const LAST_MOMENT: &[Turn] = &[
     (0, None, None),
     (MAX, Some(0), None),
 ];
 
 #[rattlefmt::skip]
 const TABLES: [&[Turn]; 9] = [
-    &STEADY,
-    &UNEVEN,
-    &GREATEST,
-    &NANOSECOND,
-    &SECOND,
-    &BACK,
-    &GAPS,
-    &TWICE,
-    &LAST_MOMENT,
+    STEADY,
+    UNEVEN,
+    GREATEST,
+    NANOSECOND,
+    SECOND,
+    BACK,
+    GAPS,
+    TWICE,
+    LAST_MOMENT,
 ];
 
 /// The number of a key, its step if it has progress, and the change in one second that is returned.
@@ -167,7 +167,7 @@ fn tracker_after(
 
 /// The key 7 has the steps of `STEADY`, and the first two moments have another key.
 #[rattlefmt::skip]
-const APART: [Moment; 8] = [
+const APART: &[Moment] = &[
     (0, &[(7, Some(3), None), (3, None, None)]),
     (400_000_000, &[(7, Some(10), None), (3, Some(0), None)]),
     (800_000_000, &[(7, Some(20), None)]),
@@ -180,13 +180,13 @@ const APART: [Moment; 8] = [
 
 #[test]
 fn keys_are_measured_apart(rt: HostRuntime) -> Result<(), Fail> {
-    tracker_after(&rt, rt.alloc(), &APART)?;
+    tracker_after(&rt, rt.alloc(), APART)?;
     Ok(())
 }
 
 /// Three keys at two moments.
 #[rattlefmt::skip]
-const THREE: [Moment; 2] = [
+const THREE: &[Moment] = &[
     (0, &[(1, Some(10), None), (2, Some(10), None), (3, Some(10), None)]),
     (5, &[(1, Some(10), None), (2, Some(10), None), (3, Some(10), None)]),
 ];
@@ -197,9 +197,9 @@ const LATER: u64 = 2_000_000_005;
 /// Two seconds later.
 const LAST: u64 = 4_000_000_005;
 
-const LISTED: [ShortRow; 2] = [(&[3], "three", None), (&[1], "one", Some((10, None)))];
+const LISTED: &[ShortRow] = &[(&[3], "three", None), (&[1], "one", Some((10, None)))];
 
-const OF_LISTED: [Change; 3] = [
+const OF_LISTED: &[Change] = &[
     (1, Some(30), Some(10)),
     (2, Some(30), None),
     (3, Some(30), Some(10)),
@@ -208,17 +208,17 @@ const OF_LISTED: [Change; 3] = [
 #[test]
 fn unlisted_keys_are_forgotten(rt: HostRuntime) -> Result<(), Fail> {
     let alloc = rt.alloc();
-    let mut tracker = tracker_after(&rt, alloc, &THREE)?;
-    tracker.reconcile(rows(alloc, &LISTED)?.as_slice());
-    assert_changes(&rt, alloc, &mut tracker, LATER, &OF_LISTED)?;
+    let mut tracker = tracker_after(&rt, alloc, THREE)?;
+    tracker.reconcile(rows(alloc, LISTED)?.as_slice());
+    assert_changes(&rt, alloc, &mut tracker, LATER, OF_LISTED)?;
     Ok(())
 }
 
 #[test]
 fn copies_are_equal_and_independent(rt: HostRuntime) -> Result<(), Fail> {
     let alloc = rt.alloc();
-    let mut tracker = tracker_after(&rt, alloc, &THREE)?;
-    let mut copy = tracker.copy(alloc, rows(alloc, &LISTED)?.as_slice())?;
+    let mut tracker = tracker_after(&rt, alloc, THREE)?;
+    let mut copy = tracker.copy(alloc, rows(alloc, LISTED)?.as_slice())?;
     let mut later = tracker.copy(alloc, &[])?;
     tracker.reconcile(&[]);
     assert_changes(&rt, alloc, &mut copy, LATER, &[(1, Some(30), Some(10))])?;

@@ -1,13 +1,8 @@
 use crate::fixtures::{
-    Progress, ShortReply, assert_ascending, assert_distinct, assert_same, key_at, message,
-    messages, reply, row, rows,
+    Progress, assert_ascending, assert_distinct, assert_same, key_at, message, messages, row, rows,
 };
 use prodash::messages::{Message, MessageCopyState, MessageLevel};
 use prodash::progress::{Id, Row, State, UNKNOWN, Value};
-use prodash::render::line::draw::Answer;
-use prodash::render::line::page::{Fault, Sign};
-use prodash::time::Moment;
-use prodash::tree::{Event, Reply};
 use prodash::{Refusal, Text};
 use std::alloc::{AllocError, Global};
 use std::collections::HashMap;
@@ -22,7 +17,7 @@ fn clones<T: Clone + Drop>(alloc: Global, values: &[T]) -> Result<Vec<T>, AllocE
     Ok(copies)
 }
 
-const STATES: [State; 9] = [
+const STATES: &[State] = &[
     State::Blocked("a", None),
     State::Blocked("a", Some(0)),
     State::Blocked("a", Some(1)),
@@ -42,7 +37,7 @@ fn derived_orders(rt: HostRuntime) {
         MessageLevel::Success,
     ];
     assert_ascending(&rt, &levels);
-    assert_ascending(&rt, &STATES);
+    assert_ascending(&rt, STATES);
 }
 
 #[test]
@@ -79,18 +74,19 @@ fn fractions_need_a_bound(rt: HostRuntime) {
     assert_same(&rt, value.fraction(), Some((3, 10)), "a bound");
 }
 
-const TEXTS: [(Refusal, &str); 6] = [
+const TEXTS: &[(Refusal, &str)] = &[
     (Refusal::Memory, "no memory"),
     (Refusal::TooManyMessages, "too many messages"),
     (Refusal::Gone, "no such handle"),
     (Refusal::Closed, "renderer is closed"),
     (Refusal::Broken, "output is broken"),
     (Refusal::TooManyHandles, "too many handles"),
+    (Refusal::NoThread, "no thread"),
 ];
 
 #[test]
 fn refusals_have_texts(rt: HostRuntime) -> Result<(), Fail> {
-    for (refusal, want) in &TEXTS {
+    for (refusal, want) in TEXTS {
         let text = format!(in rt.alloc(); "{refusal}")?;
         assert_same(&rt, text.as_str(), *want, *refusal);
     }
@@ -112,23 +108,10 @@ fn plain_values_differ_by_any_field(rt: HostRuntime) {
         Refusal::Closed,
         Refusal::Broken,
         Refusal::TooManyHandles,
+        Refusal::NoThread,
     ];
-    let signs = [
-        Sign::Char('a'),
-        Sign::Char('b'),
-        Sign::LineFeed,
-        Sign::CarriageReturn,
-        Sign::Up(1),
-        Sign::Up(2),
-        Sign::EraseLine,
-    ];
-    let faults = [Fault::At(0), Fault::At(1), Fault::Memory];
-    let answers = [Answer::Drawn, Answer::Ended];
     let states = [MessageCopyState::new(0), MessageCopyState::new(1)];
     assert_distinct(&rt, &refusals, &refusals);
-    assert_distinct(&rt, &signs, &signs);
-    assert_distinct(&rt, &faults, &faults);
-    assert_distinct(&rt, &answers, &answers);
     assert_distinct(&rt, &states, &states);
 }
 
@@ -152,7 +135,7 @@ fn some_values(alloc: Global) -> Result<Vec<Value>, AllocError> {
     Ok(values)
 }
 
-const ROWS: [(&[u16], &str, Id, Progress); 5] = [
+const ROWS: &[(&[u16], &str, Id, Progress)] = &[
     (&[1, 2], "a", UNKNOWN, None),
     (&[1, 3], "a", UNKNOWN, None),
     (&[1, 2], "b", UNKNOWN, None),
@@ -163,7 +146,7 @@ const ROWS: [(&[u16], &str, Id, Progress); 5] = [
 /// Rows that differ in one field each.
 fn some_rows(alloc: Global) -> Result<Vec<Row>, AllocError> {
     let mut rows = Vec::new(alloc);
-    for (numbers, name, id, progress) in &ROWS {
+    for (numbers, name, id, progress) in ROWS {
         let mut row = row(alloc, key_at(numbers), name, *progress)?;
         let id = *id;
         row.id = id;
@@ -228,80 +211,5 @@ fn rows_and_messages_keep_their_lists(rt: HostRuntime) -> Result<(), Fail> {
     for (message, want) in list.iter().zip(["x", "y"]) {
         assert_same(&rt, message.message.as_str(), want, "text");
     }
-    Ok(())
-}
-
-/// Events that differ in their kind or in one field each.
-#[rattlefmt::skip]
-fn some_events(alloc: Global) -> Result<Vec<Event>, AllocError> {
-    let state = MessageCopyState::new(1);
-    let mut events = vec![in alloc;
-        Event::Drop { item: 1 }, Event::Drop { item: 2 },
-        Event::Init { item: 1, max: None, unit: None },
-        Event::Init { item: 2, max: None, unit: None },
-        Event::Init { item: 1, max: Some(1), unit: None },
-        Event::Set { item: 1, step: 1 }, Event::Set { item: 2, step: 1 },
-        Event::Set { item: 1, step: 2 },
-        Event::Snapshot, Event::CopyMessages, Event::DropRoot,
-        Event::CopyNew { previous: None }, Event::CopyNew { previous: Some(state) },
-        Event::Tick { at: 0, show: true }, Event::Tick { at: 1, show: true },
-        Event::Tick { at: 0, show: false },
-        Event::Quit { at: 0 }, Event::Quit { at: 1 },
-    ]?;
-    for (parent, name, id) in &CHILDREN {
-        let (parent, id) = (*parent, *id);
-        events.push(Event::AddChild { parent, name: Text::from_str(alloc, name)?, id })?;
-    }
-    for (item, at, level, text) in &MESSAGES {
-        let (item, at, level) = (*item, *at, *level);
-        events.push(Event::Message { item, at, level, text: Text::from_str(alloc, text)? })?;
-    }
-    Ok(events)
-}
-
-const CHILDREN: [(u64, &str, Id); 4] = [
-    (0, "a", UNKNOWN),
-    (1, "a", UNKNOWN),
-    (0, "b", UNKNOWN),
-    (0, "a", [0, 0, 0, 1]),
-];
-
-const MESSAGES: [(u64, Moment, MessageLevel, &str); 5] = [
-    (1, 0, MessageLevel::Info, "a"),
-    (2, 0, MessageLevel::Info, "a"),
-    (1, 1, MessageLevel::Info, "a"),
-    (1, 0, MessageLevel::Failure, "a"),
-    (1, 0, MessageLevel::Info, "b"),
-];
-
-const REPLIES: [ShortReply; 14] = [
-    ShortReply::Made(1),
-    ShortReply::Made(2),
-    ShortReply::Done,
-    ShortReply::Rows(&[]),
-    ShortReply::Rows(&[(&[1], "a", None)]),
-    ShortReply::Messages(&[]),
-    ShortReply::Messages(&[("a", "b")]),
-    ShortReply::New(&[], 1),
-    ShortReply::New(&[], 2),
-    ShortReply::New(&[("a", "b")], 1),
-    ShortReply::Drawn,
-    ShortReply::Ended,
-    ShortReply::Refused(Refusal::Gone),
-    ShortReply::Refused(Refusal::Closed),
-];
-
-fn some_replies(alloc: Global) -> Result<Vec<Reply>, AllocError> {
-    let mut replies = Vec::new(alloc);
-    for short in &REPLIES {
-        replies.push(reply(alloc, *short)?)?;
-    }
-    Ok(replies)
-}
-
-#[test]
-fn events_and_replies_differ_by_any_field(rt: HostRuntime) -> Result<(), Fail> {
-    assert_distinct(&rt, &some_events(rt.alloc())?, &some_events(rt.alloc())?);
-    assert_distinct(&rt, &some_replies(rt.alloc())?, &some_replies(rt.alloc())?);
     Ok(())
 }

@@ -1,4 +1,5 @@
-use crate::fixtures::{MESSAGE_FRAME, TASK_FRAME, assert_same};
+use crate::fixtures::{MESSAGE_FRAME, TASK_FRAME, assert_distinct, assert_same};
+use prodash::render::line::draw::Answer;
 use prodash::render::line::page::{Fault, Page, Sign, read, spell};
 use std::alloc::Global;
 use std::process::Abort;
@@ -19,7 +20,7 @@ const AT_THREE: &str = " task 3/10 [=======>-------------------]";
 const AT_FOUR: &str = " task 4/10 [==========>----------------]";
 
 #[rattlefmt::skip]
-const WRITTEN: [Written; 7] = [
+const WRITTEN: &[Written] = &[
     // a page of one cell
     ((1, 1), &["ab\n\x1b[5A"], &["a", "b", ""], 2, (2, 0)),
     // a line as wide as the page, in the last row of the window
@@ -82,7 +83,7 @@ fn assert_rows(
 
 #[test]
 fn pages_show_what_is_written(rt: HostRuntime) -> Result<(), Fail> {
-    for ((columns, height), parts, rows, top, cursor) in &WRITTEN {
+    for ((columns, height), parts, rows, top, cursor) in WRITTEN {
         let page = page_after(&rt, rt.alloc(), *columns, *height, parts)?;
         assert_rows(&rt, rt.alloc(), &page, *columns, rows)?;
         assert_same(&rt, (page.top(), page.cursor()), (*top, *cursor), *parts);
@@ -113,7 +114,7 @@ fn reads_what_signs_spell(rt: HostRuntime) -> Result<(), Fail> {
 
 /// Bytes that no signs spell, and how many before the fault signs do.
 #[rattlefmt::skip]
-const FAULTS: [(&[u8], usize); 7] = [
+const FAULTS: &[(&[u8], usize)] = &[
     (b"ab\x1b[", 2),
     (b"\x1b[01A", 0),
     (b"\x1b[31;1m", 0),
@@ -125,8 +126,26 @@ const FAULTS: [(&[u8], usize); 7] = [
 
 #[test]
 fn refuses_what_no_signs_spell(rt: HostRuntime) {
-    for (bytes, end) in &FAULTS {
+    for (bytes, end) in FAULTS {
         let fault = read(rt.alloc(), bytes).err();
         assert_same(&rt, fault, Some(Fault::At(*end)), *bytes);
     }
+}
+
+#[test]
+fn plain_values_differ_by_any_field(rt: HostRuntime) {
+    let signs = [
+        Sign::Char('a'),
+        Sign::Char('b'),
+        Sign::LineFeed,
+        Sign::CarriageReturn,
+        Sign::Up(1),
+        Sign::Up(2),
+        Sign::EraseLine,
+    ];
+    let faults = [Fault::At(0), Fault::At(1), Fault::Memory];
+    let answers = [Answer::Drawn, Answer::Ended];
+    assert_distinct(&rt, &signs, &signs);
+    assert_distinct(&rt, &faults, &faults);
+    assert_distinct(&rt, &answers, &answers);
 }

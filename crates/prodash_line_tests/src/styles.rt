@@ -8,7 +8,7 @@ use std::test::Fail;
 type Spelled = (bool, bool, Option<Color>, bool, &'static str);
 
 #[rattlefmt::skip]
-const STYLES: [Spelled; 17] = [
+const STYLES: &[Spelled] = &[
     (true, false, None, false, "\x1b[1m"),
     (false, true, None, false, "\x1b[2m"),
     (true, true, None, false, "\x1b[1;2m"),
@@ -49,14 +49,14 @@ fn assert_spelled(rt: &impl Abort, alloc: Global, signs: &[Sign], bytes: &str) -
 
 #[test]
 fn styles_are_spelled_by_their_codes(rt: HostRuntime) -> Result<(), Fail> {
-    for spelled in &STYLES {
+    for spelled in STYLES {
         let signs = [Sign::Open(style_of(spelled))];
         assert_spelled(&rt, rt.alloc(), &signs, spelled.4)?;
     }
     Ok(())
 }
 
-const CURSOR: [Sign; 4] = [
+const CURSOR: &[Sign] = &[
     Sign::HideCursor,
     Sign::Char('a'),
     Sign::Reset,
@@ -65,12 +65,12 @@ const CURSOR: [Sign; 4] = [
 
 #[test]
 fn the_cursor_is_hidden_and_shown(rt: HostRuntime) -> Result<(), Fail> {
-    assert_spelled(&rt, rt.alloc(), &CURSOR, "\x1b[?25la\x1b[0m\x1b[?25h")
+    assert_spelled(&rt, rt.alloc(), CURSOR, "\x1b[?25la\x1b[0m\x1b[?25h")
 }
 
 /// Bytes that no signs spell, and how many before the fault signs do.
 #[rattlefmt::skip]
-const FAULTS: [(&str, usize); 24] = [
+const FAULTS: &[(&str, usize)] = &[
     // codes that don't ascend
     ("\x1b[31;1m", 0),
     ("\x1b[2;1m", 0),
@@ -107,7 +107,7 @@ const FAULTS: [(&str, usize); 24] = [
 
 #[test]
 fn other_codes_are_no_signs(rt: HostRuntime) {
-    for (bytes, end) in &FAULTS {
+    for (bytes, end) in FAULTS {
         let fault = read(rt.alloc(), bytes.as_bytes()).err();
         assert_same(&rt, fault, Some(Fault::At(*end)), *bytes);
     }
@@ -168,7 +168,7 @@ fn made(spelled: &Spelled) -> Style {
 fn styles_are_made_code_by_code(rt: HostRuntime) {
     assert_same(&rt, Style::new().is_plain(), true, "plain");
     assert_same(&rt, Style::new(), Style::default(), "default");
-    for spelled in &STYLES {
+    for spelled in STYLES {
         let style = made(spelled);
         assert_same(&rt, style, style_of(spelled), spelled.4);
         assert_same(&rt, style.is_plain(), false, spelled.4);

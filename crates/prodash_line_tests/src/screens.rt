@@ -27,7 +27,7 @@ const SHOW_TASK: Ask = Show(&[("task", Some((3, Some(10))))]);
 
 /// An input, how many bytes the screen takes, whether it flushes, and the bytes that it takes.
 #[rattlefmt::skip]
-const BREAKS: [(Ask, usize, bool, &str); 3] = [
+const BREAKS: &[(Ask, usize, bool, &str)] = &[
     (SHOW_TASK, 5, true, " task"),
     (SHOW_TASK, 200, false, TASK_FRAME),
     (Quit, 2, true, "\x1b["),
@@ -54,7 +54,7 @@ fn assert_needs_no_screen(rt: &impl Abort, alloc: Global, screen: &mut FakeScree
 
 #[test]
 fn renderer_ends_once_its_screen_is_broken(rt: HostRuntime) -> Result<(), Fail> {
-    for (first, left, flushes, want) in &BREAKS {
+    for (first, left, flushes, want) in BREAKS {
         let mut screen = FakeScreen::new(rt.alloc(), 200, *left, *flushes)?;
         assert_ends(&rt, rt.alloc(), &mut screen, *first, want);
         assert_needs_no_screen(&rt, rt.alloc(), &mut screen);

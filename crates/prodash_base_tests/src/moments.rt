@@ -7,7 +7,7 @@ use std::test::Fail;
 
 /// A moment, and its date and time of day as another program computes them.
 #[rattlefmt::skip]
-const MOMENTS: [(u64, &str); 36] = [
+const MOMENTS: &[(u64, &str)] = &[
     (0, "1970-01-01T00:00:00"),
     (999_999_999, "1970-01-01T00:00:00"),
     (86_399_999_999_999, "1970-01-01T23:59:59"),
@@ -57,7 +57,7 @@ fn assert_moment(rt: &impl Abort, alloc: Global, at: u64, want: &str) -> Result<
 
 #[test]
 fn moments_are_dates_and_times_of_day(rt: HostRuntime) -> Result<(), Fail> {
-    for (at, want) in &MOMENTS {
+    for (at, want) in MOMENTS {
         assert_moment(&rt, rt.alloc(), *at, want)?;
     }
     Ok(())

@@ -6,7 +6,7 @@ use std::test::Fail;
 
 /// The numbers of the children on the way down, and the key's numbers.
 #[rattlefmt::skip]
-const CHILDREN: [(&[u16], &[u16]); 5] = [
+const CHILDREN: &[(&[u16], &[u16])] = &[
     (&[], &[]),
     (&[7], &[7]),
     (&[1, 2, 3, 4, 5, 6], &[1, 2, 3, 4, 5, 6]),
@@ -26,7 +26,7 @@ fn assert_numbers(rt: &impl Abort, key: Key, numbers: &[u16]) {
 
 #[test]
 fn children_stay_within_six_levels(rt: HostRuntime) {
-    for (children, numbers) in &CHILDREN {
+    for (children, numbers) in CHILDREN {
         let key = key_at(children);
         assert_same(&rt, key.level() as usize, numbers.len(), *children);
         assert_numbers(&rt, key, numbers);

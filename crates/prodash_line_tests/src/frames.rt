@@ -35,7 +35,7 @@ const NEXT_GONE_FRAME: &str =
     " task 3/10 [=======>-------------------]\n                                        \n\x1b[2A";
 
 #[rattlefmt::skip]
-const FRAMES: [Drawing; 20] = [
+const FRAMES: &[Drawing] = &[
     // rows that were on screen before are not drawn again
     Drawing((40, 24), &[(Show(&[TASK]), Ok(TASK_FRAME)), (Show(&[TASK]), Ok(""))]),
     // nor are rows that were hidden, until they change
@@ -106,12 +106,12 @@ const FRAMES: [Drawing; 20] = [
 
 #[test]
 fn frames_have_exact_bytes(rt: HostRuntime) -> Result<(), Fail> {
-    assert_draws(&rt, rt.alloc(), &FRAMES)
+    assert_draws(&rt, rt.alloc(), FRAMES)
 }
 
 /// Inputs, how many messages were seen after each, and why the renderer has ended.
 #[rattlefmt::skip]
-const SEEN: [(Ask, u64, Option<Refusal>); 4] = [
+const SEEN: &[(Ask, u64, Option<Refusal>)] = &[
     (Print(&[("a", "one"), ("a", "two")], &[TASK]), 2, None),
     (Print(&[("a", "three")], &[]), 1, None),
     (Quit, 1, Some(Refusal::Closed)),
@@ -123,7 +123,7 @@ fn says_what_it_saw_and_why_it_ended(rt: HostRuntime) -> Result<(), Fail> {
     let mut screen = MemoryScreen::new(rt.alloc(), 200)?;
     let mut state = renderer(rt.alloc(), (40, 20));
     assert_same(&rt, (state.seen(), state.ended()), (None, None), "before");
-    for (ask, seen, ended) in &SEEN {
+    for (ask, seen, ended) in SEEN {
         let _ = draw(rt.alloc(), &mut screen, &mut state, *ask);
         let want = (Some(MessageCopyState::new(*seen)), *ended);
         assert_same(&rt, (state.seen(), state.ended()), want, *seen);

@@ -69,7 +69,7 @@ type Line = (
 );
 
 #[rattlefmt::skip]
-const TEXTS: [Line; 32] = [
+const TEXTS: &[Line] = &[
     (ITEMS, Shows::Neither, 3, None, None, "3 items"),
     (ITEMS, Shows::Neither, 3, Some(10), Some((5, SECOND)), "3/10 items"),
     (ITEMS, Shows::PercentageBefore, 3, Some(10), None, "[30%] 3/10 items"),
@@ -136,7 +136,7 @@ fn assert_appended(
 
 #[test]
 fn values_have_texts(rt: HostRuntime) -> Result<(), Fail> {
-    for line in &TEXTS {
+    for line in TEXTS {
         let display = display_of(rt.alloc(), line);
         assert_text(&rt, rt.alloc(), &display, line.5)?;
         assert_appended(&rt, rt.alloc(), &display, line.5)?;
@@ -162,7 +162,7 @@ fn a_display_keeps_its_part(rt: HostRuntime) -> Result<(), Fail> {
 type Message = (u64, u64, u64, Option<Kind>, &'static str);
 
 #[rattlefmt::skip]
-const MESSAGES: [Message; 7] = [
+const MESSAGES: &[Message] = &[
     (0, 2_500_000_000, 10, None, "done 10 items in 2.50s (4 items/s)"),
     (0, SECOND, 1999, Some(BYTES), "done 1.9kB in 1.00s (1.9kB/s)"),
     (7, 1_005_000_007, 1, Some(ITEMS), "done 1 items in 1.01s (0 items/s)"),
@@ -182,7 +182,7 @@ fn assert_message(rt: &impl Abort, alloc: Global, row: &Message) -> Result<(), R
 
 #[test]
 fn throughput_messages(rt: HostRuntime) -> Result<(), Fail> {
-    for row in &MESSAGES {
+    for row in MESSAGES {
         assert_message(&rt, rt.alloc(), row)?;
     }
     Ok(())

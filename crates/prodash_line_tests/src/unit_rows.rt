@@ -1,11 +1,10 @@
 use crate::fixtures::{assert_same, key_at, renderer, row};
+use prodash::Refusal;
 use prodash::messages::{MessageCopyState, Messages};
 use prodash::progress::{Row, Rows};
 use prodash::render::line::draw::{self, Input, MemoryScreen};
-use prodash::tree::{Counted, TreeCore};
 use prodash::unit::human::Formatter;
 use prodash::unit::{Bytes, Duration, Human, Kind, Range, Unit, dynamic};
-use prodash::{Refusal, progress};
 use std::alloc::{AllocError, Global};
 use std::process::Abort;
 use std::test::*;
@@ -20,7 +19,7 @@ const OBJECTS: Kind = Kind::Human(Human {
 type Line = (Kind, u64, Option<u64>, u16, &'static str);
 
 #[rattlefmt::skip]
-const LINES: [Line; 8] = [
+const LINES: &[Line] = &[
     (Kind::Label("i"), 2, None, 20, " t 2 i [=   ===   =]"),
     (Kind::Label("i"), u64::MAX, None, 40, " t 18446744073709551615 i []"),
     (Kind::Label("items"), 3, Some(10), 30, " t 3/10 items [===>----------]"),
@@ -69,27 +68,8 @@ fn assert_line(rt: &impl Abort, alloc: Global, line: &Line) -> Result<(), Fail> 
 
 #[test]
 fn rows_show_their_units(rt: HostRuntime) -> Result<(), Fail> {
-    for line in &LINES {
+    for line in LINES {
         assert_line(&rt, rt.alloc(), line)?;
     }
-    Ok(())
-}
-
-#[test]
-fn a_table_keeps_units(rt: HostRuntime) -> Result<(), Fail> {
-    let (a, b) = (key_at(&[0]), key_at(&[1]));
-    let unit = Some(dynamic(Kind::Bytes(Bytes)));
-    let mut table: TreeCore<u64> = TreeCore::new(rt.alloc());
-    table.insert(rt.alloc(), a, "a", progress::UNKNOWN)?;
-    let counted = Some(Counted {
-        counter: 1,
-        done_at: None,
-        unit,
-        state: progress::State::Running,
-    });
-    assert_same(&rt, table.unit(a), None, "before");
-    assert_same(&rt, table.init(a, counted), true, "init");
-    assert_same(&rt, table.unit(a), unit, "after");
-    assert_same(&rt, table.unit(b), None, "no task");
     Ok(())
 }

@@ -84,7 +84,7 @@ const BROKEN: Result<usize, Refusal> = Err(Refusal::Broken);
 const UNFLUSHED: Result<(), Refusal> = Err(Refusal::Broken);
 
 #[rattlefmt::skip]
-const ROWS: [Row; 9] = [
+const ROWS: &[Row] = &[
     Row(&[Takes(9)], true, &[Ok(4)], Ok(()), "abcd", (1, 1)),
     // a short write is no fault
     Row(&[Takes(3)], true, &[Ok(3), Ok(3)], Ok(()), "abcabc", (2, 1)),
@@ -134,7 +134,7 @@ fn assert_row(rt: &impl Abort, alloc: Global, row: &Row) {
 
 #[test]
 fn over_write_breaks_with_its_writer(rt: HostRuntime) {
-    for row in &ROWS {
+    for row in ROWS {
         assert_row(&rt, rt.alloc(), row);
     }
 }
@@ -149,7 +149,7 @@ fn over_write_may_take_no_bytes_of_none(rt: HostRuntime) {
 const TASK: Task = ("task", Some((3, Some(10))));
 
 #[rattlefmt::skip]
-const FRAMES: [(Ask, Answer); 4] = [
+const FRAMES: &[(Ask, Answer)] = &[
     (Show(&[TASK]), Answer::Drawn),
     (Print(&[("task", "one")], &[("task", Some((4, Some(10))))]), Answer::Drawn),
     (Show(&[]), Answer::Drawn),
@@ -159,7 +159,7 @@ const FRAMES: [(Ask, Answer); 4] = [
 /// A new renderer draws all frames on a screen.
 fn assert_frames<S: Screen>(rt: &impl Abort, alloc: Global, screen: &mut S) {
     let mut state = renderer(alloc, (40, 24));
-    for (ask, want) in &FRAMES {
+    for (ask, want) in FRAMES {
         let got = draw(alloc, screen, &mut state, *ask);
         assert_same(rt, got, Ok(*want), "frame");
     }
@@ -182,15 +182,15 @@ fn over_write_has_the_bytes_of_a_memory_screen(rt: HostRuntime) -> Result<(), Fa
     Ok(())
 }
 
-const BREAKS: [Outcome; 2] = [Takes(5), Fails(ErrorKind::Interrupted)];
+const BREAKS: &[Outcome] = &[Takes(5), Fails(ErrorKind::Interrupted)];
 
-const AFTER: [Ask; 3] = [Show(&[TASK]), Show(&[]), Quit];
+const AFTER: &[Ask] = &[Show(&[TASK]), Show(&[]), Quit];
 
 #[test]
 fn renderer_ends_once_its_writer_fails(rt: HostRuntime) {
-    let mut screen = OverWrite::new(FakeWriter::new(rt.alloc(), &BREAKS, true));
+    let mut screen = OverWrite::new(FakeWriter::new(rt.alloc(), BREAKS, true));
     let mut state = renderer(rt.alloc(), (40, 24));
-    for ask in &AFTER {
+    for ask in AFTER {
         let answer = draw(rt.alloc(), &mut screen, &mut state, *ask);
         assert_same(&rt, answer, Err(Refusal::Broken), "answer");
         assert_same(&rt, state.ended(), Some(Refusal::Broken), "end");

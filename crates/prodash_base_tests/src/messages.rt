@@ -24,7 +24,7 @@ type Turn = (&'static [&'static str], How, &'static [&'static str]);
 
 /// The capacity of a ring, and turns on it.
 #[rattlefmt::skip]
-const RINGS: [(usize, &[Turn]); 6] = [
+const RINGS: &[(usize, &[Turn])] = &[
     (2, &[(&["one", "two", "three"], All, &["two", "three"])]),
     (2, &[
         (&["one", "two", "three"], New, &["two", "three"]),
@@ -113,7 +113,7 @@ fn assert_turns(
 
 #[test]
 fn rings_keep_the_latest_messages(rt: HostRuntime) -> Result<(), Fail> {
-    for (capacity, turns) in &RINGS {
+    for (capacity, turns) in RINGS {
         assert_turns(&rt, rt.alloc(), *capacity, turns)?;
     }
     Ok(())

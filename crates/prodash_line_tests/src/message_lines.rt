@@ -3,7 +3,7 @@ use crate::fixtures::{Drawing, assert_draws};
 use std::test::Fail;
 
 #[rattlefmt::skip]
-const LINES: [Drawing; 4] = [
+const LINES: &[Drawing] = &[
     // each origin is aligned to the widest up to its own
     Drawing((40, 20), &[
         (Print(&[("ab", "x"), ("task", "y"), ("c", "z")], &[]), Ok(" ab x\n task y\n    c z\n")),
@@ -30,5 +30,5 @@ const LINES: [Drawing; 4] = [
 
 #[test]
 fn messages_are_printed_in_lines(rt: HostRuntime) -> Result<(), Fail> {
-    assert_draws(&rt, rt.alloc(), &LINES)
+    assert_draws(&rt, rt.alloc(), LINES)
 }

@@ -1,0 +1,174 @@
+//! What the files of tests share: inputs of a renderer in short, and assertions.
+use prodash::Refusal;
+use prodash::messages::MessageCopyState;
+use prodash::progress::Rows;
+use prodash::render::line::draw::{self, Answer, Input, MemoryScreen, Screen};
+pub(crate) use prodash_fixtures::{
+    FakeScreen, MESSAGE_FRAME, Progress, ShortMessage, TASK_FRAME, TERMINAL, key_at, messages, row,
+};
+use std::alloc::{AllocError, Global};
+use std::fmt::Debug;
+use std::process::Abort;
+use std::test::Fail;
+
+/// Both are equal; `of` says at which row of a table. A call is proved in a tenth of the time that
+/// `assert_eq!` takes.
+pub(crate) fn assert_same<T, N>(rt: &impl Abort, got: T, want: T, of: N)
+where
+    T: PartialEq + Debug + Drop,
+    N: Debug + Drop,
+{
+    assert_eq!(rt; got, want, "of {of:?}");
+}
+
+/// Each value equals the one in its place among the copies, and no other of them.
+pub(crate) fn assert_distinct<T: PartialEq>(rt: &impl Abort, values: &[T], copies: &[T]) {
+    assert_same(rt, values.len(), copies.len(), "lengths");
+    for (i, value) in values.iter().enumerate() {
+        for (j, copy) in copies.iter().enumerate() {
+            assert_same(rt, value == copy, i == j, (i, j));
+        }
+    }
+}
+
+/// A task below the root: its name, and its progress.
+pub(crate) type Task = (&'static str, Progress);
+
+/// An input of a renderer.
+#[derive(Clone, Copy)]
+pub(crate) enum Ask {
+    /// A tick that shows these tasks.
+    Show(&'static [Task]),
+    /// A tick that hides these tasks.
+    Hide(&'static [Task]),
+    /// A tick that prints these messages, and shows these tasks.
+    Print(&'static [ShortMessage], &'static [Task]),
+    /// A tick without a root, and whether it shows rows.
+    Rootless(bool),
+    Quit,
+}
+
+/// A tick with a root, which has seen as many messages as it prints.
+fn tick(
+    alloc: Global,
+    show: bool,
+    printed: &[ShortMessage],
+    tasks: &[Task],
+) -> Result<Input, AllocError> {
+    let mut list = Vec::new(alloc);
+    let mut number: u16 = 0;
+    for (name, progress) in tasks {
+        list.push(row(alloc, key_at(&[number]), name, *progress)?)?;
+        number = number.saturating_add(1);
+    }
+    let state = MessageCopyState::new(printed.len() as u64);
+    Ok(Input::Tick {
+        at: 0,
+        show,
+        seen: Some((Rows::new(list), messages(alloc, printed)?, state)),
+    })
+}
+
+fn input(alloc: Global, ask: Ask) -> Result<Input, AllocError> {
+    match ask {
+        Ask::Show(tasks) => tick(alloc, true, &[], tasks),
+        Ask::Hide(tasks) => tick(alloc, false, &[], tasks),
+        Ask::Print(printed, tasks) => tick(alloc, true, printed, tasks),
+        Ask::Rootless(show) => Ok(Input::Tick {
+            at: 0,
+            show,
+            seen: None,
+        }),
+        Ask::Quit => Ok(Input::Quit { at: 0 }),
+    }
+}
+
+/// Draws a frame. Once more if out of memory, since nothing has changed then.
+pub(crate) fn draw<S: Screen>(
+    alloc: Global,
+    screen: &mut S,
+    state: &mut draw::State,
+    ask: Ask,
+) -> Result<Answer, Refusal> {
+    let first = draw::all(alloc, screen, state, input(alloc, ask)?);
+    if first == Err(Refusal::Memory) {
+        return draw::all(alloc, screen, state, input(alloc, ask)?);
+    }
+    first
+}
+
+/// A renderer on a terminal of this many columns and rows.
+pub(crate) fn renderer(alloc: Global, terminal_dimensions: (u16, u16)) -> draw::State {
+    draw::State::new(
+        alloc,
+        draw::Options {
+            terminal_dimensions,
+            ..TERMINAL
+        },
+        false,
+    )
+}
+
+/// The columns and rows of a terminal, the inputs of a new renderer on it, and the bytes that each
+/// writes or why it is refused.
+pub(crate) struct Drawing(
+    pub(crate) (u16, u16),
+    pub(crate) &'static [(Ask, Result<&'static str, Refusal>)],
+);
+
+/// Each drawing writes its bytes and flushes them, also on a screen that takes one byte at a time.
+pub(crate) fn assert_draws(
+    rt: &impl Abort,
+    alloc: Global,
+    drawings: &[Drawing],
+) -> Result<(), Fail> {
+    for Drawing(terminal, frames) in drawings {
+        let mut state = renderer(alloc, *terminal);
+        let mut other = renderer(alloc, *terminal);
+        for (ask, want) in *frames {
+            assert_frame(rt, alloc, &mut state, *ask, *want)?;
+            assert_slow_frame(rt, alloc, &mut other, *ask, *want)?;
+        }
+    }
+    Ok(())
+}
+
+/// The answer to an input that writes these bytes, or is refused.
+fn answer_to(ask: Ask, want: Result<&str, Refusal>) -> Result<Answer, Refusal> {
+    match (want, ask) {
+        (Err(refusal), _) => Err(refusal),
+        (Ok(_), Ask::Rootless(_) | Ask::Quit) => Ok(Answer::Ended),
+        (Ok(_), _) => Ok(Answer::Drawn),
+    }
+}
+
+fn assert_frame(
+    rt: &impl Abort,
+    alloc: Global,
+    state: &mut draw::State,
+    ask: Ask,
+    want: Result<&str, Refusal>,
+) -> Result<(), Refusal> {
+    let mut screen = MemoryScreen::new(alloc, 200)?;
+    let answer = draw(alloc, &mut screen, state, ask);
+    assert_same(rt, answer, answer_to(ask, want), want);
+    assert_same(rt, screen.bytes(), want.unwrap_or("").as_bytes(), want);
+    assert!(rt; !screen.is_broken());
+    Ok(())
+}
+
+fn assert_slow_frame(
+    rt: &impl Abort,
+    alloc: Global,
+    state: &mut draw::State,
+    ask: Ask,
+    want: Result<&str, Refusal>,
+) -> Result<(), Refusal> {
+    let mut screen = FakeScreen::new(alloc, 1, 200, true)?;
+    let bytes = want.unwrap_or("").as_bytes();
+    let answer = draw(alloc, &mut screen, state, ask);
+    assert_same(rt, answer, answer_to(ask, want), want);
+    assert_same(rt, screen.bytes.as_slice(), bytes, want);
+    assert_same(rt, screen.flushed, bytes.len(), want);
+    Ok(())
+}
