@@ -2,7 +2,6 @@
 #![tactic(auto)]
 
 mod fault;
-mod line;
 mod replay;
 #[cfg(test)]
 mod tests;

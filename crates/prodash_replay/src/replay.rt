@@ -1,11 +1,11 @@
 ghost use Rattle.std.specs.Prelude.{◌<◌, IfOk};
 
 use crate::fault::Fault;
-use crate::line::{event_of, number};
 use prodash_base::Refusal;
 use prodash_core::tree::{Event, Reply, RootOptions, SessionOptions, run};
 use prodash_line::render::line::draw::{self, MemoryScreen};
 use prodash_line::render::line::page::{Page, read};
+use prodash_lines::{number, parse};
 use std::alloc::{AllocError, Global};
 use std::io::{Read, Write};
 
@@ -121,7 +121,7 @@ fn events_of(alloc: Global, bytes: &[u8]) -> Result<Vec<Event>, Fault> {
         let Ok(text) = str::from_utf8(line) else {
             return Err(Fault::Line(i + 1));
         };
-        match event_of(alloc, text)? {
+        match parse(alloc, text)? {
             Some(event) => events.push(event)?,
             None => return Err(Fault::Line(i + 1)),
         }

@@ -1,9 +1,9 @@
-use crate::line::event_of;
 use crate::replay::replay;
 use prodash_base::Text;
 use prodash_base::messages::MessageLevel;
 use prodash_base::progress::UNKNOWN;
 use prodash_core::tree::Event;
+use prodash_lines::parse;
 use std::alloc::Global;
 use std::io;
 use std::io::{Read, Write};
@@ -101,7 +101,7 @@ const DRAWN: &[u8] = b" task 3/10 [=======>-------------------]\n\x1b[1A";
 
 /// The words and input of a replay that succeeds, and what it writes.
 #[rattlefmt::skip]
-const WRITES: [(&[&str], &[u8], &[u8]); 14] = [
+const WRITES: &[(&[&str], &[u8], &[u8])] = &[
     (BYTES, ONE_TASK, DRAWN),
     // the last line may lack its line feed
     (BYTES, b"add 0 task\ninit 1 10 -\nset 1 3\ntick 0", DRAWN),
@@ -134,7 +134,7 @@ const LINE_5: &[u8] = b"line 5: not an event\n";
 
 /// The words and input of a replay that writes nothing, the line that tells why, and its status.
 #[rattlefmt::skip]
-const REFUSES: [(&[&str], &[u8], &[u8], u8); 36] = [
+const REFUSES: &[(&[&str], &[u8], &[u8], u8)] = &[
     (PAGE, b"add 0 \t\ntick 0\n", b"byte 1: not a sign\n", 1),
     // lines that are no events
     (PAGE, b"add 0 task\nfoo\nset 1 3\n", LINE_2, 2),
@@ -214,7 +214,7 @@ fn replay_with(
 
 #[test]
 fn replays_frames_and_pages(rt: HostRuntime) -> Result<(), Fail> {
-    for (words, input, want) in &WRITES {
+    for (words, input, want) in WRITES {
         let (out, err, status) = replay_with(rt.alloc(), words, input, false, false)?;
         assert_eq!(rt; out.as_slice(), *want);
         assert!(rt; err.is_empty());
@@ -225,7 +225,7 @@ fn replays_frames_and_pages(rt: HostRuntime) -> Result<(), Fail> {
 
 #[test]
 fn refuses_words_and_lines(rt: HostRuntime) -> Result<(), Fail> {
-    for (words, input, line, want) in &REFUSES {
+    for (words, input, line, want) in REFUSES {
         let (out, err, status) = replay_with(rt.alloc(), words, input, false, false)?;
         assert!(rt; out.is_empty());
         assert_eq!(rt; err.as_slice(), *line);
@@ -250,7 +250,7 @@ fn tells_broken_streams(rt: HostRuntime) -> Result<(), Fail> {
 
 /// The words of units, each with a script of a task on four columns and its frame.
 #[rattlefmt::skip]
-const UNITS: [(&[u8], &[u8]); 9] = [
+const UNITS: &[(&[u8], &[u8])] = &[
     (b"add 0 t\ninit 1 100 -\nset 1 29\ntick 0\n", b" t 29/100\n\x1b[1A"),
     (b"add 0 t\ninit 1 100 items\nset 1 29\ntick 0\n", b" t 29/100 items\n\x1b[1A"),
     (b"add 0 t\ninit 1 100 items%\nset 1 29\ntick 0\n", b" t 29/100 items [29%]\n\x1b[1A"),
@@ -264,14 +264,14 @@ const UNITS: [(&[u8], &[u8]); 9] = [
 
 #[test]
 fn reads_units(rt: HostRuntime) -> Result<(), Fail> {
-    for (input, frame) in &UNITS {
+    for (input, frame) in UNITS {
         let words = &["bytes", "4", "20"];
         let (out, err, status) = replay_with(rt.alloc(), words, input, false, false)?;
         assert_eq!(rt; out.as_slice(), *frame);
         assert!(rt; err.is_empty());
         assert_eq!(rt; status, 0);
     }
-    assert_eq!(rt; event_of(rt.alloc(), "init 1 100 item")?, None);
+    assert_eq!(rt; parse(rt.alloc(), "init 1 100 item")?, None);
     Ok(())
 }
 
@@ -288,7 +288,7 @@ set 1 20\ntick 800000000\nset 1 30\ntick 1200000000\nset 1 50\ntick 1600000000\n
 }
 
 /// Lines that are resizes, and the columns and rows.
-const RESIZES: [(&str, u16, u16); 2] = [("resize 5 30 4", 30, 4), ("resize 5 65535 0", 65535, 0)];
+const RESIZES: &[(&str, u16, u16)] = &[("resize 5 30 4", 30, 4), ("resize 5 65535 0", 65535, 0)];
 
 /// Lines that are none.
 const NO_RESIZES: [&str; 5] = [
@@ -305,10 +305,10 @@ fn reads_resizes(rt: HostRuntime) -> Result<(), Fail> {
         let event = Event::Resize {
             at: 5,
             show: true,
-            columns,
-            rows,
+            columns: *columns,
+            rows: *rows,
         };
-        assert_eq!(rt; event_of(rt.alloc(), line)?, Some(event));
+        assert_eq!(rt; parse(rt.alloc(), line)?, Some(event));
     }
     Ok(())
 }
@@ -316,7 +316,7 @@ fn reads_resizes(rt: HostRuntime) -> Result<(), Fail> {
 #[test]
 fn reads_no_other_resizes(rt: HostRuntime) -> Result<(), Fail> {
     for line in NO_RESIZES {
-        assert_eq!(rt; event_of(rt.alloc(), line)?, None);
+        assert_eq!(rt; parse(rt.alloc(), line)?, None);
     }
     Ok(())
 }
@@ -335,7 +335,7 @@ task 3/10 [====>------------]          \n\x1b[1A";
 
 /// Lines that are messages, and their level and text.
 #[rattlefmt::skip]
-const MESSAGES: [(&str, MessageLevel, &str); 3] = [
+const MESSAGES: &[(&str, MessageLevel, &str)] = &[
     ("info 1 7 x y", MessageLevel::Info, "x y"),
     ("done 1 7 ", MessageLevel::Success, ""),
     ("fail 1 7 x", MessageLevel::Failure, "x"),
@@ -364,12 +364,12 @@ fn reads_lines(rt: HostRuntime) -> Result<(), Fail> {
         ("hold 5", Event::Tick { at: 5, show: false }),
         ("quit 5", Event::Quit { at: 5 }),
     ] {
-        assert_eq!(rt; event_of(rt.alloc(), line)?, Some(event));
+        assert_eq!(rt; parse(rt.alloc(), line)?, Some(event));
     }
-    for (line, level, text) in &MESSAGES {
+    for (line, level, text) in MESSAGES {
         let text = Text::from_str(rt.alloc(), text)?;
         let event = Event::Message { item: 1, at: 7, level: *level, text };
-        assert_eq!(rt; event_of(rt.alloc(), line)?, Some(event));
+        assert_eq!(rt; parse(rt.alloc(), line)?, Some(event));
     }
     Ok(())
 }

@@ -1,0 +1,73 @@
+//! The lines of an input, applied as they come.
+use crate::fault::Fault;
+use crate::items::Items;
+use prodash::Refusal;
+use prodash::time::Clock;
+use prodash_lines::{Lines, Next, Request, request_of};
+use std::alloc::Global;
+use std::io::Read;
+use std::sync::Wait;
+use std::sync::atomic::{AtomicBool, Ordering};
+
+/// Applies each line of an input. A faulty line is said in a message, or ends it if it is to be
+/// strict. Returns how many lines were faulty.
+///
+/// # Errors
+///
+/// The fault that ended it: a faulty line if it is strict, the input, the output, or memory.
+pub fn feed_lines<R: Wait + Clone + Drop, I: Read + Drop, K: Clock>(
+    alloc: Global,
+    input: I,
+    clock: &K,
+    items: &mut Items<R>,
+    is_broken: &AtomicBool,
+    is_strict: bool,
+) -> Result<u64, Fault> {
+    let mut lines = Lines::new(alloc, input);
+    let mut faults: u64 = 0;
+    for number in 1..u64::MAX {
+        let next = match lines.advance() {
+            Ok(next) => next,
+            Err(error) => return Err(Fault::of_input(&error)),
+        };
+        let fault = match next {
+            Next::End => break,
+            Next::TooLong => Some(Fault::Line(number)),
+            // `set 1 10` may be the beginning of `set 1 100`
+            Next::CutOff => Some(Fault::CutOff(number)),
+            Next::Line => line(alloc, lines.line(), clock, items, number)?,
+        };
+        if is_broken.load(Ordering::SeqCst) {
+            return Err(Fault::Output);
+        }
+        let Some(fault) = fault else {
+            continue;
+        };
+        if is_strict {
+            return Err(fault);
+        }
+        faults = faults.saturating_add(1);
+        let text = format!(in alloc; "{fault}")?;
+        items.say(alloc, clock.now(), text.as_str())?;
+    }
+    Ok(faults)
+}
+
+/// Applies a line. Returns its fault, if it has one.
+fn line<R: Wait + Clone + Drop, K: Clock>(
+    alloc: Global,
+    bytes: &[u8],
+    clock: &K,
+    items: &mut Items<R>,
+    number: u64,
+) -> Result<Option<Fault>, Fault> {
+    let request = request_of(alloc, items.names(), clock.now(), bytes)?;
+    if let Request::Fault = request {
+        return Ok(Some(Fault::Line(number)));
+    }
+    match items.serve(alloc, request) {
+        Ok(()) | Err(Refusal::TooManyMessages) => Ok(None),
+        Err(Refusal::Gone) => Ok(Some(Fault::Handle(number))),
+        Err(refusal) => Err(Fault::from(refusal)),
+    }
+}
