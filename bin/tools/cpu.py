@@ -1,4 +1,5 @@
-"""What `rt ci` spends its processor time on: proofs, tests or edits. It runs them side by side, so their times are read from /proc."""
+"""What `rt ci` spends its processor time on: proofs, tests or edits, and of which crates. It runs them side by side, so their times are read from /proc."""
+import collections
 import os
 import threading
 
@@ -9,7 +10,7 @@ class Sampler:
     """Reads the times of all processes below one, until it is stopped."""
 
     def __init__(self, top):
-        # By process and kind: its seconds when it was last seen.
+        # By process, kind and crate: its seconds when it was last seen.
         self.top, self.seconds = top, {}
         self.stopped = threading.Event()
         self.thread = threading.Thread(target=self.run, daemon=True)
@@ -27,9 +28,9 @@ class Sampler:
         found = {pid: it for pid in filter(str.isdigit, os.listdir("/proc")) for it in [read_process(pid)] if it}
         for pid, (_, began, seconds) in found.items():
             if self.is_below(pid, found):
-                kind = kind_of(pid)
-                if kind:
-                    self.seconds[pid, began, kind] = seconds
+                what = kind_and_crate(pid)
+                if what:
+                    self.seconds[pid, began, *what] = seconds
 
     def is_below(self, pid, found):
         while pid in found and pid != str(self.top):
@@ -37,7 +38,15 @@ class Sampler:
         return pid == str(self.top)
 
     def of(self, kind):
-        return sum(seconds for (_, _, its), seconds in self.seconds.items() if its == kind)
+        """Returns the seconds that went into this kind of work."""
+        return sum(seconds for (_, _, its, _), seconds in self.seconds.items() if its == kind)
+
+    def by_crate(self):
+        """Returns the seconds of each crate and kind, those with the most first."""
+        found = collections.Counter()
+        for (_, _, kind, crate), seconds in self.seconds.items():
+            found[crate, kind] += seconds
+        return found.most_common()
 
 
 def read_process(pid):
@@ -50,14 +59,18 @@ def read_process(pid):
     return words[1], words[19], (int(words[11]) + int(words[12])) / TICKS
 
 
-def kind_of(pid):
-    """Returns whether a process of the checker tries an edit, or works on tests; None for another one."""
+def kind_and_crate(pid):
+    """Returns whether a process works on a crate, on its tests or on an edit of it, and the crate; None for another process."""
     try:
         folder = os.readlink(f"/proc/{pid}/cwd")
         with open(f"/proc/{pid}/cmdline", "rb") as it:
-            words = it.read().split(b"\0")
+            words = it.read().decode(errors="replace").split("\0")
     except OSError:
         return None
-    if "/rt-edit-" in folder:
-        return "edits"
-    return "tests" if b"--test" in words or words[0].endswith(b"_tests") else None
+    program = os.path.basename(words[0])
+    if program.endswith("_tests") and "--crate-name" not in words:
+        return "tests", program[: -len("_tests")]
+    if "--crate-name" not in words[:-1]:
+        return None
+    crate = words[words.index("--crate-name") + 1]
+    return "edits" if "/rt-edit-" in folder else "tests" if "--test" in words else "proofs", crate

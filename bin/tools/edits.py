@@ -2,7 +2,10 @@
 import os
 import re
 
-from functions import checker_name, functions_of
+from functions import checker_name, functions_of, likely_name
+
+# Where edits are: those that `rt ci` tries one by one, and the others.
+FOLDERS = ("must-fail", "edits")
 
 
 class Edit:
@@ -13,7 +16,9 @@ class Edit:
         # The changed files by their paths, or why `rt` can't apply the edit.
         self.texts, self.fault = rt.read_edit(file, crate.folder)
         self.steps = list(steps_in(file)) if not self.fault else []
-        # The changed functions, by the checker's names; empty if something else changes too.
+        # The changed functions, each with its file; empty if something else changes too.
+        self.places = set()
+        # The same functions by the checker's names, once they are known; empty if one isn't.
         self.changed = set()
 
     def applied(self, texts, read):
@@ -26,18 +31,27 @@ class Edit:
             texts[path] = text.replace(old, new)
         return texts
 
-    def find_functions(self, crate, read, printed):
-        """Finds the functions that the edit changes."""
-        texts, changed = {}, set()
+    def find_places(self, read):
+        """Finds the functions that the edit changes, in the files as they are read."""
+        texts, places = {}, set()
         for path, old, new in self.steps:
             text = texts[path] if path in texts else read(path)
             function = enclosing(text, old, new) if path.endswith(".rt") else None
-            name = function and checker_name(crate.name, path, function, printed)
-            if not name:
+            if not function:
                 return
             texts[path] = text.replace(old, new)
-            changed.add(name)
-        self.changed = changed
+            # where it lies changes with the other edits of its file
+            places.add((path, function._replace(start=0, end=0)))
+        self.places = places
+
+    def likely_names(self):
+        """Returns the likely names of the changed functions, below the crate."""
+        return {likely_name(path, function) for path, function in self.places}
+
+    def find_names(self, crate, printed):
+        """Finds the checker's names of the changed functions, of those that it printed."""
+        names = {checker_name(crate.name, path, function, printed) for path, function in self.places}
+        self.changed = names if None not in names else set()
 
 
 def steps_in(file):
@@ -67,11 +81,11 @@ def rounds_of(edits, most):
     """Puts edits of different functions together, at most `most` of them, in as few rounds as the function with most edits allows."""
 
     def rivals(edit):
-        return max(sum(name in it.changed for it in edits) for name in edit.changed)
+        return max(sum(place in it.places for it in edits) for place in edit.places)
 
     rounds = []
     for edit in sorted(edits, key=rivals, reverse=True):
-        free = (it for it in rounds if len(it) < most and all(edit.changed.isdisjoint(other.changed) for other in it))
+        free = (it for it in rounds if len(it) < most and all(edit.places.isdisjoint(other.places) for other in it))
         found = min(free, key=len, default=None)
         if found is None:
             rounds.append([edit])
@@ -80,9 +94,9 @@ def rounds_of(edits, most):
     return rounds
 
 
-def edit_files(crate):
-    """Yields the files of the edits of a crate."""
-    for part in ("must-fail", "edits"):
+def edit_files(crate, folders):
+    """Yields the files of the edits of a crate in these of its folders."""
+    for part in folders:
         folder = f"{crate.folder}/{part}"
         names = sorted(os.listdir(folder)) if os.path.isdir(folder) else []
         yield from (f"{folder}/{it}" for it in names if it.endswith(".edit"))

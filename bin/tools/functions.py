@@ -87,6 +87,11 @@ def names_in(text):
     return [it[:1].upper() + it[1:] for it in re.findall(r"(?<!')\b[A-Za-z_]\w*\b(?!\s*::)", text)]
 
 
+def parameter_names(text):
+    """Returns the names of the parameters in `<A: B, const N: usize>`, without their bounds."""
+    return re.findall(r"[<,]\s*(?:const\s+)?([A-Za-z_]\w*)\s*(?=[:,>=])", text)
+
+
 def impl_names(head):
     """Returns an impl's type and the checker's name of the impl: `Key`, `KeyIndexLevel` for `impl Index<Level> for Key`."""
     rest = head[re.search(r"\bimpl\b", head).end() :].strip()
@@ -95,20 +100,25 @@ def impl_names(head):
     type_name = (names_in(target if is_for else trait) or ["?"])[0]
     if not is_for:
         return type_name, type_name
-    generic = names_in(parameters)
+    generic = parameter_names(parameters)
     return type_name, type_name + "".join(it for it in names_in(trait) if it not in generic)
+
+
+def likely_name(path, function):
+    """Returns the likely name, below the crate, of a function of the file `path`: that of its module and its block."""
+    parts = [it for it in path[len("src/") : -len(".rt")].split("/") if it != "mod"]
+    parts = [] if parts in (["lib"], ["main"]) else parts
+    return "::".join([*parts, *function.modules, *([function.block] if function.block else []), function.name])
 
 
 def checker_name(crate, path, function, printed):
     """Returns the checker's name of a function of the file `path`, one of those `printed`, or None if it can't be told."""
-    parts = [it for it in path[len("src/") : -len(".rt")].split("/") if it != "mod"]
-    parts = [] if parts in (["lib"], ["main"]) else parts
-    module = "::".join([crate, *parts, *function.modules])
-    name = "::".join([module, *([function.block] if function.block else []), function.name])
+    name = f"{crate}::{likely_name(path, function)}"
     if name in printed:
         return name
     if not function.block:
         return None
+    module = name.removesuffix(f"::{function.block}::{function.name}")
     pattern = re.escape(f"{module}::{function.type}") + r"\w+::" + re.escape(function.name)
     if function.block == function.type:
         # the checker names it in the module of its type

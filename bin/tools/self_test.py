@@ -50,6 +50,10 @@ EDITS = {
 }
 
 
+# What is tried after `rt ci`: one edit for each function, which are asked for alone.
+AFTER_CI = ("must-fail/changes_nothing", "edits/wrong_body", "edits/wrong_caller", "edits/names_nothing")
+
+
 def write(top, path, text):
     os.makedirs(os.path.dirname(f"{top}/{path}"), exist_ok=True)
     with open(f"{top}/{path}", "w", encoding="utf-8") as it:
@@ -57,20 +61,27 @@ def write(top, path, text):
 
 
 def run(rt, try_crates, jobs):
-    """Tries the edits of a repository made for this, and returns the exit status."""
+    """Tries the edits of a repository made for this, both ways, and returns the exit status."""
+    tried = try_edits(rt, try_crates, jobs, EDITS, is_after_ci=False)
+    tried += try_edits(rt, try_crates, jobs, AFTER_CI, is_after_ci=True)
+    print(f"self-test: {sum(tried)} passed, {len(tried) - sum(tried)} failed")
+    return 0 if all(tried) else 1
+
+
+def try_edits(rt, try_crates, jobs, names, is_after_ci):
+    """Tries these edits, and returns whether each is reported as it must be."""
     with tempfile.TemporaryDirectory(prefix="try-edits-test-") as top:
         for path, text in FILES.items():
             write(top, path, text)
-        for name, (lines, _, _) in EDITS.items():
-            write(top, f"crates/small/{name}.edit", f"file: src/lib.rt\n{lines}\n")
-        trials = try_crates(rt, kit.crates(rt, top), jobs) or []
+        for name in names:
+            write(top, f"crates/small/{name}.edit", f"file: src/lib.rt\n{EDITS[name][0]}\n")
+        trials = try_crates(rt, kit.crates(rt, top), jobs, is_after_ci=is_after_ci) or []
     ends = {label: end for trial in trials for label, end in trial.ends.items()}
-    passed = 0
-    for name, (_, how, part) in EDITS.items():
+    tried = []
+    for name in names:
+        _, how, part = EDITS[name]
         label = f"small/{os.path.basename(name)}"
         said = ends.get(label, ("not tried", ""))
-        well = said[0] == how and part in said[1]
-        passed += well
-        print(f"{'ok' if well else 'FAILED'}: {label} is to be reported as: {how}")
-    print(f"self-test: {passed} passed, {len(EDITS) - passed} failed")
-    return 0 if passed == len(EDITS) else 1
+        tried.append(said[0] == how and part in said[1])
+        print(f"{'ok' if tried[-1] else 'FAILED'}: {label} is to be reported as: {how}{', after rt ci' if is_after_ci else ''}")
+    return tried

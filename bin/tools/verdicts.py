@@ -21,12 +21,12 @@ class Verdict:
         return self.status == 0
 
     def is_refused(self):
-        """Returns whether the check came to its end, and did not prove the crate."""
-        return self.status == 1 and self.lines[-1].startswith("logic=not-proved")
+        """Returns whether the check came to its end, and did not prove all that it was asked for."""
+        return self.status == 1 and self.lines[-1].startswith(("logic=not-proved", "only="))
 
     def judges(self):
         """Returns whether the check came to the functions at all."""
-        return bool(self.functions) and any(it.startswith("logic=") for it in self.lines)
+        return bool(self.functions) and any(it.startswith(("logic=", "only=")) for it in self.lines)
 
     def compiles(self):
         """Returns whether a check that was asked for no proof found nothing wrong."""
