@@ -245,7 +245,8 @@ impl<R: Wait + Clone + Drop> Item<R> {
     /// As `message`.
     pub fn done(&mut self, alloc: Global, at: Moment, message: &str) -> Result<(), Refusal>
         ensures kept { self.new ≡ self.old }
-        ensures err { IfErr result (λ e. (e ≡ Refusal.Memory) ⊎ (e ≡ Refusal.TooManyMessages)) }
+        ensures err { IfErr result (λ e. (e ≡ Refusal.Memory)
+            ⊎ (e ≡ Refusal.TooManyMessages)) }
     {
         self.message(alloc, at, MessageLevel::Success, message)
     }
@@ -257,7 +258,8 @@ impl<R: Wait + Clone + Drop> Item<R> {
     /// As `message`.
     pub fn fail(&mut self, alloc: Global, at: Moment, message: &str) -> Result<(), Refusal>
         ensures kept { self.new ≡ self.old }
-        ensures err { IfErr result (λ e. (e ≡ Refusal.Memory) ⊎ (e ≡ Refusal.TooManyMessages)) }
+        ensures err { IfErr result (λ e. (e ≡ Refusal.Memory)
+            ⊎ (e ≡ Refusal.TooManyMessages)) }
     {
         self.message(alloc, at, MessageLevel::Failure, message)
     }
@@ -269,7 +271,8 @@ impl<R: Wait + Clone + Drop> Item<R> {
     /// As `message`.
     pub fn info(&mut self, alloc: Global, at: Moment, message: &str) -> Result<(), Refusal>
         ensures kept { self.new ≡ self.old }
-        ensures err { IfErr result (λ e. (e ≡ Refusal.Memory) ⊎ (e ≡ Refusal.TooManyMessages)) }
+        ensures err { IfErr result (λ e. (e ≡ Refusal.Memory)
+            ⊎ (e ≡ Refusal.TooManyMessages)) }
     {
         self.message(alloc, at, MessageLevel::Info, message)
     }

@@ -245,7 +245,8 @@ impl Locked {
         ensures ok { OnOk result (self.new.ring ≡ push self.old.ring
             (message_of at level (name_of (finite.get self.old.table key)) text.now)) }
         ensures err { OnErr result (self.new.ring ≡ self.old.ring) }
-        ensures reason { IfErr result (λ e. (e ≡ Refusal.Memory) ⊎ (e ≡ Refusal.TooManyMessages)) }
+        ensures reason { IfErr result (λ e. (e ≡ Refusal.Memory)
+            ⊎ (e ≡ Refusal.TooManyMessages)) }
     {
         let Locked { table, ring, .. } = self;
         let origin = table.name(key).unwrap_or("");

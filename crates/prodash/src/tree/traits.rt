@@ -44,12 +44,20 @@ impl<R: Wait + Clone + Drop + Send + Sync> Progress for Item<R> {
 
     ghost gets_name = { λ item name after. after ≡ item };
 
-    fn init(&mut self, max: Option<Step>, unit: Option<Unit>) {
-        Item::init(self, max, unit)
+    fn id(&self) -> Id {
+        Item::id(self)
     }
 
-    fn unit(&self) -> Option<Unit> {
-        Item::unit(self)
+    fn name(&self, alloc: Global) -> Result<Option<String>, Refusal> {
+        Item::name(self, alloc)
+    }
+
+    fn set_name(&mut self, alloc: Global, name: &str) -> Result<(), Refusal> {
+        Item::set_name(self, alloc, name)
+    }
+
+    fn init(&mut self, max: Option<Step>, unit: Option<Unit>) {
+        Item::init(self, max, unit)
     }
 
     fn max(&self) -> Option<Step> {
@@ -60,16 +68,8 @@ impl<R: Wait + Clone + Drop + Send + Sync> Progress for Item<R> {
         Item::set_max(self, max)
     }
 
-    fn set_name(&mut self, alloc: Global, name: &str) -> Result<(), Refusal> {
-        Item::set_name(self, alloc, name)
-    }
-
-    fn name(&self, alloc: Global) -> Result<Option<String>, Refusal> {
-        Item::name(self, alloc)
-    }
-
-    fn id(&self) -> Id {
-        Item::id(self)
+    fn unit(&self) -> Option<Unit> {
+        Item::unit(self)
     }
 
     fn message(

@@ -51,7 +51,8 @@ pub(super) fn message_line(
     level: MessageLevel,
     message: &str,
 ) -> Result<String, Refusal>
-    ensures ok { IfOk result (λ line. string_bytes line ≡ message_text name.now level message.now) }
+    ensures ok { IfOk result (λ line. string_bytes line
+        ≡ message_text name.now level message.now) }
     ensures err { IfErr result (λ e. e ≡ Refusal.Memory) }
 {
     let sign = sign_of(level);

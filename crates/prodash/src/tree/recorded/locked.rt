@@ -152,7 +152,8 @@ impl<C: TreeLedger, S: Ledger> Locked<C, S> {
             Plays old.tree event.now (Ok r) new.tree
             × (new.entries ≡ old.entries ++ (event.now, r) ∷ [])))) }
         ensures ok { OnOk result (share.new ≡ with_call share.old event.now) }
-        ensures err { OnErr result ((share.new ≡ share.old) × (self.new.state ≡ self.old.state)) }
+        ensures err { OnErr result ((share.new ≡ share.old)
+            × (self.new.state ≡ self.old.state)) }
         ensures full { (share.old.calls ≡ u64.MAX) ↔ (result ≡ Err Refusal.TooManyHandles) }
     {
         if share.calls() == u64::MAX {
