@@ -7,7 +7,7 @@ use std::io;
 use thiserror::Error;
 
 /// Why the program ended early. Its text is the line that it writes to standard error.
-#[derive(Clone, Copy, Debug, PartialEq, Eq, Error)]
+#[derive(Clone, Copy, Debug, Error)]
 pub enum Fault {
     /// An argument is not UTF-8.
     #[error("arguments are not UTF-8")]

@@ -6,8 +6,6 @@ mod feed;
 mod items;
 mod options;
 mod program;
-#[cfg(test)]
-mod tests;
 mod watched;
 
 use fault::Fault;

@@ -119,32 +119,28 @@ fn command<'a>(alloc: Global) -> Result<Command<'a>, Error> {
             "columns",
             "N",
             "columns of the terminal [default: $COLUMNS, or 80]",
-            1,
-            65535,
+            ValueParser::unsigned(1, 65535),
         ))?
         .arg(value(
             alloc,
             "rows",
             "N",
             "rows of the terminal [default: $LINES, or 20]",
-            1,
-            65535,
+            ValueParser::unsigned(1, 65535),
         ))?
         .arg(value(
             alloc,
             "fps",
             "N",
             "frames in a second [default: 6]",
-            1,
-            1000,
+            ValueParser::unsigned(1, 1000),
         ))?
         .arg(value(
             alloc,
             "delay",
             "MILLISECONDS",
             "time until rows are drawn [default: 0]",
-            0,
-            86_400_000,
+            ValueParser::unsigned(0, 86_400_000),
         ))?
         .arg(flag(alloc, "no-color", "no colours, as with $NO_COLOR"))?
         .arg(flag(
@@ -163,24 +159,30 @@ fn command<'a>(alloc: Global) -> Result<Command<'a>, Error> {
             "draw on standard output, not on standard error",
         ))?
         .arg(flag(alloc, "strict", "end at the first line that is faulty"))?
-        .arg(terminal_option(alloc))?;
+        .arg(value(
+            alloc,
+            "terminal",
+            "WHEN",
+            "whether the output is a terminal; if not, messages alone are written",
+            ValueParser::Names(TERMINALS.as_slice()),
+        )
+        .default_value("auto"))?;
     Ok(command)
 }
 
-/// An option whose value is a number.
+/// An option with a value.
 fn value<'a>(
     alloc: Global,
     name: &'a str,
     shown: &'a str,
     help: &'a str,
-    least: u64,
-    most: u64,
+    parser: ValueParser<'a>,
 ) -> Arg<'a> {
     Arg::new(alloc, name)
         .long(name)
         .value_name(shown)
         .help(help)
-        .value_parser(ValueParser::unsigned(least, most))
+        .value_parser(parser)
 }
 
 /// An option without a value.
@@ -189,14 +191,4 @@ fn flag<'a>(alloc: Global, name: &'a str, help: &'a str) -> Arg<'a> {
         .long(name)
         .help(help)
         .action(ArgAction::SetTrue)
-}
-
-/// The option that says whether the output is a terminal.
-fn terminal_option<'a>(alloc: Global) -> Arg<'a> {
-    Arg::new(alloc, "terminal")
-        .long("terminal")
-        .value_name("WHEN")
-        .help("whether the output is a terminal; if not, messages alone are written")
-        .value_parser(ValueParser::Names(TERMINALS.as_slice()))
-        .default_value("auto")
 }

@@ -9,7 +9,7 @@ use std::io;
 use thiserror::Error;
 
 /// Why a replay failed. Its text is the line that the program writes to standard error.
-#[derive(Clone, Copy, Debug, PartialEq, Eq, Error)]
+#[derive(Clone, Copy, Debug, Error)]
 pub enum Fault {
     /// The arguments are not a command and two dimensions.
     #[error("usage: prodash-replay bytes|page COLUMNS ROWS")]

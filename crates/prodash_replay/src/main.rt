@@ -3,8 +3,6 @@
 
 mod fault;
 mod replay;
-#[cfg(test)]
-mod tests;
 
 use fault::Fault;
 use replay::{replay, report};

@@ -1,0 +1,120 @@
+"""Runs transcripts: text files in the format of cram, whose commands have to write what the files say.
+
+A line that begins with two spaces, `$` and a space is a command, and goes on in lines with `>` in place of `$`. The indented lines below it
+are what it writes to standard output and standard error: with ` (no-eol)` if there is no line feed at the end, and with ` (esc)` if bytes
+are written as `\\x1b`. A line `[2]` is a status other than 0. All other lines are prose. One shell runs all commands of a file.
+"""
+import difflib
+import os
+import re
+import select
+import signal
+import subprocess
+import tempfile
+import time
+
+# How long a command may take, and how many bytes it may write.
+SECONDS, BYTES = 60, 1 << 20
+COMMAND, MORE, OUTPUT = "  $ ", "  > ", "  "
+SHORT = {"\\": "\\\\", "\r": "\\r", "\t": "\\t"}
+
+
+class Command:
+    """A command of a transcript: its lines, and those that it has to write."""
+
+    def __init__(self, line):
+        self.lines, self.expected = [line], []
+
+    def text(self):
+        return "".join(it[len(COMMAND) :] for it in self.lines)
+
+
+def read(lines):
+    """Returns the parts of a transcript: its commands, and its lines of prose."""
+    parts = []
+    for line in lines:
+        last = parts[-1] if parts and isinstance(parts[-1], Command) else None
+        if line.startswith(COMMAND):
+            parts.append(Command(line))
+        elif last and line.startswith(MORE) and not last.expected:
+            last.lines.append(line)
+        elif last and line.startswith(OUTPUT):
+            last.expected.append(line)
+        else:
+            parts.append(line)
+    return parts
+
+
+def shown(line):
+    """Returns a line of output as a transcript has it."""
+    text = line.decode("latin-1")
+    text = text[:-1] if text.endswith("\n") else f"{text} (no-eol)"
+    if re.search(r"[^ -~]", text):
+        text = re.sub(r"[^ -~]|\\", lambda it: SHORT.get(it[0], f"\\x{ord(it[0]):02x}"), text) + " (esc)"
+    return f"{OUTPUT}{text}\n"
+
+
+def read_to(end, pipe, given):
+    """Reads a pipe until what was given has such an end. Returns all of it, and why there is no end if there is none."""
+    deadline = time.monotonic() + SECONDS
+    while not end.search(given):
+        left = deadline - time.monotonic()
+        if left < 0 or not select.select([pipe], [], [], left)[0]:
+            return given, f"no end within {SECONDS} seconds"
+        more = os.read(pipe.fileno(), 65536)
+        if not more:
+            return given, "the shell ended"
+        given += more
+        if len(given) > BYTES:
+            return given[:BYTES], "too much is written"
+    return given, None
+
+
+def outputs(end, pipe, count):
+    """Yields what each of so many commands writes, and its status, or why it has none."""
+    given, why = b"", None
+    for _ in range(count):
+        given, why = (b"", "not run") if why else read_to(end, pipe, given)
+        output, *ended = end.split(given, 1)
+        status, given = (ended[0].decode(), ended[1]) if ended else (why, b"")
+        yield output, status
+
+
+def run(commands, programs):
+    """Runs commands in a new folder, and returns the lines that each writes. The path begins with these programs, by name."""
+    mark = f"end-of-command-{os.urandom(8).hex()}"
+    end = re.compile(rb"%s (\d+)\n" % mark.encode())
+    with tempfile.TemporaryDirectory(prefix="transcripts-") as room:
+        for folder in ("bin", "work"):
+            os.mkdir(f"{room}/{folder}")
+        for name, path in programs.items():
+            os.symlink(path, f"{room}/bin/{name}")
+        with open(f"{room}/script", "w", encoding="utf-8") as it:
+            it.writelines(f"{command.text()}echo {mark} $?\n" for command in commands)
+        how = {"cwd": f"{room}/work", "stdin": subprocess.DEVNULL, "stdout": subprocess.PIPE, "stderr": subprocess.STDOUT}
+        how["env"] = {"PATH": f"{room}/bin:{os.environ['PATH']}", "LC_ALL": "C"}
+        with subprocess.Popen(["sh", f"{room}/script"], start_new_session=True, **how) as shell:
+            try:
+                ended = list(outputs(end, shell.stdout, len(commands)))
+            finally:
+                # what hangs, or goes on in the background
+                os.killpg(shell.pid, signal.SIGKILL)
+    written = []
+    for output, status in ended:
+        lines = [shown(it) for it in re.findall(rb"[^\n]*\n|[^\n]+", output)]
+        written.append([*lines, *([f"{OUTPUT}[{status}]\n"] if status != "0" else [])])
+    return written
+
+
+def play(path, programs):
+    """Runs a transcript, prints how it differs, and returns how many of its commands passed and failed."""
+    with open(path, encoding="utf-8") as it:
+        lines = it.readlines()
+    parts = read(lines)
+    commands = [it for it in parts if isinstance(it, Command)]
+    written = run(commands, programs)
+    wrote = iter(written)
+    played = [line for it in parts for line in ([*it.lines, *next(wrote)] if isinstance(it, Command) else [it])]
+    print(end="".join(difflib.unified_diff(lines, played, path, f"{path} as it was played")))
+    passed = sum(it.expected == lines for it, lines in zip(commands, written))
+    return passed, len(commands) - passed

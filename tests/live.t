@@ -1,0 +1,292 @@
+Messages and faults
+===================
+
+Off a terminal the messages alone are written, to standard error. A faulty line is reported, and
+the rest is read; the status is 2 then. The script comes in pieces of five bytes.
+
+  $ unset COLUMNS LINES NO_COLOR
+  $ cat >script <<END
+  > add @a 0 alpha
+  > add @b @a beta
+  > init @b 10 -
+  > set @b 3
+  > info @b 0 one
+  > bad
+  > done @a 0 two
+  > tick 0
+  > set @c 1
+  > add @b 0 delta
+  > fail 3 0 three
+  > drop 2
+  > drop @b
+  > info @b - four
+  > done 1 0 five
+  > add 0 zeta
+  > END
+  $ { cat script; printf 'info 3 0 si'; } | dd bs=5 2>/dev/null | prodash-live >other
+   beta one
+   input line 6: not an event
+   alpha two
+   input line 8: not an event
+   input line 9: no such handle
+   delta three
+   input line 12: no such handle
+   input line 14: no such handle
+   alpha five
+   input line 17: cut off
+  [2]
+  $ cat other
+
+The same on standard output, without the line that is cut off.
+
+  $ prodash-live --stdout <script 2>other
+   beta one
+   input line 6: not an event
+   alpha two
+   input line 8: not an event
+   input line 9: no such handle
+   delta three
+   input line 12: no such handle
+   input line 14: no such handle
+   alpha five
+  [2]
+  $ cat other
+
+A line that is not UTF-8, one that is longer than 65536 bytes, and lines after them.
+
+  $ {
+  >   printf 'add 0 \377\nadd 0 '
+  >   head -c 65531 /dev/zero | tr '\0' a
+  >   printf '\nadd 0 a\ninfo 1 - one\n'
+  > } | prodash-live
+   input line 1: not an event
+   input line 2: not an event
+       a one
+  [2]
+
+Without a faulty line the status is 0.
+
+  $ printf 'add 0 a\ninfo 1 3723000000000 one\n' | prodash-live --timestamps
+   01:02:03 a one
+
+With `--strict` the first faulty line ends the program: a line that is no event, one with an invalid
+handle, and one that is cut off. The rows are cleared.
+
+  $ strict() { printf "$1" | prodash-live --strict --stdout --terminal always >frames; }
+  $ strict 'add @a 0 a\nset a 1\nset @b 1\n'
+  line 2: not an event
+  [2]
+  $ strict 'add @a 0 a\nset @b 1\nset a 1\n'
+  line 2: no such handle
+  [2]
+  $ strict 'add @a 0 a\nset @a 1'
+  line 2: cut off
+  [2]
+  $ tail -c 5 frames
+  \x1b[2K\r (no-eol) (esc)
+
+Streams
+=======
+
+An empty input gets the closing frame alone.
+
+  $ prodash-live --terminal always </dev/null
+  \x1b[2K\r (no-eol) (esc)
+
+An input that can't be read, and an output that can't be written.
+
+  $ prodash-live <.
+  input is broken
+  [1]
+  $ echo 'add @a 0 a' | prodash-live --stdout --terminal always >/dev/full
+  output is broken
+  [1]
+  $ printf 'add @a 0 a\ninfo @a 0 one\n' | prodash-live --stdout >/dev/full
+  output is broken
+  [1]
+
+Rows
+====
+
+`until_shown` keeps the input of a command open until the file `frames` has a text. `last_row` shows
+the row that was drawn last before the closing frame. What was drawn before it depends on time.
+
+  $ until_shown() {
+  >   text=$1; shift
+  >   { cat; until grep -q "$text" frames; do sleep 0.02; done; } | "$@"
+  > }
+  $ last_row() { tail -n 3 frames | head -n 1 | sed 's/^.\[1A//'; }
+  $ printf 'add 0 task\ninit 1 10 -\nset 1 3\n' >one_task
+
+A row without progress is drawn once. The closing frame blanks it.
+
+  $ echo 'add 0 task' | until_shown task prodash-live --terminal always 2>frames
+  $ cat frames
+   \x1b[1;37mtask\x1b[0m (esc)
+  \x1b[1A      (esc)
+  \x1b[1A\x1b[2K\r (no-eol) (esc)
+
+By default there are 80 columns, colours, and no rows if the output is no terminal.
+
+  $ until_shown 3/10 prodash-live --fps=10 --stdout --terminal always <one_task >frames
+  $ last_row
+   \x1b[1;36mtask\x1b[0m \x1b[1;2m3/10\x1b[0m [\x1b[33m===================\x1b[0m\x1b[33m>\x1b[0m\x1b[2;33m-----------------------------------------------\x1b[0m] (esc)
+  $ until_shown 3/10 prodash-live --no-color --terminal=always <one_task 2>frames
+  $ last_row
+   task 3/10 [===================>-----------------------------------------------]
+  $ prodash-live <one_task
+  $ prodash-live --terminal never <one_task
+
+The number of columns is that of the environment, unless an option says it. So are colours.
+
+  $ until_shown 3/10 env COLUMNS=100 NO_COLOR=1 prodash-live --terminal always <one_task 2>frames
+  $ last_row
+   task 3/10 [=========================>-------------------------------------------------------------]
+  $ until_shown 3/10 env COLUMNS=100 NO_COLOR=1 prodash-live --columns 40 --terminal always \
+  >   <one_task 2>frames
+  $ last_row
+   task 3/10 [=======>-------------------]
+  $ until_shown 3/10 env COLUMNS=0 NO_COLOR= prodash-live --terminal always <one_task 2>frames
+  $ last_row
+   \x1b[1;36mtask\x1b[0m \x1b[1;2m3/10\x1b[0m [\x1b[33m===================\x1b[0m\x1b[33m>\x1b[0m\x1b[2;33m-----------------------------------------------\x1b[0m] (esc)
+
+A message is aligned with the origins of as many messages before its frame as the terminal has rows.
+`aligned` has a message of `long` written, then as many of `a` as it is told, and shows the next.
+
+  $ aligned() {
+  >   count=$1; shift
+  >   {
+  >     {
+  >       printf 'add 0 long\nadd 0 a\ninfo 1 0 first\n'
+  >       seq "$count" | sed 's/.*/info 2 0 number &./'
+  >       until grep -q "number $count[.]" frames; do sleep 0.02; done
+  >       echo 'info 2 0 next'
+  >     } | "$@"
+  >   } 2>frames
+  >   tail -n 1 frames
+  > }
+
+By default there are 20 rows. Else the number is that of the environment, unless an option says it.
+
+  $ aligned 19 prodash-live
+      a next
+  $ aligned 20 prodash-live
+   a next
+  $ aligned 29 env LINES=30 prodash-live
+      a next
+  $ aligned 30 env LINES=30 prodash-live
+   a next
+  $ aligned 6 env LINES=30 prodash-live --rows 7
+      a next
+  $ aligned 7 env LINES=30 prodash-live --rows 7
+   a next
+
+Rows are hidden until the delay has passed, and messages are not.
+
+  $ printf 'add 0 a\ninfo 1 0 one\n' \
+  >   | until_shown one prodash-live --terminal always --delay 86400000 2>frames
+  $ cat frames
+   \x1b[2ma\x1b[0m \x1b[1;37mone\x1b[0m (esc)
+  \x1b[2K\r (no-eol) (esc)
+
+Frames of a second
+==================
+
+`one_by_one` sends a message once that before it is written, so each is in a frame of its own. The
+status of `takes` is 0 if a command takes as many milliseconds as that, or more.
+
+  $ one_by_one() {
+  >   count=$1; shift
+  >   {
+  >     {
+  >       echo 'add 0 a'
+  >       for i in $(seq "$count"); do
+  >         echo "info 1 0 number $i."
+  >         until grep -q "number $i[.]" frames; do sleep 0.02; done
+  >       done
+  >     } | "$@"
+  >   } 2>frames
+  > }
+  $ takes() {
+  >   least=$1 began=$(date +%s%N); shift
+  >   "$@" && [ $((($(date +%s%N) - began) / 1000000)) -ge "$least" ]
+  > }
+
+With ten frames a second ten frames take nine tenths of a second at least, and with two frames a
+second five take two seconds.
+
+  $ takes 900 one_by_one 10 prodash-live --fps=10
+  $ takes 2000 one_by_one 5 prodash-live --fps 2
+
+A throughput is drawn after a second, if it is asked for.
+
+  $ {
+  >   {
+  >     printf 'add 0 t\ninit 1 - items/s\n'
+  >     until grep -q 't [0-9]* items |[0-9]*/s|' frames; do echo 'inc 1 1'; sleep 0.02; done
+  >   } | prodash-live --throughput --no-color --terminal always
+  > } 2>frames
+
+The command line
+================
+
+  $ prodash-live --version
+  prodash-live 31.0.1
+  $ prodash-live --help
+  Shows progress on a terminal from the event lines of standard input
+  
+  Usage: prodash-live [OPTIONS]
+  
+  Options:
+        --columns <N>           columns of the terminal [default: $COLUMNS, or 80]
+        --rows <N>              rows of the terminal [default: $LINES, or 20]
+        --fps <N>               frames in a second [default: 6]
+        --delay <MILLISECONDS>  time until rows are drawn [default: 0]
+        --no-color              no colours, as with $NO_COLOR
+        --timestamps            messages with their time of day, in UTC
+        --throughput            rows with the throughput of units that ask for it
+        --stdout                draw on standard output, not on standard error
+        --strict                end at the first line that is faulty
+        --terminal <WHEN>       whether the output is a terminal; if not, messages alone are written [default: auto] [possible values: auto, always, never]
+    -h, --help                  Print help
+    -V, --version               Print version
+  $ prodash-live --rows 0
+  error: invalid value '0' for '--rows <N>': 0 is not in 1..=65535
+  
+  For more information, try '--help'.
+  [2]
+  $ prodash-live --fps 1001
+  error: invalid value '1001' for '--fps <N>': 1001 is not in 1..=1000
+  
+  For more information, try '--help'.
+  [2]
+  $ prodash-live --delay 86400001
+  error: invalid value '86400001' for '--delay <MILLISECONDS>': 86400001 is not in 0..=86400000
+  
+  For more information, try '--help'.
+  [2]
+  $ prodash-live --terminal sometimes
+  error: invalid value 'sometimes' for '--terminal <WHEN>'
+    [possible values: auto, always, never]
+  
+  For more information, try '--help'.
+  [2]
+  $ prodash-live --color
+  error: unexpected argument '--color' found
+  
+    tip: a similar argument exists: '--no-color'
+  
+  Usage: prodash-live --no-color
+  
+  For more information, try '--help'.
+  [2]
+  $ prodash-live script
+  error: unexpected argument 'script' found
+  
+  Usage: prodash-live [OPTIONS]
+  
+  For more information, try '--help'.
+  [2]
+  $ prodash-live "$(printf '\377')"
+  arguments are not UTF-8
+  [2]

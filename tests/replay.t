@@ -1,0 +1,367 @@
+Frames
+======
+
+A task on 40 columns and 20 rows. The frame is its row, and then the cursor goes up to it.
+
+  $ cat >one_task <<END
+  > add 0 task
+  > init 1 10 -
+  > set 1 3
+  > tick 0
+  > END
+  $ prodash-replay bytes 40 20 <one_task
+   task 3/10 [=======>-------------------]
+  \x1b[1A (no-eol) (esc)
+
+The last line may lack its line feed.
+
+  $ printf 'add 0 task\ninit 1 10 -\nset 1 3\ntick 0' | prodash-replay bytes 40 20
+   task 3/10 [=======>-------------------]
+  \x1b[1A (no-eol) (esc)
+
+Nothing is drawn while rows are hidden, nor without events.
+
+  $ prodash-replay bytes 40 20 <<END
+  > add 0 task
+  > init 1 10 -
+  > set 1 3
+  > hold 0
+  > END
+  $ prodash-replay bytes 40 20 </dev/null
+
+A handle that was not made prints nothing.
+
+  $ echo 'set 1 3' | prodash-replay bytes 40 20
+
+Twenty digits, and an empty name without progress.
+
+  $ printf 'add 0 \nset 1 00000000000000000003\ntick 0\n' | prodash-replay bytes 40 20
+   
+  \x1b[1A (no-eol) (esc)
+
+Messages. The rows are hidden, and the closing frame erases the line below the messages.
+
+  $ printf 'add 0 task\ndone 1 0 one\nfail 1 1 \nhold 2\nquit 3\n' | prodash-replay bytes 40 20
+   task one
+   task 
+  \x1b[2K\r (no-eol) (esc)
+
+Every kind of line: messages, rows, and the closing frame.
+
+  $ cat >each_line <<END
+  > add 0 a
+  > add 0 b
+  > add 1 c
+  > init 1 10 -
+  > init 2 5 -
+  > name 1 task
+  > max 1 20
+  > max 2 -
+  > set 1 18446744073709551615
+  > inc 1 4
+  > inc 2 2
+  > blocked 1
+  > halted 2
+  > running 1
+  > info 1 0 one
+  > done 3 0 two
+  > fail 2 0 three
+  > tick 0
+  > drop 3
+  > hold 1
+  > droproot
+  > tick 2
+  > quit 3
+  > END
+  $ prodash-replay bytes 40 20 <each_line
+   task one
+      c two
+      b three
+   task 3/20 [===>-----------------------]
+    c
+   b 2 [  ===   ===   ===   ===   ===   =]
+  \x1b[3A                                         (esc)
+     
+                                          
+  \x1b[3A\x1b[2K\r (no-eol) (esc)
+
+Handles of no item.
+
+  $ prodash-replay bytes 40 20 <<END
+  > name 0 a
+  > max 1 3
+  > inc 1 3
+  > blocked 1
+  > halted 0
+  > running 7
+  > END
+
+A resize draws the rows again, on 30 columns.
+
+  $ { cat one_task; echo 'resize 1 30 4'; } | prodash-replay bytes 40 20
+   task 3/10 [=======>-------------------]
+  \x1b[1A task 3/10 [====>------------]           (esc)
+  \x1b[1A (no-eol) (esc)
+
+Throughput is measured: five steps of 400 milliseconds, and the rate of the last 1.2 seconds.
+
+  $ prodash-replay bytes 40 20 >frames <<END
+  > add 0 t
+  > init 1 100 items/s
+  > tick 0
+  > set 1 10
+  > tick 400000000
+  > set 1 20
+  > tick 800000000
+  > set 1 30
+  > tick 1200000000
+  > set 1 50
+  > tick 1600000000
+  > END
+  $ tail -n 2 frames
+  \x1b[1A t 50/100 items |33/s| [=======>-------] (esc)
+  \x1b[1A (no-eol) (esc)
+
+An input of a thousand frames, which comes in pieces of seven bytes. The rows are those of the last.
+
+  $ {
+  >   printf 'add 0 task\ninit 1 1000 -\n'
+  >   i=0
+  >   while [ $i -lt 1000 ]; do i=$((i + 1)); echo "inc 1 1"; echo "tick $i"; done
+  > } >thousand
+  $ dd bs=7 <thousand 2>/dev/null | prodash-replay page 40 4
+   task 1000/1000 [=====================>]
+  
+  
+  
+
+Pages
+=====
+
+The rows that frames leave on a page of 40 columns and 4 rows.
+
+  $ prodash-replay page 40 4 <each_line
+   task one
+      c two
+      b three
+  
+  
+  
+  
+  $ prodash-replay page 40 4 <one_task
+   task 3/10 [=======>-------------------]
+  
+  
+  
+  $ printf 'add 0 a\nadd 0 b\ntick 0\ndrop 1\ntick 1\n' | prodash-replay page 40 4
+   b
+  
+  
+  
+
+A message takes the place of the row, and the closing frame clears the row below it.
+
+  $ { cat one_task; printf 'info 1 0 one\nset 1 4\ntick 1\nquit 2\n'; } | prodash-replay page 40 4
+   task one
+  
+  
+  
+
+Nothing is written after a closing frame, and nothing for a message of the root.
+
+  $ prodash-replay page 40 4 <<END
+  > add 0 a
+  > tick 0
+  > info 0 0 one
+  > droproot
+  > hold 1
+  > tick 2
+  > quit 3
+  > END
+  
+  
+  
+  
+
+Units
+=====
+
+A task on four columns, by its bound, its unit and its step.
+
+  $ in_unit() {
+  >   printf 'add 0 t\ninit 1 %s %s\nset 1 %s\ntick 0\n' "$@" | prodash-replay bytes 4 20
+  > }
+  $ in_unit 100 - 29
+   t 29/100
+  \x1b[1A (no-eol) (esc)
+  $ in_unit 100 items 29
+   t 29/100 items
+  \x1b[1A (no-eol) (esc)
+  $ in_unit 100 items% 29
+   t 29/100 items [29%]
+  \x1b[1A (no-eol) (esc)
+  $ in_unit 100 %items 29
+   t [29%] 29/100 items
+  \x1b[1A (no-eol) (esc)
+  $ in_unit - items/s 29
+   t 29 items
+  \x1b[1A (no-eol) (esc)
+  $ in_unit 100 steps 29
+   t 30 of 100 steps
+  \x1b[1A (no-eol) (esc)
+  $ in_unit - bytes 1999
+   t 1.9kB 
+  \x1b[1A (no-eol) (esc)
+  $ in_unit - duration 61
+   t 1m1s 
+  \x1b[1A (no-eol) (esc)
+  $ in_unit - objects 2540000
+   t 2.54M objects
+  \x1b[1A (no-eol) (esc)
+
+Faults
+======
+
+`refused` plays lines that are refused. What the program says is on standard error. Standard output
+goes to a file, which stays empty.
+
+  $ refused() { printf "$1" | prodash-replay "${2-bytes}" 40 "${3-20}" >>written; }
+
+A tab in a name is no sign on a page.
+
+  $ refused 'add 0 \t\ntick 0\n' page 4
+  byte 1: not a sign
+  [1]
+
+Lines that are no events.
+
+  $ refused 'add 0 task\nfoo\nset 1 3\n' page 4
+  line 2: not an event
+  [2]
+  $ refused 'info 1 0\n'
+  line 1: not an event
+  [2]
+  $ refused 'info 1 one\n'
+  line 1: not an event
+  [2]
+  $ refused 'droproot 1\n'
+  line 1: not an event
+  [2]
+  $ refused 'droproot \n'
+  line 1: not an event
+  [2]
+  $ refused 'quit\n'
+  line 1: not an event
+  [2]
+  $ refused 'quit 1 2\n'
+  line 1: not an event
+  [2]
+  $ refused 'drop 1 2\n'
+  line 1: not an event
+  [2]
+  $ refused 'add 0 task\nfoo\n'
+  line 2: not an event
+  [2]
+  $ refused 'add 0 task\ninit 1 10 -\nset 1 3\ntick 0\n\n'
+  line 5: not an event
+  [2]
+  $ refused '\n'
+  line 1: not an event
+  [2]
+  $ refused 'set 1 18446744073709551616\n'
+  line 1: not an event
+  [2]
+  $ refused 'set 1 000000000000000000003\n'
+  line 1: not an event
+  [2]
+  $ refused 'set  1 3\n'
+  line 1: not an event
+  [2]
+  $ refused 'set 1 +3\n'
+  line 1: not an event
+  [2]
+  $ refused 'tick 1 \n'
+  line 1: not an event
+  [2]
+  $ refused 'add 0\n'
+  line 1: not an event
+  [2]
+  $ refused 'init 1 10 byte\n'
+  line 1: not an event
+  [2]
+  $ refused 'add 0 \377\n'
+  line 1: not an event
+  [2]
+  $ refused 'name 1\n'
+  line 1: not an event
+  [2]
+  $ refused 'name a b\n'
+  line 1: not an event
+  [2]
+  $ refused 'max 1\n'
+  line 1: not an event
+  [2]
+  $ refused 'max 1 ten\n'
+  line 1: not an event
+  [2]
+  $ refused 'max 1 10 -\n'
+  line 1: not an event
+  [2]
+  $ refused 'inc 1\n'
+  line 1: not an event
+  [2]
+  $ refused 'inc 1 -\n'
+  line 1: not an event
+  [2]
+  $ refused 'inc 1 -3\n'
+  line 1: not an event
+  [2]
+  $ refused 'blocked\n'
+  line 1: not an event
+  [2]
+  $ refused 'halted 1 \n'
+  line 1: not an event
+  [2]
+  $ refused 'running 1 2\n'
+  line 1: not an event
+  [2]
+
+Arguments that are not a command and two dimensions. They are checked before the input is read.
+
+  $ prodash-replay <one_task >>written
+  usage: prodash-replay bytes|page COLUMNS ROWS
+  [2]
+  $ prodash-replay bytes 40 <one_task >>written
+  usage: prodash-replay bytes|page COLUMNS ROWS
+  [2]
+  $ prodash-replay bytes 0 4 <one_task >>written
+  usage: prodash-replay bytes|page COLUMNS ROWS
+  [2]
+  $ prodash-replay page 40 65536 <one_task >>written
+  usage: prodash-replay bytes|page COLUMNS ROWS
+  [2]
+  $ prodash-replay rows 40 4 <one_task >>written
+  usage: prodash-replay bytes|page COLUMNS ROWS
+  [2]
+  $ prodash-replay bytes 40 20 4 <. >>written
+  usage: prodash-replay bytes|page COLUMNS ROWS
+  [2]
+  $ prodash-replay "$(printf '\377')" 40 4 <one_task >>written
+  usage: prodash-replay bytes|page COLUMNS ROWS
+  [2]
+
+An input that can't be read: a folder.
+
+  $ prodash-replay bytes 40 20 <. >>written
+  input is broken
+  [1]
+
+Nothing of all this has been written to standard output.
+
+  $ cat written
+
+An output that can't be written.
+
+  $ prodash-replay bytes 40 20 <one_task >/dev/full
+  output is broken
+  [1]
