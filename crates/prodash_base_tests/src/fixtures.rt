@@ -1,7 +1,11 @@
 //! What the files of tests share: rows and messages in short, and assertions.
 pub(crate) use prodash_fixtures::{Progress, ShortRow, key_at, message, messages, row, rows};
+use std::alloc::Global;
+use std::collections::HashMap;
 use std::fmt::Debug;
+use std::hash::Hash;
 use std::process::Abort;
+use std::test::Fail;
 
 /// Both are equal; `of` says at which row of a table. A call is proved in a tenth of the time that
 /// `assert_eq!` takes.
@@ -22,6 +26,22 @@ pub(crate) fn assert_ascending<T: Ord>(rt: &impl Abort, values: &[T]) {
             assert_same(rt, got, want, (i, j));
         }
     }
+}
+
+/// A map from the values to their places finds each at its own.
+pub(crate) fn assert_hashed<K: Hash + Eq + Copy + Drop>(
+    rt: &impl Abort,
+    alloc: Global,
+    values: &[K],
+) -> Result<(), Fail> {
+    let mut places = HashMap::new(alloc);
+    for (n, value) in values.iter().enumerate() {
+        assert_same(rt, places.insert(*value, n)?, None, n);
+    }
+    for (n, value) in values.iter().enumerate() {
+        assert_same(rt, places.get(value).copied(), Some(n), n);
+    }
+    Ok(())
 }
 
 /// Each value equals the one in its place among the copies, and no other of them.

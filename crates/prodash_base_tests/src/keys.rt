@@ -1,6 +1,5 @@
-use crate::fixtures::{assert_ascending, assert_same, key_at};
-use prodash::progress::Key;
-use std::collections::HashMap;
+use crate::fixtures::{assert_ascending, assert_hashed, assert_same, key_at};
+use prodash_base::progress::Key;
 use std::process::Abort;
 use std::test::Fail;
 
@@ -47,12 +46,7 @@ fn keys_are_ordered_by_their_numbers(rt: HostRuntime) -> Result<(), Fail> {
         key_at(&[256]),
     ];
     assert_ascending(&rt, &keys);
-    let mut seen = HashMap::new(rt.alloc());
-    for (n, key) in keys.iter().enumerate() {
-        assert_same(&rt, seen.insert(*key, n)?, None, n);
-        assert_same(&rt, seen.get(key).copied(), Some(n), n);
-    }
-    Ok(())
+    assert_hashed(&rt, rt.alloc(), &keys)
 }
 
 #[test]

@@ -1,4 +1,4 @@
-//! Tests of `prodash_base`, which call it through `prodash` as a user does. Nothing uses this crate.
+//! Tests of `prodash_base`, which call it directly. Nothing uses this crate.
 #![tactic(auto)]
 
 #[cfg(test)]

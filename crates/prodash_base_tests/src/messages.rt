@@ -1,7 +1,7 @@
 use crate::fixtures::{assert_same, message};
 use How::{All, New, Next, Since};
-use prodash::Refusal;
-use prodash::messages::{Message, MessageCopyState, MessageLevel, MessageRingBuffer};
+use prodash_base::Refusal;
+use prodash_base::messages::{Message, MessageCopyState, MessageLevel, MessageRingBuffer};
 use std::alloc::{AllocError, Global};
 use std::process::Abort;
 use std::test::Fail;

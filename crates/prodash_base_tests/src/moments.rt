@@ -1,6 +1,6 @@
 use crate::fixtures::assert_same;
-use prodash::Refusal;
-use prodash::time::{DATE_TIME_HMS, format_now_datetime_seconds, format_time_for_messages};
+use prodash_base::Refusal;
+use prodash_base::time::{DATE_TIME_HMS, format_now_datetime_seconds, format_time_for_messages};
 use std::alloc::Global;
 use std::process::Abort;
 use std::test::Fail;

@@ -1,6 +1,6 @@
 use crate::fixtures::{ShortRow, assert_same, key_at, rows};
-use prodash::unit::display;
-use prodash::{Refusal, Throughput};
+use prodash_base::unit::display;
+use prodash_base::{Refusal, Throughput};
 use std::alloc::Global;
 use std::process::Abort;
 use std::test::Fail;

@@ -1,14 +1,13 @@
-use crate::fixtures::{assert_ascending, assert_distinct, assert_same};
-use prodash::progress::Step;
-use prodash::unit::display::{self, Location, Mode, Throughput, UnitDisplay};
-use prodash::unit::human::Formatter;
-use prodash::unit::{
-    Bytes, DisplayValue, Duration, Human, Kind, Range, dynamic, dynamic_and_mode, label,
+use crate::fixtures::{assert_ascending, assert_distinct, assert_hashed, assert_same};
+use prodash_base::Refusal;
+use prodash_base::progress::Step;
+use prodash_base::unit::display::{self, Location, Mode, Throughput, UnitDisplay};
+use prodash_base::unit::human::Formatter;
+use prodash_base::unit::{
+    Bytes, DisplayValue, Duration, Human, Kind, Range, Unit, dynamic, dynamic_and_mode, label,
     label_and_mode, label_texts, throughput_message,
 };
-use prodash::{Refusal, Unit};
 use std::alloc::{AllocError, Global};
-use std::collections::HashMap;
 use std::process::Abort;
 use std::test::Fail;
 
@@ -251,16 +250,12 @@ fn orders_go_by_the_fields(rt: HostRuntime) {
 
 #[test]
 fn modes_and_locations_are_hashed(rt: HostRuntime) -> Result<(), Fail> {
-    let mut places = HashMap::new(rt.alloc());
-    for (n, mode) in modes().iter().enumerate() {
-        places.insert((Location::AfterUnit, *mode), n)?;
-    }
-    for (n, mode) in modes().iter().enumerate() {
-        let after = places.get(&(Location::AfterUnit, *mode)).copied();
-        let before = places.get(&(Location::BeforeValue, *mode)).copied();
-        assert_same(&rt, (after, before), (Some(n), None), n);
-    }
-    Ok(())
+    assert_hashed(&rt, rt.alloc(), &modes())?;
+    assert_hashed(
+        &rt,
+        rt.alloc(),
+        &[Location::BeforeValue, Location::AfterUnit],
+    )
 }
 
 /// A kind with a separator and a time unit of its own. The rest is shown as a label does.
@@ -268,7 +263,7 @@ struct Stars;
 
 impl DisplayValue for Stars {
     ghost use Rattle.std.specs.Prelude.{codes, None};
-    ghost use Rattle.prodash.specs.Shown.{label_shown, with_throughput};
+    ghost use Rattle.prodash_base.specs.Shown.{label_shown, with_throughput};
 
     ghost shown = { λ _. with_throughput (record (label_shown (codes "stars")) {
       separator = λ _ _. codes " ~ ";

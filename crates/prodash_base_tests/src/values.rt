@@ -1,11 +1,11 @@
 use crate::fixtures::{
-    Progress, assert_ascending, assert_distinct, assert_same, key_at, message, messages, row, rows,
+    Progress, ShortRow, assert_ascending, assert_distinct, assert_hashed, assert_same, key_at,
+    message, messages, row, rows,
 };
-use prodash::messages::{Message, MessageCopyState, MessageLevel};
-use prodash::progress::{Id, Row, State, UNKNOWN, Value};
-use prodash::{Refusal, Text};
+use prodash_base::messages::{Message, MessageCopyState, MessageLevel};
+use prodash_base::progress::{Id, Row, State, UNKNOWN, Value};
+use prodash_base::{Refusal, Text};
 use std::alloc::{AllocError, Global};
-use std::collections::HashMap;
 use std::test::Fail;
 
 /// Copies of the values.
@@ -42,14 +42,7 @@ fn derived_orders(rt: HostRuntime) {
 
 #[test]
 fn states_are_hashed(rt: HostRuntime) -> Result<(), Fail> {
-    let mut places = HashMap::new(rt.alloc());
-    for (n, state) in STATES.iter().enumerate() {
-        places.insert(*state, n)?;
-    }
-    for (n, state) in STATES.iter().enumerate() {
-        assert_same(&rt, places.get(state).copied(), Some(n), n);
-    }
-    Ok(())
+    assert_hashed(&rt, rt.alloc(), STATES)
 }
 
 #[test]
@@ -171,11 +164,21 @@ fn some_messages(alloc: Global) -> Result<Vec<Message>, AllocError> {
 }
 
 #[test]
-fn values_differ_by_any_field_and_equal_their_copies(rt: HostRuntime) -> Result<(), Fail> {
+fn values_differ_by_any_field(rt: HostRuntime) -> Result<(), Fail> {
     let values = some_values(rt.alloc())?;
     assert_distinct(&rt, &values, &clones(rt.alloc(), &values)?);
+    Ok(())
+}
+
+#[test]
+fn rows_differ_by_any_field(rt: HostRuntime) -> Result<(), Fail> {
     let rows = some_rows(rt.alloc())?;
     assert_distinct(&rt, &rows, &clones(rt.alloc(), &rows)?);
+    Ok(())
+}
+
+#[test]
+fn messages_differ_by_any_field(rt: HostRuntime) -> Result<(), Fail> {
     let messages = some_messages(rt.alloc())?;
     assert_distinct(&rt, &messages, &clones(rt.alloc(), &messages)?);
     Ok(())
@@ -184,32 +187,37 @@ fn values_differ_by_any_field_and_equal_their_copies(rt: HostRuntime) -> Result<
 #[test]
 fn texts_keep_their_bytes(rt: HostRuntime) -> Result<(), Fail> {
     let text = Text::from_str(rt.alloc(), "日本")?;
+    let other = Text::from_str(rt.alloc(), "日")?;
     let copy = text.clone()?;
-    assert!(rt; copy == text);
-    assert!(rt; copy != Text::from_str(rt.alloc(), "日")?);
     assert_same(&rt, text.as_str(), "日本", "text");
-    assert!(rt; Text::new(copy.into_string()) == text);
+    assert_same(&rt, (copy == text, copy == other), (true, false), "copy");
+    assert_same(&rt, Text::new(copy.into_string()), text, "string");
+    Ok(())
+}
+
+const LISTED: &[ShortRow] = &[(&[1], "a", Some((3, Some(10)))), (&[2], "b", None)];
+
+#[test]
+fn rows_keep_their_list(rt: HostRuntime) -> Result<(), Fail> {
+    let snapshot = rows(rt.alloc(), LISTED)?;
+    assert_same(&rt, snapshot.as_slice().len(), 2, "rows");
+    let list = snapshot.into_vec();
+    let [a, b] = list.as_slice() else {
+        return Err(Fail::new("not two rows"));
+    };
+    assert_same(&rt, (a.name.as_str(), b.name.as_str()), ("a", "b"), "names");
     Ok(())
 }
 
 #[test]
-fn rows_and_messages_keep_their_lists(rt: HostRuntime) -> Result<(), Fail> {
-    let snapshot = rows(
-        rt.alloc(),
-        &[(&[1], "a", Some((3, Some(10)))), (&[2], "b", None)],
-    )?;
-    assert_same(&rt, snapshot.as_slice().len(), 2, "rows");
-    let list = snapshot.into_vec();
-    assert_same(&rt, list.len(), 2, "rows of the list");
-    for (row, want) in list.iter().zip(["a", "b"]) {
-        assert_same(&rt, row.name.as_str(), want, "name");
-    }
+fn messages_keep_their_list(rt: HostRuntime) -> Result<(), Fail> {
     let copy = messages(rt.alloc(), &[("a", "x"), ("b", "y")])?;
     assert_same(&rt, copy.as_slice().len(), 2, "messages");
     let list = copy.into_vec();
-    assert_same(&rt, list.len(), 2, "messages of the list");
-    for (message, want) in list.iter().zip(["x", "y"]) {
-        assert_same(&rt, message.message.as_str(), want, "text");
-    }
+    let [a, b] = list.as_slice() else {
+        return Err(Fail::new("not two messages"));
+    };
+    let texts = (a.message.as_str(), b.message.as_str());
+    assert_same(&rt, texts, ("x", "y"), "texts");
     Ok(())
 }

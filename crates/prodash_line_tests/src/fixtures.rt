@@ -1,11 +1,12 @@
 //! What the files of tests share: inputs of a renderer in short, and assertions.
-use prodash::Refusal;
-use prodash::messages::MessageCopyState;
-use prodash::progress::Rows;
-use prodash::render::line::draw::{self, Answer, Input, MemoryScreen, Screen};
+use prodash_base::Refusal;
+use prodash_base::messages::MessageCopyState;
+use prodash_base::progress::{Row, Rows, State, Value};
+use prodash_base::unit::{Kind, dynamic};
 pub(crate) use prodash_fixtures::{
     FakeScreen, MESSAGE_FRAME, Progress, ShortMessage, TASK_FRAME, TERMINAL, key_at, messages, row,
 };
+use prodash_line::render::line::draw::{self, Answer, Input, MemoryScreen, Screen};
 use std::alloc::{AllocError, Global};
 use std::fmt::Debug;
 use std::process::Abort;
@@ -43,9 +44,42 @@ pub(crate) enum Ask {
     Hide(&'static [Task]),
     /// A tick that prints these messages, and shows these tasks.
     Print(&'static [ShortMessage], &'static [Task]),
+    /// A tick that shows a task `t` with a kind of unit, a step and a bound.
+    Measure(Kind, u64, Option<u64>),
     /// A tick without a root, and whether it shows rows.
     Rootless(bool),
     Quit,
+}
+
+/// The rows of these tasks.
+fn rows(alloc: Global, tasks: &[Task]) -> Result<Vec<Row>, AllocError> {
+    let mut rows = Vec::new(alloc);
+    let mut number: u16 = 0;
+    for (name, progress) in tasks {
+        rows.push(row(alloc, key_at(&[number]), name, *progress)?)?;
+        number = number.saturating_add(1);
+    }
+    Ok(rows)
+}
+
+/// The row of a task `t` whose values have a unit of this kind.
+fn measured_row(
+    alloc: Global,
+    kind: Kind,
+    step: u64,
+    done_at: Option<u64>,
+) -> Result<Vec<Row>, AllocError> {
+    let value = Value {
+        step,
+        done_at,
+        unit: Some(dynamic(kind)),
+        state: State::Running,
+    };
+    let mut row = row(alloc, key_at(&[0]), "t", None)?;
+    row.progress = Some(value);
+    let mut rows = Vec::new(alloc);
+    rows.push(row)?;
+    Ok(rows)
 }
 
 /// A tick with a root, which has seen as many messages as it prints.
@@ -53,27 +87,24 @@ fn tick(
     alloc: Global,
     show: bool,
     printed: &[ShortMessage],
-    tasks: &[Task],
+    rows: Vec<Row>,
 ) -> Result<Input, AllocError> {
-    let mut list = Vec::new(alloc);
-    let mut number: u16 = 0;
-    for (name, progress) in tasks {
-        list.push(row(alloc, key_at(&[number]), name, *progress)?)?;
-        number = number.saturating_add(1);
-    }
     let state = MessageCopyState::new(printed.len() as u64);
     Ok(Input::Tick {
         at: 0,
         show,
-        seen: Some((Rows::new(list), messages(alloc, printed)?, state)),
+        seen: Some((Rows::new(rows), messages(alloc, printed)?, state)),
     })
 }
 
 fn input(alloc: Global, ask: Ask) -> Result<Input, AllocError> {
     match ask {
-        Ask::Show(tasks) => tick(alloc, true, &[], tasks),
-        Ask::Hide(tasks) => tick(alloc, false, &[], tasks),
-        Ask::Print(printed, tasks) => tick(alloc, true, printed, tasks),
+        Ask::Show(tasks) => tick(alloc, true, &[], rows(alloc, tasks)?),
+        Ask::Hide(tasks) => tick(alloc, false, &[], rows(alloc, tasks)?),
+        Ask::Print(printed, tasks) => tick(alloc, true, printed, rows(alloc, tasks)?),
+        Ask::Measure(kind, step, bound) => {
+            tick(alloc, true, &[], measured_row(alloc, kind, step, bound)?)
+        }
         Ask::Rootless(show) => Ok(Input::Tick {
             at: 0,
             show,

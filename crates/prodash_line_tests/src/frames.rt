@@ -3,9 +3,9 @@ use crate::fixtures::{
     Ask, Drawing, MESSAGE_FRAME, Progress, TASK_FRAME, Task, assert_draws, assert_same, draw,
     renderer,
 };
-use prodash::Refusal;
-use prodash::messages::MessageCopyState;
-use prodash::render::line::draw::MemoryScreen;
+use prodash_base::Refusal;
+use prodash_base::messages::MessageCopyState;
+use prodash_line::render::line::draw::MemoryScreen;
 use std::test::Fail;
 
 const THREE_OF_TEN: Progress = Some((3, Some(10)));

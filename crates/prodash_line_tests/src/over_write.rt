@@ -1,8 +1,8 @@
 use crate::fixtures::Ask::{Print, Quit, Show};
 use crate::fixtures::{Ask, Task, assert_same, draw, renderer};
 use Outcome::{Fails, Takes};
-use prodash::Refusal;
-use prodash::render::line::draw::{Answer, MemoryScreen, OverWrite, Screen};
+use prodash_base::Refusal;
+use prodash_line::render::line::draw::{Answer, MemoryScreen, OverWrite, Screen};
 use std::alloc::Global;
 use std::io::{self, Error, ErrorKind, Write};
 use std::process::Abort;

@@ -1,6 +1,6 @@
 use crate::fixtures::{MESSAGE_FRAME, TASK_FRAME, assert_distinct, assert_same};
-use prodash::render::line::draw::Answer;
-use prodash::render::line::page::{Fault, Page, Sign, read, spell};
+use prodash_line::render::line::draw::Answer;
+use prodash_line::render::line::page::{Fault, Page, Sign, read, spell};
 use std::alloc::Global;
 use std::process::Abort;
 use std::test::Fail;
@@ -19,6 +19,9 @@ const AT_THREE: &str = " task 3/10 [=======>-------------------]";
 
 const AT_FOUR: &str = " task 4/10 [==========>----------------]";
 
+/// `abc` in three styles, while the cursor is hidden.
+const STYLED: &str = "\x1b[?25la\x1b[1;36mb\x1b[2;37;43mc\x1b[0m\x1b[?25h";
+
 #[rattlefmt::skip]
 const WRITTEN: &[Written] = &[
     // a page of one cell
@@ -34,6 +37,8 @@ const WRITTEN: &[Written] = &[
     ((3, 2), &["ab\x1b[2Kc"], &["  c", ""], 0, (0, 3)),
     // a carriage return clears nothing
     ((3, 2), &["ab\rc"], &["cb", ""], 0, (0, 1)),
+    // a page shows no styles and no hidden cursor
+    ((3, 2), &[STYLED], &["abc", ""], 0, (0, 3)),
 ];
 
 /// A page of this many columns and rows, with the signs of all parts written to it.

@@ -1,7 +1,7 @@
 use crate::fixtures::Ask::{Quit, Show};
 use crate::fixtures::{Ask, FakeScreen, TASK_FRAME, assert_same, draw, renderer};
-use prodash::Refusal;
-use prodash::render::line::draw::{Answer, MemoryScreen, Screen};
+use prodash_base::Refusal;
+use prodash_line::render::line::draw::{Answer, MemoryScreen, Screen};
 use std::alloc::Global;
 use std::process::Abort;
 use std::test::Fail;

@@ -1,5 +1,5 @@
 use crate::fixtures::{assert_distinct, assert_same};
-use prodash::render::line::page::{Color, Fault, Page, Sign, Style, read, spell};
+use prodash_line::render::line::page::{Color, Fault, Sign, Style, read, spell};
 use std::alloc::Global;
 use std::process::Abort;
 use std::test::Fail;
@@ -120,28 +120,6 @@ fn the_plain_style_is_no_sign(rt: HostRuntime) -> Result<(), Fail> {
     assert_same(&rt, bytes.as_slice(), b"\x1b[m".as_slice(), "bytes");
     let fault = read(rt.alloc(), &bytes).err();
     assert_same(&rt, fault, Some(Fault::At(0)), "fault");
-    Ok(())
-}
-
-/// A page of 3 columns and 2 rows after these bytes.
-fn page_after(rt: &impl Abort, alloc: Global, bytes: &str) -> Result<Page, Fail> {
-    let mut page = Page::new(alloc, 3, 2)?;
-    for sign in &read(alloc, bytes.as_bytes())? {
-        page.apply(alloc, sign)?;
-    }
-    assert_same(rt, page.rows(), 2, "rows");
-    Ok(page)
-}
-
-const STYLED: &str = "\x1b[?25la\x1b[1;36mb\x1b[2;37;43mc\x1b[0m\x1b[?25h";
-
-#[test]
-fn pages_show_no_styles(rt: HostRuntime) -> Result<(), Fail> {
-    let styled = page_after(&rt, rt.alloc(), STYLED)?;
-    let plain = page_after(&rt, rt.alloc(), "abc")?;
-    assert_same(&rt, styled.row(0), plain.row(0), "first row");
-    assert_same(&rt, styled.row(1), plain.row(1), "second row");
-    assert_same(&rt, styled.cursor(), plain.cursor(), "cursor");
     Ok(())
 }
 

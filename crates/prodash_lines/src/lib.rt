@@ -6,8 +6,6 @@ mod reading;
 mod request;
 mod script;
 mod stream;
-#[cfg(test)]
-mod tests;
 mod units;
 mod words;
 mod writing;
