@@ -1,9 +1,7 @@
-//! What the files of tests share: rows, messages, events and replies in short, and assertions.
-use prodash::messages::{MessageCopyState, MessageLevel};
-use prodash::progress::UNKNOWN;
-use prodash::time::Moment;
-use prodash::tree::{Event, Reply};
-use prodash::{Refusal, Text};
+//! What the files of tests share: rows, messages and replies in short, and assertions.
+use prodash::Refusal;
+use prodash::messages::MessageCopyState;
+use prodash::tree::Reply;
 pub(crate) use prodash_fixtures::{
     FakeScreen, MESSAGE_FRAME, ShortMessage, ShortRow, TASK_FRAME, TERMINAL, key_at, messages, row,
     rows,
@@ -30,85 +28,6 @@ pub(crate) fn assert_distinct<T: PartialEq>(rt: &impl Abort, values: &[T], copie
             assert_same(rt, value == copy, i == j, (i, j));
         }
     }
-}
-
-/// An event, in short: items are named by their handles.
-#[derive(Clone, Copy)]
-pub(crate) enum ShortEvent {
-    Add(u64, &'static str),
-    Drop(u64),
-    Init(u64, u64),
-    Set(u64, u64),
-    SetMax(u64, Option<u64>),
-    Blocked(u64),
-    Halted(u64),
-    Say(u64, &'static str),
-    /// The item, the moment, the severity and the text.
-    Tell(u64, Moment, MessageLevel, &'static str),
-    Snapshot,
-    CopyMessages,
-    CopyNew(Option<u64>),
-    DropRoot,
-    Show,
-    Hide,
-    /// Whether it shows rows, and the columns and rows of the terminal.
-    Resize(bool, u16, u16),
-    Quit,
-}
-
-pub(crate) fn event(alloc: Global, short: ShortEvent) -> Result<Event, AllocError> {
-    Ok(match short {
-        ShortEvent::Add(parent, name) => Event::AddChild {
-            parent,
-            name: Text::from_str(alloc, name)?,
-            id: UNKNOWN,
-        },
-        ShortEvent::Drop(item) => Event::Drop { item },
-        ShortEvent::Init(item, max) => Event::Init {
-            item,
-            max: Some(max),
-            unit: None,
-        },
-        ShortEvent::Set(item, step) => Event::Set { item, step },
-        ShortEvent::SetMax(item, max) => Event::SetMax { item, max },
-        ShortEvent::Blocked(item) => Event::Blocked {
-            item,
-            reason: "lock",
-            eta: None,
-        },
-        ShortEvent::Halted(item) => Event::Halted {
-            item,
-            reason: "lock",
-            eta: None,
-        },
-        ShortEvent::Tell(item, at, level, text) => Event::Message {
-            item,
-            at,
-            level,
-            text: Text::from_str(alloc, text)?,
-        },
-        ShortEvent::Say(item, text) => Event::Message {
-            item,
-            at: 0,
-            level: MessageLevel::Info,
-            text: Text::from_str(alloc, text)?,
-        },
-        ShortEvent::Snapshot => Event::Snapshot,
-        ShortEvent::CopyMessages => Event::CopyMessages,
-        ShortEvent::CopyNew(pushed) => Event::CopyNew {
-            previous: pushed.map(MessageCopyState::new),
-        },
-        ShortEvent::DropRoot => Event::DropRoot,
-        ShortEvent::Show => Event::Tick { at: 0, show: true },
-        ShortEvent::Hide => Event::Tick { at: 0, show: false },
-        ShortEvent::Resize(show, columns, rows) => Event::Resize {
-            at: 0,
-            show,
-            columns,
-            rows,
-        },
-        ShortEvent::Quit => Event::Quit { at: 0 },
-    })
 }
 
 /// A reply, in short.

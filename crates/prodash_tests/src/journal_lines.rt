@@ -1,25 +1,31 @@
 //! A journal as lines: what two workers did is written, read again, and done on a new tree.
 use crate::fixtures::assert_same;
-use crate::recorded::{Case, add, on_new_tree};
-use prodash::messages::MessageLevel;
-use prodash::progress::UNKNOWN;
+use crate::recorded::{Case, Running, add, call_lines, closed, join_all, on_new_tree};
+use crate::transcripts::Task;
+use prodash::Refusal;
 use prodash::tree::recorded::{Journal, RecordedItem, RecordedRoot, TreeLedger};
 use prodash::tree::{Event, Reply, RootOptions, TreeState};
-use prodash::unit::label;
-use prodash::{Refusal, Text};
-use prodash_lines::{Lines, Next, REASON, parse, to_line};
+use prodash_lines::{Lines, Next, parse, to_line};
 use std::alloc::Global;
 use std::process::Abort;
 use std::sync::Wait;
 use std::sync::ledger::Ledger;
 use std::test::*;
 use std::thread;
-use std::thread::{JoinHandle, Threads};
+use std::thread::Threads;
 
 #[test]
 fn a_journal_is_read_again_from_its_lines(rt: HostRuntime) -> Result<(), Fail> {
     on_new_tree(rt, rt.alloc(), Case::Lines)
 }
+
+const CALLS: &str = "init task 10 items
+name task the job
+add task a part
+set task 4
+inc task 3
+blocked task
+done task - a part is done";
 
 /// The calls of a worker on tasks of its own. It drops every other one, whose part stays.
 fn worked<C: TreeLedger, S: Ledger>(
@@ -28,47 +34,13 @@ fn worked<C: TreeLedger, S: Ledger>(
     mut item: RecordedItem<C, S>,
 ) -> Result<RecordedItem<C, S>, Refusal> {
     for step in 0..10u64 {
-        let task = add(rt, alloc, &mut item)?;
-        let calls = vec![in alloc;
-            Event::Init {
-                item: task,
-                max: Some(10),
-                unit: Some(label("items"))
-            },
-            Event::SetName {
-                item: task,
-                name: Text::from_str(alloc, "the job")?
-            },
-            Event::AddChild {
-                parent: task,
-                name: Text::from_str(alloc, "a part")?,
-                id: UNKNOWN
-            },
-            Event::Set { item: task, step },
-            Event::IncBy {
-                item: task,
-                step: 3
-            },
-            Event::Blocked {
-                item: task,
-                reason: REASON,
-                eta: None
-            },
-            Event::Message {
-                item: task,
-                at: step,
-                level: MessageLevel::Success,
-                text: Text::from_str(alloc, "a part is done")?,
-            },
-        ]?;
-        for event in calls {
-            if event.is_frame() {
-                return Err(Refusal::Closed);
-            }
-            item.call(rt, alloc, event)?;
-        }
+        let task = Task {
+            item: add(rt, alloc, &mut item)?,
+            now: step,
+        };
+        call_lines(rt, alloc, &mut item, task, CALLS)?;
         if step % 2 == 0 {
-            item.call(rt, alloc, Event::Drop { item: task })?;
+            call_lines(rt, alloc, &mut item, task, "drop task")?;
         }
     }
     Ok(item)
@@ -104,6 +76,38 @@ fn read(alloc: Global, text: &str) -> Result<Vec<Event>, Fail> {
     Ok(events)
 }
 
+/// Begins two workers.
+fn workers<
+    C: TreeLedger + Send + Sync + 'static,
+    S: Ledger + Send + Sync + 'static,
+    R: Threads + Wait + Abort + Copy + Send + Sync + 'static,
+>(rt: R, alloc: Global, root: &RecordedRoot<C, S>) -> Result<Running<C, S>, Fail> {
+    let mut running = Vec::new(alloc);
+    for _ in 0..2u32 {
+        let item = root.share(&rt)?;
+        running.push(thread::spawn(&rt, move || worked(&rt, alloc, item))?)?;
+    }
+    Ok(running)
+}
+
+/// A new tree that gets these events has the replies of a journal, of which these are the first.
+fn replayed<C: TreeLedger>(
+    rt: &impl Abort,
+    alloc: Global,
+    events: &[Event],
+    journal: &Journal<C>,
+) -> Result<TreeState, Fail> {
+    let mut tree = TreeState::new(alloc, &RootOptions::default())?;
+    for (event, (_, reply)) in events.iter().zip(journal.entries().iter()) {
+        if event.is_frame() {
+            return Err(Fail::new("a frame"));
+        }
+        let got = tree.apply(alloc, event)?;
+        assert!(rt; got == *reply, "another reply");
+    }
+    Ok(tree)
+}
+
 /// The journal of two workers ends with a snapshot. All other entries have lines, and the events
 /// that are read from them have the replies of the entries on a new tree, which then has the rows
 /// of the snapshot.
@@ -113,30 +117,16 @@ pub(crate) fn assert_lines<
     R: Threads + Wait + Abort + Copy + Send + Sync + 'static,
 >(rt: R, alloc: Global, root: RecordedRoot<C, S>) -> Result<(), Fail> {
     let mut last = root.share(&rt)?;
-    let mut running: Vec<JoinHandle<Result<RecordedItem<C, S>, Refusal>>> = Vec::new(alloc);
-    for _ in 0..2u32 {
-        let item = root.share(&rt)?;
-        running.push(thread::spawn(&rt, move || worked(&rt, alloc, item))?)?;
-    }
     let mut shares = Vec::new(alloc);
-    for worker in running {
-        shares.push(worker.join(&rt)?.give_back())?;
-    }
+    join_all(&rt, workers(rt, alloc, &root)?, &mut shares)?;
     let seen = last.call(&rt, alloc, Event::Snapshot)?;
     shares.push(last.give_back())?;
-    let journal = root.close(&rt, shares).ok().ok_or("all shares are there")?;
+    let journal = closed(&rt, root, shares, 171)?;
     let (text, without) = written(alloc, &journal)?;
     assert_same(&rt, without, 1, "entries without a line");
     let events = read(alloc, text.as_str())?;
     assert_same(&rt, events.len(), 170, "events");
-    let mut tree = TreeState::new(alloc, &RootOptions::default())?;
-    for (event, (_, reply)) in events.iter().zip(journal.entries().iter()) {
-        if event.is_frame() {
-            return Err(Fail::new("a frame"));
-        }
-        let got = tree.apply(alloc, event)?;
-        assert!(rt; got == *reply, "another reply");
-    }
+    let tree = replayed(&rt, alloc, &events, &journal)?;
     assert_same(&rt, Reply::Rows(tree.rows(alloc)?), seen, "rows");
     Ok(())
 }

@@ -1,5 +1,5 @@
 //! Tests of the tree, its sessions and the dashboard, which call them through `prodash` as a user
-//! does. Nothing uses this crate.
+//! does, and of lines of events. Nothing uses this crate.
 #![tactic(auto)]
 
 #[cfg(test)]
@@ -26,6 +26,8 @@ mod journal_lines;
 #[cfg(test)]
 mod level_prefix;
 #[cfg(test)]
+mod lines;
+#[cfg(test)]
 mod locked;
 #[cfg(test)]
 mod logs;
@@ -46,5 +48,7 @@ mod tables;
 pub mod tasks;
 #[cfg(test)]
 mod traits;
+#[cfg(test)]
+mod transcripts;
 #[cfg(test)]
 mod wrappers;

@@ -1,8 +1,9 @@
 //! Recorded trees: workers of many threads, and journals that a sequential tree replays.
 ghost use Rattle.std.specs.Prelude.{◌≡◌};
 
-use crate::fixtures::{ShortEvent, assert_same, event};
+use crate::fixtures::assert_same;
 use crate::journal_lines::assert_lines;
+use crate::transcripts::{Task, event_with};
 use prodash::progress::UNKNOWN;
 use prodash::tree::recorded::{Journal, Ledgers, RecordedItem, RecordedRoot, Share, TreeLedger};
 use prodash::tree::root::Options;
@@ -116,6 +117,15 @@ fn steps<C: TreeLedger, S: Ledger>(
     Ok(item)
 }
 
+const CALLS: &str = "init task 10 -
+set task 4
+info task - four
+blocked task
+snapshot
+messages
+add task part
+inc task 2";
+
 /// Makes a call of each kind that changes a task of its own, and of some that read.
 fn mixed<C: TreeLedger, S: Ledger>(
     rt: &impl Wait,
@@ -123,44 +133,34 @@ fn mixed<C: TreeLedger, S: Ledger>(
     mut item: RecordedItem<C, S>,
 ) -> Result<RecordedItem<C, S>, Refusal> {
     for round in 0..20u32 {
-        let task = add(rt, alloc, &mut item)?;
-        for short in &[
-            ShortEvent::Init(task, 10),
-            ShortEvent::Set(task, 4),
-            ShortEvent::Say(task, "four"),
-            ShortEvent::Blocked(task),
-            ShortEvent::Snapshot,
-            ShortEvent::CopyMessages,
-            ShortEvent::Add(task, "part"),
-        ] {
-            call(rt, alloc, &mut item, *short)?;
-        }
-        item.call(
-            rt,
-            alloc,
-            Event::IncBy {
-                item: task,
-                step: 2,
-            },
-        )?;
+        let task = Task {
+            item: add(rt, alloc, &mut item)?,
+            now: 0,
+        };
+        call_lines(rt, alloc, &mut item, task, CALLS)?;
         if round % 2 == 0 {
-            call(rt, alloc, &mut item, ShortEvent::Drop(task))?;
+            call_lines(rt, alloc, &mut item, task, "drop task")?;
         }
     }
     Ok(item)
 }
 
-fn call<C: TreeLedger, S: Ledger>(
+/// Makes the calls of these lines, in which the item's task is named `task`.
+pub(crate) fn call_lines<C: TreeLedger, S: Ledger>(
     rt: &impl Wait,
     alloc: Global,
     item: &mut RecordedItem<C, S>,
-    short: ShortEvent,
-) -> Result<Reply, Refusal> {
-    let event = event(alloc, short)?;
-    if event.is_frame() {
-        return Err(Refusal::Closed);
+    task: Task,
+    lines: &str,
+) -> Result<(), Refusal> {
+    for line in lines.lines() {
+        let event = event_with(alloc, &task, line)?.ok_or(Refusal::Gone)?;
+        if event.is_frame() {
+            return Err(Refusal::Closed);
+        }
+        item.call(rt, alloc, event)?;
     }
-    item.call(rt, alloc, event)
+    Ok(())
 }
 
 /// A new tree that gets the events of a journal has its replies.
@@ -180,6 +180,76 @@ fn replayed<C: TreeLedger>(
     Ok(tree)
 }
 
+/// What workers hand back.
+pub(crate) type Running<C, S> = Vec<JoinHandle<Result<RecordedItem<C, S>, Refusal>>>;
+
+/// Waits for workers, and takes the shares of their items.
+pub(crate) fn join_all<C: TreeLedger, S: Ledger>(
+    rt: &(impl Threads + Wait),
+    running: Running<C, S>,
+    shares: &mut Vec<Share<C, S>>,
+) -> Result<(), Fail> {
+    for worker in running {
+        shares.push(worker.join(rt)?.give_back())?;
+    }
+    Ok(())
+}
+
+/// Closes a tree of which all shares are there. Its journal has this number of entries.
+pub(crate) fn closed<C: TreeLedger, S: Ledger, R: Wait + Abort>(
+    rt: &R,
+    root: RecordedRoot<C, S>,
+    shares: Vec<Share<C, S>>,
+    entries: usize,
+) -> Result<Journal<C>, Fail> {
+    let journal = root.close(rt, shares).ok().ok_or("all shares are there")?;
+    assert_same(rt, journal.entries().len(), entries, "entries");
+    Ok(journal)
+}
+
+/// An item adds the first task.
+fn add_first<C: TreeLedger, S: Ledger, R: Wait + Abort>(
+    rt: &R,
+    alloc: Global,
+    mut first: RecordedItem<C, S>,
+) -> Result<Share<C, S>, Fail> {
+    assert_same(rt, add(rt, alloc, &mut first)?, 1, "handle");
+    Ok(first.give_back())
+}
+
+/// Begins workers that add to the step of the first task.
+fn steppers<
+    C: TreeLedger + Send + Sync + 'static,
+    S: Ledger + Send + Sync + 'static,
+    R: Threads + Wait + Abort + Copy + Send + Sync + 'static,
+>(
+    rt: R,
+    alloc: Global,
+    root: &RecordedRoot<C, S>,
+    workers: u32,
+    each: u32,
+) -> Result<Running<C, S>, Fail> {
+    let mut running = Vec::new(alloc);
+    for _ in 0..workers {
+        let item = root.share(&rt)?;
+        running.push(thread::spawn(&rt, move || steps(&rt, alloc, item, each))?)?;
+    }
+    Ok(running)
+}
+
+/// The replay of a journal ends with this step of the first task.
+fn assert_step<C: TreeLedger>(
+    rt: &impl Abort,
+    alloc: Global,
+    journal: &Journal<C>,
+    want: u64,
+) -> Result<(), Fail> {
+    let mut tree = replayed(rt, alloc, journal)?;
+    let step = tree.apply(alloc, &Event::Step { item: 1 })?;
+    assert_same(rt, step, Reply::Step(want), "counter");
+    Ok(())
+}
+
 /// Workers add to the step of one task: the journal has their calls, and its replay their sum.
 fn assert_steps<
     C: TreeLedger + Send + Sync + 'static,
@@ -187,24 +257,12 @@ fn assert_steps<
     R: Threads + Wait + Abort + Copy + Send + Sync + 'static,
 >(rt: R, alloc: Global, root: RecordedRoot<C, S>, workers: u32, each: u32) -> Result<(), Fail> {
     let mut shares = Vec::new(alloc);
-    let mut first = root.share(&rt)?;
-    assert_same(&rt, add(&rt, alloc, &mut first)?, 1, "handle");
-    shares.push(first.give_back())?;
-    let mut running: Vec<JoinHandle<Result<RecordedItem<C, S>, Refusal>>> = Vec::new(alloc);
-    for _ in 0..workers {
-        let item = root.share(&rt)?;
-        running.push(thread::spawn(&rt, move || steps(&rt, alloc, item, each))?)?;
-    }
-    for worker in running {
-        shares.push(worker.join(&rt)?.give_back())?;
-    }
+    shares.push(add_first(&rt, alloc, root.share(&rt)?)?)?;
+    let running = steppers(rt, alloc, &root, workers, each)?;
+    join_all(&rt, running, &mut shares)?;
     assert_same(&rt, totals(&shares), (2001, 6000), "totals");
-    let journal = root.close(&rt, shares).ok().ok_or("all shares are there")?;
-    assert_same(&rt, journal.entries().len(), 2001, "entries");
-    let mut tree = replayed(&rt, alloc, &journal)?;
-    let step = tree.apply(alloc, &Event::Step { item: 1 })?;
-    assert_same(&rt, step, Reply::Step(6000), "counter");
-    Ok(())
+    let journal = closed(&rt, root, shares, 2001)?;
+    assert_step(&rt, alloc, &journal, 6000)
 }
 
 /// The calls of the shares together, and the sum of their sums.
@@ -218,6 +276,33 @@ fn totals<C: TreeLedger, S: Ledger>(shares: &[Share<C, S>]) -> (u64, u128) {
     (calls, sum)
 }
 
+/// Begins workers that make calls of many kinds.
+fn mixers<
+    C: TreeLedger + Send + Sync + 'static,
+    S: Ledger + Send + Sync + 'static,
+    R: Threads + Wait + Abort + Copy + Send + Sync + 'static,
+>(rt: R, alloc: Global, root: &RecordedRoot<C, S>) -> Result<Running<C, S>, Fail> {
+    let mut running = Vec::new(alloc);
+    for _ in 0..8u32 {
+        let item = root.share(&rt)?;
+        running.push(thread::spawn(&rt, move || mixed(&rt, alloc, item))?)?;
+    }
+    Ok(running)
+}
+
+/// The replay of a journal has these rows, 240 of them.
+fn assert_rows<C: TreeLedger>(
+    rt: &impl Abort,
+    alloc: Global,
+    journal: &Journal<C>,
+    seen: Reply,
+) -> Result<(), Fail> {
+    let rows = replayed(rt, alloc, journal)?.rows(alloc)?;
+    assert_same(rt, rows.as_slice().len(), 240, "rows");
+    assert_same(rt, Reply::Rows(rows), seen, "rows of the replay");
+    Ok(())
+}
+
 /// The last call is a snapshot, and its rows are those of the replay.
 fn assert_mixed<
     C: TreeLedger + Send + Sync + 'static,
@@ -225,25 +310,13 @@ fn assert_mixed<
     R: Threads + Wait + Abort + Copy + Send + Sync + 'static,
 >(rt: R, alloc: Global, root: RecordedRoot<C, S>) -> Result<(), Fail> {
     let mut shares = Vec::new(alloc);
-    let mut running: Vec<JoinHandle<Result<RecordedItem<C, S>, Refusal>>> = Vec::new(alloc);
     let mut last = root.share(&rt)?;
-    for _ in 0..8u32 {
-        let item = root.share(&rt)?;
-        running.push(thread::spawn(&rt, move || mixed(&rt, alloc, item))?)?;
-    }
-    for worker in running {
-        shares.push(worker.join(&rt)?.give_back())?;
-    }
+    join_all(&rt, mixers(rt, alloc, &root)?, &mut shares)?;
     let seen = last.call(&rt, alloc, Event::Snapshot)?;
     shares.push(last.give_back())?;
     assert_same(&rt, totals(&shares), (1521, 320), "totals");
-    let journal = root.close(&rt, shares).ok().ok_or("all shares are there")?;
-    assert_same(&rt, journal.entries().len(), 1521, "entries");
-    let tree = replayed(&rt, alloc, &journal)?;
-    let rows = tree.rows(alloc)?;
-    assert_same(&rt, rows.as_slice().len(), 240, "rows");
-    assert_same(&rt, Reply::Rows(rows), seen, "rows of the replay");
-    Ok(())
+    let journal = closed(&rt, root, shares, 1521)?;
+    assert_rows(&rt, alloc, &journal, seen)
 }
 
 /// Of three shares two come, and then all.
@@ -252,24 +325,38 @@ fn assert_missing<C: TreeLedger, S: Ledger, R: Wait + Abort>(
     alloc: Global,
     root: RecordedRoot<C, S>,
 ) -> Result<(), Fail> {
-    let mut first = root.share(rt)?;
-    let other = root.share(rt)?;
-    let third = root.share(rt)?;
-    assert_same(rt, add(rt, alloc, &mut first)?, 1, "handle");
     let mut shares = Vec::new(alloc);
-    shares.push(first.give_back())?;
-    shares.push(other.give_back())?;
+    shares.push(add_first(rt, alloc, root.share(rt)?)?)?;
+    shares.push(root.share(rt)?.give_back())?;
+    let third = root.share(rt)?.give_back();
     let unclosed = root.close(rt, shares).err().ok_or("a share is missing")?;
     let mut shares = unclosed.shares;
     assert_same(rt, shares.len(), 2, "shares");
-    shares.push(third.give_back())?;
-    let journal = unclosed
-        .root
-        .close(rt, shares)
-        .ok()
-        .ok_or("all shares are there")?;
-    assert_same(rt, journal.entries().len(), 1, "entries");
+    shares.push(third)?;
+    closed(rt, unclosed.root, shares, 1)?;
     Ok(())
+}
+
+/// A call at a handle that was dropped is refused, and doesn't count.
+fn assert_not_counted<C: TreeLedger, S: Ledger, R: Wait + Abort>(
+    rt: &R,
+    alloc: Global,
+    mut item: RecordedItem<C, S>,
+    task: Handle,
+) -> Result<Share<C, S>, Fail> {
+    let event = Event::IncBy {
+        item: task,
+        step: 3,
+    };
+    assert_same(
+        rt,
+        item.call(rt, alloc, event),
+        Err(Refusal::Gone),
+        "a dropped item",
+    );
+    let share = item.give_back();
+    assert_same(rt, (share.calls(), share.sum()), (0, 0), "totals");
+    Ok(share)
 }
 
 /// An item only calls at a handle that another made and dropped.
@@ -279,24 +366,12 @@ fn assert_dropped<C: TreeLedger, S: Ledger, R: Wait + Abort>(
     root: RecordedRoot<C, S>,
 ) -> Result<(), Fail> {
     let mut first = root.share(rt)?;
-    let mut other = root.share(rt)?;
+    let other = root.share(rt)?;
     let task = add(rt, alloc, &mut first)?;
-    call(rt, alloc, &mut first, ShortEvent::Drop(task))?;
-    let got = other.call(
-        rt,
-        alloc,
-        Event::IncBy {
-            item: task,
-            step: 3,
-        },
-    );
-    assert_same(rt, got, Err(Refusal::Gone), "a dropped item");
-    let other = other.give_back();
-    assert_same(rt, (other.calls(), other.sum()), (0, 0), "totals");
+    first.call(rt, alloc, Event::Drop { item: task })?;
     let mut shares = Vec::new(alloc);
     shares.push(first.give_back())?;
-    shares.push(other)?;
-    let journal = root.close(rt, shares).ok().ok_or("all shares are there")?;
-    assert_same(rt, journal.entries().len(), 2, "entries");
+    shares.push(assert_not_counted(rt, alloc, other, task)?)?;
+    closed(rt, root, shares, 2)?;
     Ok(())
 }

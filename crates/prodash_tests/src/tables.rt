@@ -1,17 +1,12 @@
 ghost use Rattle.std.specs.Prelude.{◌≡◌};
 
-use crate::fixtures::ShortEvent::{Add, Init, Say, Set};
-use crate::fixtures::ShortReply::{Done, Made};
-use crate::fixtures::{
-    ShortEvent, ShortReply, ShortRow, assert_same, event, key_at, messages, reply, rows,
-};
-use prodash::Refusal;
+use crate::fixtures::{ShortRow, assert_same, key_at, messages, rows};
+use crate::transcripts::event_of;
 use prodash::messages::{MessageCopyState, Messages};
 use prodash::progress::{Rows, State, Step, UNKNOWN};
 use prodash::tree::{Counted, Counters, RootOptions, TreeCore, TreeState};
 use prodash::unit::{Bytes, Kind, dynamic};
 use std::alloc::Global;
-use std::process::Abort;
 use std::test::Fail;
 
 /// Counters that are their own numbers.
@@ -52,38 +47,24 @@ fn a_table_has_one_entry_for_a_key(rt: HostRuntime) -> Result<(), Fail> {
     Ok(())
 }
 
-#[rattlefmt::skip]
-const EVENTS: &[(ShortEvent, ShortReply)] = &[
-    (Add(0, "a"), Made(1)),
-    (Add(1, "b"), Made(2)),
-    (Init(2, 10), Done),
-    (Set(2, 3), Done),
-    (Say(1, "x"), Done),
-    (Say(2, "y"), Done),
-];
+const EVENTS: &str = "add 0 a
+add 1 b
+init 2 10 -
+set 2 3
+info 1 0 x
+info 2 0 y";
 
 const ROWS: &[ShortRow] = &[(&[0], "a", None), (&[0, 0], "b", Some((3, Some(10))))];
 
-/// An event of no frame has this reply.
-fn assert_applies(
-    rt: &impl Abort,
-    alloc: Global,
-    tree: &mut TreeState,
-    short: ShortEvent,
-    want: ShortReply,
-) -> Result<(), Refusal> {
-    let event = event(alloc, short)?;
-    assert!(rt; !event.is_frame());
-    let got = tree.apply(alloc, &event)?;
-    assert_same(rt, got, reply(alloc, want)?, "reply");
-    Ok(())
-}
-
 /// A tree after all events.
-fn grown(rt: &impl Abort, alloc: Global) -> Result<TreeState, Refusal> {
+fn grown(alloc: Global) -> Result<TreeState, Fail> {
     let mut tree = TreeState::new(alloc, &RootOptions::default())?;
-    for (short, want) in EVENTS {
-        assert_applies(rt, alloc, &mut tree, *short, *want)?;
+    for line in EVENTS.lines() {
+        let event = event_of(alloc, line)?;
+        if event.is_frame() {
+            return Err(Fail::new("a frame"));
+        }
+        tree.apply(alloc, &event)?;
     }
     Ok(tree)
 }
@@ -100,7 +81,7 @@ fn snapshot(alloc: Global, tree: &TreeState) -> Result<(Rows, Messages, MessageC
 #[test]
 fn a_tree_needs_no_renderer(rt: HostRuntime) -> Result<(), Fail> {
     let alloc = rt.alloc();
-    let tree = grown(&rt, alloc)?;
+    let tree = grown(alloc)?;
     assert_same(&rt, tree.rows(alloc)?, rows(alloc, ROWS)?, "rows");
     let new = messages(alloc, &[("b", "y")])?;
     let want = (rows(alloc, ROWS)?, new, MessageCopyState::new(2));

@@ -20,152 +20,50 @@ pub fn adjacency_of_first(alloc: Global, tree: &TreeState) -> Result<Option<Adja
 mod tests {
     use super::adjacency_of_first;
     use crate::fixtures::{assert_same, key_at};
+    use crate::transcripts::{Task, assert_reply, event_of, event_with};
     use prodash::progress::key::Adjacency;
     use prodash::progress::key::SiblingLocation::NotFound as No;
-    use prodash::progress::{Id, Key, Row, Rows, State, UNKNOWN, Value};
-    use prodash::tree::{Counted, Event, Reply, RootOptions, TreeCore, TreeState};
+    use prodash::progress::{Id, Key, State, UNKNOWN};
+    use prodash::tree::{Counted, Event, RootOptions, TreeCore, TreeState};
     use prodash::{Refusal, Text};
-    use std::alloc::{AllocError, Global};
+    use std::alloc::Global;
     use std::process::Abort;
     use std::test::Fail;
 
     const ID: Id = [1, 2, 3, 4];
 
-    /// An event on the item with this handle, in short.
-    #[derive(Clone, Copy, Debug, Drop)]
-    enum Ask {
-        Add(u64, &'static str),
-        Drop(u64),
-        Init(u64, u64),
-        SetName(u64, &'static str),
-        SetMax(u64, Option<u64>),
-        Set(u64, u64),
-        IncBy(u64, u64),
-        Blocked(u64),
-        Halted(u64),
-        Running(u64),
-        Name(u64),
-        Id(u64),
-        Step(u64),
-        Max(u64),
-        Unit(u64),
-        NumTasks,
-        Snapshot,
-        DropRoot,
-    }
-
-    /// A reply, in short. A `Row` is the only one, at the first key below the root.
-    #[derive(Clone, Copy)]
-    enum Told {
-        Made(u64),
-        Done,
-        Bound(Option<u64>),
-        Name(Option<&'static str>),
-        Id(Id),
-        Step(u64),
-        Count(usize),
-        Row(&'static str, Option<(u64, Option<u64>, State)>),
-        Gone,
-    }
-
-    /// An event, and the reply to it.
-    type Step = (Ask, Told);
-
-    fn event(alloc: Global, ask: Ask) -> Result<Event, AllocError> {
-        Ok(match ask {
-            Ask::Add(parent, name) => Event::AddChild {
-                parent,
+    /// Parses an event. `child` adds an item with an identifier, and `lock` and `pause` mark one as
+    /// blocked until 7 and as halted.
+    fn event(alloc: Global, line: &str) -> Result<Event, Fail> {
+        Ok(match line.split_once(' ') {
+            Some(("child", name)) => Event::AddChild {
+                parent: 0,
                 name: Text::from_str(alloc, name)?,
                 id: ID,
             },
-            Ask::SetName(item, name) => Event::SetName {
-                item,
-                name: Text::from_str(alloc, name)?,
+            Some(("lock", _)) => Event::Blocked {
+                item: 1,
+                reason: "lock",
+                eta: Some(7),
             },
-            _ => plain_event(ask),
+            Some(("pause", _)) => Event::Halted {
+                item: 1,
+                reason: "pause",
+                eta: None,
+            },
+            _ => event_of(alloc, line)?,
         })
-    }
-
-    /// An event without a text.
-    #[rattlefmt::skip]
-    fn plain_event(ask: Ask) -> Event {
-        match ask {
-            Ask::Drop(item) => Event::Drop { item },
-            Ask::Init(item, max) => Event::Init { item, max: Some(max), unit: None },
-            Ask::SetMax(item, max) => Event::SetMax { item, max },
-            Ask::Set(item, step) => Event::Set { item, step },
-            Ask::IncBy(item, step) => Event::IncBy { item, step },
-            Ask::Blocked(item) => Event::Blocked { item, reason: "lock", eta: Some(7) },
-            Ask::Halted(item) => Event::Halted { item, reason: "pause", eta: None },
-            Ask::Running(item) => Event::Running { item },
-            Ask::Name(item) => Event::Name { item },
-            Ask::Id(item) => Event::Id { item },
-            Ask::Step(item) => Event::Step { item },
-            Ask::Max(item) => Event::Max { item },
-            Ask::Unit(item) => Event::Unit { item },
-            Ask::NumTasks => Event::NumTasks,
-            Ask::Snapshot => Event::Snapshot,
-            _ => Event::DropRoot,
-        }
-    }
-
-    /// The rows of one task.
-    fn one_row(
-        alloc: Global,
-        name: &str,
-        progress: Option<(u64, Option<u64>, State)>,
-    ) -> Result<Rows, AllocError> {
-        let row = Row {
-            key: key_at(&[0]),
-            name: Text::from_str(alloc, name)?,
-            id: ID,
-            progress: progress.map(|(step, done_at, state)| Value {
-                step,
-                done_at,
-                unit: None,
-                state,
-            }),
-        };
-        Ok(Rows::new(vec![in alloc; row]?))
-    }
-
-    fn reply(alloc: Global, told: Told) -> Result<Reply, AllocError> {
-        Ok(match told {
-            Told::Made(handle) => Reply::Made(handle),
-            Told::Done => Reply::Done,
-            Told::Bound(bound) => Reply::Bound(bound),
-            Told::Name(None) => Reply::Name(None),
-            Told::Name(Some(name)) => Reply::Name(Some(Text::from_str(alloc, name)?)),
-            Told::Id(id) => Reply::Id(id),
-            Told::Step(step) => Reply::Step(step),
-            Told::Count(count) => Reply::Count(count),
-            Told::Row(name, progress) => Reply::Rows(one_row(alloc, name, progress)?),
-            Told::Gone => Reply::Refused(Refusal::Gone),
-        })
-    }
-
-    fn assert_reply(
-        rt: &impl Abort,
-        alloc: Global,
-        tree: &mut TreeState,
-        ask: Ask,
-        told: Told,
-    ) -> Result<(), AllocError> {
-        let event = event(alloc, ask)?;
-        assert!(rt; !event.is_frame());
-        let got = tree.apply(alloc, &event).unwrap_or_else(Reply::Refused);
-        assert_same(rt, got, reply(alloc, told)?, ask);
-        Ok(())
     }
 
     fn assert_replies(
         rt: &impl Abort,
         alloc: Global,
         tree: &mut TreeState,
-        steps: &[Step],
-    ) -> Result<(), AllocError> {
-        for (ask, told) in steps {
-            assert_reply(rt, alloc, tree, *ask, *told)?;
+        transcript: &str,
+    ) -> Result<(), Fail> {
+        for line in transcript.lines() {
+            let (asked, told) = line.split_once(" -> ").ok_or("no reply")?;
+            assert_reply(rt, alloc, tree, &event(alloc, asked)?, told)?;
         }
         Ok(())
     }
@@ -175,117 +73,103 @@ mod tests {
     }
 
     /// A tree after these events.
-    fn grown(rt: &impl Abort, alloc: Global, steps: &[Step]) -> Result<TreeState, Refusal> {
+    fn grown(rt: &impl Abort, alloc: Global, transcript: &str) -> Result<TreeState, Fail> {
         let mut tree = new_tree(alloc)?;
-        assert_replies(rt, alloc, &mut tree, steps)?;
+        assert_replies(rt, alloc, &mut tree, transcript)?;
         Ok(tree)
     }
 
-    #[rattlefmt::skip]
-    const CHANGES: &[Step] = &[
-        (Ask::NumTasks, Told::Count(0)),
-        (Ask::Add(0, "a"), Told::Made(1)),
-        // without progress
-        (Ask::Set(1, u64::MAX), Told::Done),
-        (Ask::IncBy(1, 2), Told::Done),
-        (Ask::Step(1), Told::Step(1)),
-        (Ask::SetMax(1, Some(7)), Told::Bound(None)),
-        (Ask::Max(1), Told::Bound(None)),
-        (Ask::Halted(1), Told::Done),
-        (Ask::Snapshot, Told::Row("a", None)),
-        // with progress
-        (Ask::Init(1, 10), Told::Done),
-        (Ask::IncBy(1, 3), Told::Done),
-        (Ask::Step(1), Told::Step(3)),
-        (Ask::Max(1), Told::Bound(Some(10))),
-        (Ask::SetMax(1, Some(7)), Told::Bound(Some(10))),
-        (Ask::SetMax(1, None), Told::Bound(Some(7))),
-        (Ask::SetMax(1, Some(8)), Told::Bound(None)),
-        (Ask::Blocked(1), Told::Done),
-        (Ask::Snapshot, Told::Row("a", Some((3, Some(8), State::Blocked("lock", Some(7)))))),
-        (Ask::Halted(1), Told::Done),
-        (Ask::Snapshot, Told::Row("a", Some((3, Some(8), State::Halted("pause", None))))),
-        (Ask::Running(1), Told::Done),
-        (Ask::SetName(1, "b"), Told::Done),
-        (Ask::Snapshot, Told::Row("b", Some((3, Some(8), State::Running)))),
-        (Ask::Name(1), Told::Name(Some("b"))),
-        (Ask::Id(1), Told::Id(ID)),
-        (Ask::NumTasks, Told::Count(1)),
-        // without the root
-        (Ask::DropRoot, Told::Done),
-        (Ask::NumTasks, Told::Gone),
-        (Ask::Name(1), Told::Name(Some("b"))),
-        (Ask::IncBy(1, 1), Told::Done),
-        (Ask::Step(1), Told::Step(4)),
-    ];
+    const WITHOUT_PROGRESS: &str = r#"tasks? -> Count(0)
+child a -> Made(1)
+set 1 18446744073709551615 -> Done
+inc 1 2 -> Done
+step? 1 -> Step(1)
+max 1 7 -> Bound(None)
+max? 1 -> Bound(None)
+pause 1 -> Done
+snapshot -> Rows(Rows { rows: [Row { key: Key { numbers: [0, 0, 0, 0, 0, 0], level: 1 }, name: Text { text: "a" }, id: [1, 2, 3, 4], progress: None }] })"#;
+
+    /// After that.
+    const WITH_PROGRESS: &str = r#"init 1 10 - -> Done
+inc 1 3 -> Done
+step? 1 -> Step(3)
+max? 1 -> Bound(Some(10))
+max 1 7 -> Bound(Some(10))
+max 1 - -> Bound(Some(7))
+max 1 8 -> Bound(None)
+lock 1 -> Done
+snapshot -> Rows(Rows { rows: [Row { key: Key { numbers: [0, 0, 0, 0, 0, 0], level: 1 }, name: Text { text: "a" }, id: [1, 2, 3, 4], progress: Some(Value { step: 3, done_at: Some(8), unit: None, state: Blocked("lock", Some(7)) }) }] })
+pause 1 -> Done
+snapshot -> Rows(Rows { rows: [Row { key: Key { numbers: [0, 0, 0, 0, 0, 0], level: 1 }, name: Text { text: "a" }, id: [1, 2, 3, 4], progress: Some(Value { step: 3, done_at: Some(8), unit: None, state: Halted("pause", None) }) }] })
+running 1 -> Done
+name 1 b -> Done
+snapshot -> Rows(Rows { rows: [Row { key: Key { numbers: [0, 0, 0, 0, 0, 0], level: 1 }, name: Text { text: "b" }, id: [1, 2, 3, 4], progress: Some(Value { step: 3, done_at: Some(8), unit: None, state: Running }) }] })
+name? 1 -> Name(Some(Text { text: "b" }))
+id? 1 -> Id([1, 2, 3, 4])
+tasks? -> Count(1)"#;
+
+    /// After that.
+    const WITHOUT_ROOT: &str = r#"droproot -> Done
+tasks? -> Refused(Gone)
+name? 1 -> Name(Some(Text { text: "b" }))
+inc 1 1 -> Done
+step? 1 -> Step(4)"#;
 
     #[test]
     fn events_change_a_task(rt: HostRuntime) -> Result<(), Fail> {
-        grown(&rt, rt.alloc(), CHANGES)?;
-        Ok(())
-    }
-
-    const DROPPED: &[Step] = &[
-        (Ask::Add(0, "a"), Told::Made(1)),
-        (Ask::Drop(1), Told::Done),
-    ];
-
-    /// All events that need an item.
-    fn events_of(item: u64) -> [Ask; 14] {
-        [
-            Ask::Drop(item),
-            Ask::Init(item, 1),
-            Ask::SetName(item, "b"),
-            Ask::SetMax(item, Some(1)),
-            Ask::Set(item, 1),
-            Ask::IncBy(item, 1),
-            Ask::Blocked(item),
-            Ask::Halted(item),
-            Ask::Running(item),
-            Ask::Name(item),
-            Ask::Id(item),
-            Ask::Step(item),
-            Ask::Max(item),
-            Ask::Unit(item),
-        ]
-    }
-
-    fn assert_gone(
-        rt: &impl Abort,
-        alloc: Global,
-        tree: &mut TreeState,
-        item: u64,
-    ) -> Result<(), AllocError> {
-        for ask in &events_of(item) {
-            assert_reply(rt, alloc, tree, *ask, Told::Gone)?;
+        let mut tree = new_tree(rt.alloc())?;
+        for transcript in [WITHOUT_PROGRESS, WITH_PROGRESS, WITHOUT_ROOT] {
+            assert_replies(&rt, rt.alloc(), &mut tree, transcript)?;
         }
         Ok(())
     }
+
+    const DROPPED: &str = "child a -> Made(1)
+drop 1 -> Done";
+
+    /// All events that need an item.
+    const EVENTS: &str = "drop task
+init task 1 -
+name task b
+max task 1
+set task 1
+inc task 1
+blocked task
+halted task
+running task
+info task 0 x
+name? task
+id? task
+step? task
+max? task
+unit? task";
 
     /// The root, an item that was dropped, and one that wasn't made.
     #[test]
     fn events_need_an_item(rt: HostRuntime) -> Result<(), Fail> {
         let alloc = rt.alloc();
         let mut tree = grown(&rt, alloc, DROPPED)?;
-        assert_gone(&rt, alloc, &mut tree, 0)?;
-        assert_gone(&rt, alloc, &mut tree, 1)?;
-        assert_gone(&rt, alloc, &mut tree, 2)?;
+        for item in 0..3 {
+            for line in EVENTS.lines() {
+                let event = event_with(alloc, &Task { item, now: 0 }, line)?;
+                let event = event.ok_or("not an event")?;
+                assert_reply(&rt, alloc, &mut tree, &event, "Refused(Gone)")?;
+            }
+        }
         Ok(())
     }
 
-    const SIXTH_LEVEL: &[Step] = &[
-        (Ask::Add(0, "a"), Told::Made(1)),
-        (Ask::Add(1, "b"), Told::Made(2)),
-        (Ask::Add(2, "c"), Told::Made(3)),
-        (Ask::Add(3, "d"), Told::Made(4)),
-        (Ask::Add(4, "e"), Told::Made(5)),
-        (Ask::Add(5, "parent"), Told::Made(6)),
-        (Ask::NumTasks, Told::Count(6)),
-        (Ask::Add(6, "child"), Told::Made(7)),
-        (Ask::NumTasks, Told::Count(6)),
-        (Ask::Name(6), Told::Name(Some("child"))),
-        (Ask::Name(7), Told::Name(Some("child"))),
-    ];
+    const SIXTH_LEVEL: &str = r#"add 0 a -> Made(1)
+add 1 b -> Made(2)
+add 2 c -> Made(3)
+add 3 d -> Made(4)
+add 4 e -> Made(5)
+add 5 parent -> Made(6)
+tasks? -> Count(6)
+add 6 child -> Made(7)
+tasks? -> Count(6)
+name? 6 -> Name(Some(Text { text: "child" }))
+name? 7 -> Name(Some(Text { text: "child" }))"#;
 
     #[test]
     fn a_child_of_the_sixth_level_takes_the_place_of_its_parent(
@@ -298,12 +182,10 @@ mod tests {
         Ok(())
     }
 
-    const ORPHAN: &[Step] = &[
-        (Ask::Add(0, "a"), Told::Made(1)),
-        (Ask::Add(1, "b"), Told::Made(2)),
-        (Ask::Drop(1), Told::Done),
-        (Ask::NumTasks, Told::Count(1)),
-    ];
+    const ORPHAN: &str = "add 0 a -> Made(1)
+add 1 b -> Made(2)
+drop 1 -> Done
+tasks? -> Count(1)";
 
     #[test]
     fn the_row_below_a_dropped_task_has_no_neighbours(rt: HostRuntime) -> Result<(), Fail> {
@@ -318,34 +200,32 @@ mod tests {
     }
 
     /// What comes after 65536 children of the root.
-    #[rattlefmt::skip]
-    const AFTER_ALL: &[Step] = &[
-        (Ask::Add(0, "Z"), Told::Made(65537)),
-        (Ask::Name(1), Told::Name(Some("Z"))),
-        (Ask::NumTasks, Told::Count(65536)),
-        (Ask::Drop(1), Told::Done),
-        (Ask::Name(65537), Told::Name(None)),
-        (Ask::Id(65537), Told::Id(UNKNOWN)),
-        (Ask::Set(65537, 5), Told::Done),
-        (Ask::Init(65537, 10), Told::Done),
-        (Ask::SetMax(65537, Some(10)), Told::Bound(None)),
-        (Ask::SetName(65537, "Z"), Told::Done),
-        (Ask::Running(65537), Told::Done),
-        (Ask::Name(65537), Told::Name(None)),
-        (Ask::Max(65537), Told::Bound(None)),
-        (Ask::Step(65537), Told::Step(5)),
-        (Ask::NumTasks, Told::Count(65535)),
-    ];
+    const AFTER_ALL: &str = r#"add 0 Z -> Made(65537)
+name? 1 -> Name(Some(Text { text: "Z" }))
+tasks? -> Count(65536)
+drop 1 -> Done
+name? 65537 -> Name(None)
+id? 65537 -> Id([0, 0, 0, 0])
+set 65537 5 -> Done
+init 65537 10 - -> Done
+max 65537 10 -> Bound(None)
+name 65537 Z -> Done
+running 65537 -> Done
+name? 65537 -> Name(None)
+max? 65537 -> Bound(None)
+step? 65537 -> Step(5)
+tasks? -> Count(65535)"#;
 
     #[test]
     fn the_child_after_65536_takes_the_place_of_the_first(rt: HostRuntime) -> Result<(), Fail> {
         let alloc = rt.alloc();
         let mut tree = new_tree(alloc)?;
+        let child = event(alloc, "child a")?;
         for handle in 1..65537 {
-            assert_reply(&rt, alloc, &mut tree, Ask::Add(0, "a"), Told::Made(handle))?;
+            let told = format!(in alloc; "Made({handle})")?;
+            assert_reply(&rt, alloc, &mut tree, &child, told.as_str())?;
         }
-        assert_replies(&rt, alloc, &mut tree, AFTER_ALL)?;
-        Ok(())
+        assert_replies(&rt, alloc, &mut tree, AFTER_ALL)
     }
 
     const HALTED: State = State::Halted("pause", None);

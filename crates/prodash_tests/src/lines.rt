@@ -1,0 +1,179 @@
+//! Lines of events: a table has a line, `->`, and what it is read as.
+use crate::fixtures::assert_same;
+use prodash_lines::{Lines, Names, Next, Request, parse, request_of, to_line};
+use std::alloc::{AllocError, Global};
+use std::fmt::Write;
+use std::process::Abort;
+use std::str;
+use std::test::Fail;
+
+const EVENTS: &str = r#"drop 2 -> Some(Drop { item: 2 })
+add 3 a b -> Some(AddChild { parent: 3, name: Text { text: "a b" }, id: [0, 0, 0, 0] })
+init 1 - - -> Some(Init { item: 1, max: None, unit: None })
+init 1 10 - -> Some(Init { item: 1, max: Some(10), unit: None })
+init 1 100 item -> None
+name 1 a b -> Some(SetName { item: 1, name: Text { text: "a b" } })
+name 1  -> Some(SetName { item: 1, name: Text { text: "" } })
+max 1 - -> Some(SetMax { item: 1, max: None })
+max 1 10 -> Some(SetMax { item: 1, max: Some(10) })
+set 1 3 -> Some(Set { item: 1, step: 3 })
+inc 1 3 -> Some(IncBy { item: 1, step: 3 })
+blocked 1 -> Some(Blocked { item: 1, reason: "replay", eta: None })
+halted 1 -> Some(Halted { item: 1, reason: "replay", eta: None })
+running 1 -> Some(Running { item: 1 })
+info 1 7 x y -> Some(Message { item: 1, at: 7, level: Info, text: Text { text: "x y" } })
+done 1 7  -> Some(Message { item: 1, at: 7, level: Success, text: Text { text: "" } })
+fail 1 7 x -> Some(Message { item: 1, at: 7, level: Failure, text: Text { text: "x" } })
+droproot -> Some(DropRoot)
+tick 5 -> Some(Tick { at: 5, show: true })
+hold 5 -> Some(Tick { at: 5, show: false })
+resize 5 30 4 -> Some(Resize { at: 5, show: true, columns: 30, rows: 4 })
+resize 5 65535 0 -> Some(Resize { at: 5, show: true, columns: 65535, rows: 0 })
+resize 5 65536 4 -> None
+resize 5 30 65536 -> None
+resize 5 30 -> None
+resize 30 -> None
+resize 5 30 4 2 -> None
+quit 5 -> Some(Quit { at: 5 })
+"#;
+
+fn assert_event(rt: &impl Abort, alloc: Global, line: &str, want: &str) -> Result<(), AllocError> {
+    let event = parse(alloc, line)?;
+    let got = format!(in alloc; "{event:?}")?;
+    assert_same(rt, got.as_str(), want, line);
+    Ok(())
+}
+
+#[test]
+fn reads_events(rt: HostRuntime) -> Result<(), Fail> {
+    for row in EVENTS.lines() {
+        let (line, want) = row.split_once(" -> ").ok_or("no event")?;
+        assert_event(&rt, rt.alloc(), line, want)?;
+    }
+    Ok(())
+}
+
+/// Lines of which each says an event, in the only form that `to_line` writes.
+const LINES: &[&str] = &[
+    "add 0 a b",
+    "add 3 ",
+    "drop 2",
+    "init 1 - -",
+    "init 1 10 items",
+    "init 1 10 items%",
+    "init 1 10 %items",
+    "init 1 - items/s",
+    "init 1 - steps",
+    "init 1 - bytes",
+    "init 1 - duration",
+    "init 1 18446744073709551615 objects",
+    "name 1 a",
+    "max 1 -",
+    "max 1 7",
+    "set 1 3",
+    "inc 1 3",
+    "blocked 1",
+    "halted 1",
+    "running 1",
+    "info 1 7 x y",
+    "done 1 7 ",
+    "fail 1 7 x",
+    "droproot",
+    "tick 5",
+    "hold 5",
+    "resize 5 30 4",
+    "quit 5",
+];
+
+#[test]
+fn writes_the_lines_that_it_reads(rt: HostRuntime) -> Result<(), Fail> {
+    for line in LINES {
+        let event = parse(rt.alloc(), line)?.ok_or("no event")?;
+        let written = to_line(rt.alloc(), &event)?.ok_or("no line")?;
+        assert_same(&rt, written.as_str(), *line, "written");
+    }
+    Ok(())
+}
+
+/// What a line of a script asks for if `a` names the handle 7 and it is 5.
+fn asked(alloc: Global, line: &[u8]) -> Result<Request, AllocError> {
+    let mut names = Names::new(alloc);
+    names.insert(String::from_str(alloc, "a")?, 7)?;
+    request_of(alloc, &names, 5, line)
+}
+
+fn assert_request(
+    rt: &impl Abort,
+    alloc: Global,
+    line: &[u8],
+    want: &str,
+) -> Result<(), AllocError> {
+    let request = asked(alloc, line)?;
+    let got = format!(in alloc; "{request:?}")?;
+    assert_same(rt, got.as_str(), want, want);
+    Ok(())
+}
+
+const REQUESTS: &str = r#"set @a 3 -> Apply(Set { item: 7, step: 3 })
+set 1 3 -> Apply(Set { item: 1, step: 3 })
+drop @b -> Apply(Drop { item: 18446744073709551615 })
+info @a - x -> Apply(Message { item: 7, at: 5, level: Info, text: Text { text: "x" } })
+add 0 @a -> Apply(AddChild { parent: 0, name: Text { text: "@a" }, id: [0, 0, 0, 0] })
+add @b @a x y -> Name("b", AddChild { parent: 7, name: Text { text: "x y" }, id: [0, 0, 0, 0] })
+ -> Fault
+set @ 3 -> Fault
+add @b -> Fault
+add @b x -> Fault
+add @ 0 x -> Fault
+tick 0 -> Fault
+quit - -> Fault
+"#;
+
+#[test]
+fn reads_requests(rt: HostRuntime) -> Result<(), Fail> {
+    for row in REQUESTS.lines() {
+        let (line, want) = row.split_once(" -> ").ok_or("no request")?;
+        assert_request(&rt, rt.alloc(), line.as_bytes(), want)?;
+    }
+    // not UTF-8
+    assert_request(&rt, rt.alloc(), b"set @a \xff", "Fault")?;
+    Ok(())
+}
+
+/// A stream gives these in turn, of a line its text.
+fn assert_lines(rt: &impl Abort, alloc: Global, stream: &[u8], want: &str) -> Result<(), Fail> {
+    let mut lines = Lines::new(alloc, stream);
+    let mut got = String::new(alloc);
+    for _ in 0..3 {
+        match lines.advance()? {
+            Next::Line => writeln!(got, "Line {}", str::from_utf8(lines.line())?)?,
+            next => writeln!(got, "{next:?}")?,
+        }
+    }
+    assert_same(rt, got.as_str(), want, "lines");
+    Ok(())
+}
+
+/// Streams, and what they give.
+const STREAMS: &[[&str; 2]] = &[
+    ["", "End\nEnd\nEnd\n"],
+    ["\n", "Line \nEnd\nEnd\n"],
+    ["a", "CutOff\nEnd\nEnd\n"],
+    ["a\nb", "Line a\nCutOff\nEnd\n"],
+    ["a\nb\n", "Line a\nLine b\nEnd\n"],
+];
+
+#[test]
+fn tells_a_last_line_that_is_cut_off(rt: HostRuntime) -> Result<(), Fail> {
+    for [stream, want] in STREAMS {
+        assert_lines(&rt, rt.alloc(), stream.as_bytes(), want)?;
+    }
+    Ok(())
+}
+
+#[test]
+fn drops_long_lines(rt: HostRuntime) -> Result<(), Fail> {
+    let mut stream = vec![in rt.alloc(); b'a'; 65_537]?;
+    stream.extend_from_slice(b"\nb\n")?;
+    assert_lines(&rt, rt.alloc(), &stream, "TooLong\nLine b\nEnd\n")
+}
