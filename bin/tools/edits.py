@@ -1,4 +1,5 @@
 """Edits of a crate, and how they are put together to rounds."""
+import glob
 import os
 import re
 
@@ -44,13 +45,13 @@ class Edit:
             places.add((path, function._replace(start=0, end=0)))
         self.places = places
 
-    def likely_names(self):
-        """Returns the likely names of the changed functions, below the crate."""
-        return {likely_name(path, function) for path, function in self.places}
+    def likely_names(self, modules):
+        """Returns the likely names of the changed functions, below the crate; `modules` has those of its types."""
+        return {likely_name(path, function, modules) for path, function in self.places}
 
-    def find_names(self, crate, printed):
+    def find_names(self, crate, modules, printed):
         """Finds the checker's names of the changed functions, of those that it printed."""
-        names = {checker_name(crate.name, path, function, printed) for path, function in self.places}
+        names = {checker_name(crate.name, path, function, modules, printed) for path, function in self.places}
         self.changed = names if None not in names else set()
 
 
@@ -78,7 +79,7 @@ def enclosing(text, old, new):
 
 
 def rounds_of(edits, most):
-    """Puts edits of different functions together, at most `most` of them, in as few rounds as the function with most edits allows."""
+    """Puts edits of different functions together, at most `most` of them, in as few rounds as the function with most edits allows, and as many as can be in the first."""
 
     def rivals(edit):
         return max(sum(place in it.places for it in edits) for place in edit.places)
@@ -86,12 +87,21 @@ def rounds_of(edits, most):
     rounds = []
     for edit in sorted(edits, key=rivals, reverse=True):
         free = (it for it in rounds if len(it) < most and all(edit.places.isdisjoint(other.places) for other in it))
-        found = min(free, key=len, default=None)
+        found = next(free, None)
         if found is None:
             rounds.append([edit])
         else:
             found.append(edit)
     return rounds
+
+
+def sources_of(crate):
+    """Returns the texts of a crate's files of code by their paths."""
+    texts = {}
+    for file in sorted(glob.glob(f"{crate.folder}/src/**/*.rt", recursive=True)):
+        with open(file, encoding="utf-8") as it:
+            texts[os.path.relpath(file, crate.folder)] = it.read()
+    return texts
 
 
 def edit_files(crate, folders):

@@ -10,6 +10,8 @@ Function = namedtuple("Function", "modules type block name start end")
 NOT_CODE = re.compile(
     r"//[^\n]*|/\*.*?\*/|\bb?r(#*)\".*?\"\1|\"(?:\\.|[^\"\\])*\"|'(?:\\[^']+|[^\\'\n])'", re.S
 )
+# A type: whether it is a reference, and to what.
+REFERENCE = re.compile(r"\s*(&(?:\s*'\w+)?\s*(?:mut )?)?(.*)", re.S)
 # What stands before the brace of a clause.
 CLAUSE = re.compile(r"\b(?:requires|ensures|ghost)\b[^(){};]*$")
 
@@ -93,27 +95,46 @@ def parameter_names(text):
 
 
 def impl_names(head):
-    """Returns an impl's type and the checker's name of the impl: `Key`, `KeyIndexLevel` for `impl Index<Level> for Key`."""
+    """Returns an impl's type and the checker's name of the impl: `Key`, `KeyIndexLevel` for `impl Index<Level> for Key`, `RefMutCount` for `impl<T> Count for &mut T`."""
     rest = head[re.search(r"\bimpl\b", head).end() :].strip()
     parameters, rest = split_parameters(rest) if rest.startswith("<") else ("", rest)
     trait, is_for, target = re.sub(r"\bwhere\b.*", "", rest, flags=re.S).partition(" for ")
-    type_name = (names_in(target if is_for else trait) or ["?"])[0]
+    reference, target = REFERENCE.match(target if is_for else trait).groups()
+    generic = parameter_names(parameters)
+    type_name = (names_in(target) or ["?"])[0]
+    if reference:
+        type_name = ("RefMut" if reference.endswith("mut ") else "Ref") + (type_name if type_name not in generic else "")
     if not is_for:
         return type_name, type_name
-    generic = parameter_names(parameters)
     return type_name, type_name + "".join(it for it in names_in(trait) if it not in generic)
 
 
-def likely_name(path, function):
-    """Returns the likely name, below the crate, of a function of the file `path`: that of its module and its block."""
-    parts = [it for it in path[len("src/") : -len(".rt")].split("/") if it != "mod"]
-    parts = [] if parts in (["lib"], ["main"]) else parts
-    return "::".join([*parts, *function.modules, *([function.block] if function.block else []), function.name])
+def modules_of_types(texts):
+    """Returns the module in which each struct or enum of a crate is declared, given the texts of its files by their paths; a name with several modules has none."""
+    modules = {}
+    for path, text in texts.items():
+        for name in re.findall(r"^(?:pub(?:\([^)]*\))? )?(?:struct|enum) (\w+)", text, re.M):
+            modules.setdefault(name, set()).add(module_of(path))
+    return {name: it.pop() for name, it in modules.items() if len(it) == 1}
 
 
-def checker_name(crate, path, function, printed):
+def module_of(path):
+    """Returns the module of a file."""
+    parts = tuple(it for it in path[len("src/") : -len(".rt")].split("/") if it != "mod")
+    return () if parts in (("lib",), ("main",)) else parts
+
+
+def likely_name(path, function, modules):
+    """Returns the likely name, below the crate, of a function of the file `path`: that of its module and its block. The checker names what is in a type's own impl in the module of the type, one of `modules`."""
+    parts = (*module_of(path), *function.modules)
+    if function.block and function.block == function.type:
+        parts = modules.get(function.type, parts)
+    return "::".join([*parts, *([function.block] if function.block else []), function.name])
+
+
+def checker_name(crate, path, function, modules, printed):
     """Returns the checker's name of a function of the file `path`, one of those `printed`, or None if it can't be told."""
-    name = f"{crate}::{likely_name(path, function)}"
+    name = f"{crate}::{likely_name(path, function, modules)}"
     if name in printed:
         return name
     if not function.block:
