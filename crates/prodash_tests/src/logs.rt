@@ -10,6 +10,7 @@ use prodash::{Count, NestedProgress, Progress, Refusal, unit};
 use std::alloc::Global;
 use std::fmt::Display;
 use std::process::Abort;
+use std::rt;
 use std::sync::atomic::{AtomicBool, Ordering};
 use std::sync::{Arc, Mutex, Wait};
 use std::test::*;
@@ -65,10 +66,13 @@ impl Clock for Gate {
     }
 }
 
+/// Progress that the collector logs.
+type Logged<R> = Log<Collector<R>, Gate>;
+
 /// A log, what its logger got, and its clock, which is closed.
 #[derive(Drop)]
 struct Bench<R: Wait + Drop> {
-    log: Log<Collector<R>, Gate>,
+    log: Logged<R>,
     lines: Arc<Mutex<String>>,
     gate: Arc<Gate>,
 }
@@ -102,32 +106,52 @@ fn assert_logged<R: Wait + Drop>(rt: &(impl Abort + Wait), bench: &Bench<R>, wan
     bench.gate.open.store(true, Ordering::SeqCst);
 }
 
+/// Adds a child named `work`.
+fn add_work<R: Wait + Drop>(alloc: Global, log: &Logged<R>) -> Result<Logged<R>, Refusal> {
+    log.add_child(alloc, "work")
+}
+
+/// The progress has this line.
+fn assert_line<R: Wait + Drop>(
+    rt: &impl Abort,
+    alloc: Global,
+    log: &Logged<R>,
+    want: &str,
+) -> Result<(), Refusal> {
+    assert_same(rt, log.line(alloc)?.as_str(), want, "line");
+    Ok(())
+}
+
 #[test]
 fn lines_of_steps(rt: HostRuntime) -> Result<(), Fail> {
     let alloc: Global = rt.alloc();
     let bench = make_bench(&rt, rt, "main", None)?;
-    let mut work = bench.log.add_child(alloc, "work")?;
+    let mut work = add_work(alloc, &bench.log)?;
     work.set(3);
-    let plain = work.line(alloc)?;
-    assert_same(&rt, plain.as_str(), "main::work → 3", "no bound");
+    assert_line(&rt, alloc, &work, "main::work → 3")?;
     work.init(Some(10), None);
-    let bounded = work.line(alloc)?;
-    assert_same(&rt, bounded.as_str(), "main::work → 3 / 10", "bound");
+    assert_line(&rt, alloc, &work, "main::work → 3 / 10")?;
     work.init(Some(10), Some(unit::label("items")));
-    let labelled = work.line(alloc)?;
-    assert_same(&rt, labelled.as_str(), "main::work → 3/10 items", "unit");
+    assert_line(&rt, alloc, &work, "main::work → 3/10 items")?;
     assert_logged(&rt, &bench, "INFO main::work → 3\n");
     Ok(())
 }
+
+/// Messages that are sent at once.
+const SENT: &[(MessageLevel, &str)] = &[
+    (MessageLevel::Failure, "no"),
+    (MessageLevel::Info, "so"),
+    (MessageLevel::Success, "yes"),
+];
 
 #[test]
 fn messages_at_levels(rt: HostRuntime) -> Result<(), Fail> {
     let alloc: Global = rt.alloc();
     let bench = make_bench(&rt, rt, "main", Some(0))?;
-    let work = bench.log.add_child(alloc, "work")?;
-    work.message(alloc, 0, MessageLevel::Failure, "no")?;
-    work.message(alloc, 0, MessageLevel::Info, "so")?;
-    work.message(alloc, 0, MessageLevel::Success, "yes")?;
+    let work = add_work(alloc, &bench.log)?;
+    for (level, text) in SENT {
+        work.message(alloc, 0, *level, text)?;
+    }
     let want = "ERROR 𐄂main::work → no\nINFO ℹmain::work → so\nINFO ✓main::work → yes\n";
     assert_logged(&rt, &bench, want);
     Ok(())
@@ -141,28 +165,45 @@ const NAMES: &[(&str, Option<&str>, &str)] = &[
     ("::a:b", Some("a:b"), "::x → 0"),
 ];
 
+/// The progress returns this name.
 fn assert_name<R: Wait + Drop>(
-    rt: &(impl Abort + Wait),
+    rt: &impl Abort,
     alloc: Global,
-    mut bench: Bench<R>,
-    second: Option<&str>,
-    line: &str,
-) -> Result<(), Fail> {
-    assert_same(rt, bench.log.name(alloc)?.as_deref(), second, "second part");
-    bench.log.set_name(alloc, "x")?;
-    assert_same(rt, bench.log.name(alloc)?.as_deref(), Some("x"), "name");
-    assert_same(rt, bench.log.line(alloc)?.as_str(), line, "line");
-    assert_logged(rt, &bench, "");
+    log: &Logged<R>,
+    want: Option<&str>,
+) -> Result<(), Refusal> {
+    assert_same(rt, log.name(alloc)?.as_deref(), want, "name");
     Ok(())
 }
 
 #[test]
 fn names(rt: HostRuntime) -> Result<(), Fail> {
+    let alloc: Global = rt.alloc();
     for (name, second, line) in NAMES {
-        let bench = make_bench(&rt, rt, name, None)?;
-        assert_name(&rt, rt.alloc(), bench, *second, line)?;
+        let mut bench = make_bench(&rt, rt, name, None)?;
+        assert_name(&rt, alloc, &bench.log, *second)?;
+        bench.log.set_name(alloc, "x")?;
+        assert_name(&rt, alloc, &bench.log, Some("x"))?;
+        assert_line(&rt, alloc, &bench.log, line)?;
+        assert_logged(&rt, &bench, "");
     }
     Ok(())
+}
+
+/// Sets the step again until one more line is logged, at most 10000 turns of a millisecond.
+fn set_until_logged<R: Wait + Drop>(
+    rt: &(impl Wait + rt::Clock),
+    bench: &Bench<R>,
+    work: &Logged<R>,
+) {
+    let before = bench.lines.lock(rt).len();
+    for _ in 0..10000u32 {
+        work.set(7);
+        if bench.lines.lock(rt).len() != before {
+            break;
+        }
+        thread::sleep(rt, Duration::from_millis(1));
+    }
 }
 
 /// The first step is logged, the second isn't, nor is a child's; after a turn of the clock one is.
@@ -177,13 +218,7 @@ fn one_line_for_each_turn(rt: HostRuntime) -> Result<(), Fail> {
     assert_same(&rt, (bench.log.step(), work.step()), (5, 1), "steps");
     assert_same(&rt, (bench.log.id(), work.id()), (UNKNOWN, *b"WORK"), "ids");
     assert_logged(&rt, &bench, "INFO main → 3\n");
-    for _ in 0..10000u32 {
-        work.set(7);
-        if bench.lines.lock(&rt).as_str() != "INFO main → 3\n" {
-            break;
-        }
-        thread::sleep(&rt, Duration::from_millis(1));
-    }
+    set_until_logged(&rt, &bench, &work);
     let lines = bench.lines.lock(&rt);
     let again = lines
         .as_str()
@@ -197,7 +232,7 @@ fn one_line_for_each_turn(rt: HostRuntime) -> Result<(), Fail> {
 fn levels_that_are_logged(rt: HostRuntime) -> Result<(), Fail> {
     let alloc: Global = rt.alloc();
     let bench = make_bench(&rt, rt, "main", Some(1))?;
-    let work = bench.log.add_child(alloc, "work")?;
+    let work = add_work(alloc, &bench.log)?;
     let part = work.add_child(alloc, "part")?;
     part.set(1);
     work.set(2);
@@ -238,9 +273,7 @@ fn counters_and_bounds(rt: HostRuntime) -> Result<(), Fail> {
     assert_same(&rt, bench.log.set_max(Some(9)), Some(10), "bound before");
     assert_same(&rt, bench.log.max(), Some(9), "bound");
     assert_same(&rt, bench.log.unit(), None, "unit");
-    let line = bench.log.line(rt.alloc());
-    let text = line?;
-    assert_same(&rt, text.as_str(), "main → 8 / 9", "line");
+    assert_line(&rt, rt.alloc(), &bench.log, "main → 8 / 9")?;
     assert_logged(&rt, &bench, "");
     Ok(())
 }

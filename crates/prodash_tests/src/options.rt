@@ -1,7 +1,8 @@
 use crate::fixtures::{TASK_FRAME, TERMINAL, assert_same};
 use crate::transcripts::event_of;
+use prodash::Refusal;
 use prodash::render::line::draw::{MemoryScreen, Options};
-use prodash::tree::{RootOptions, SessionOptions, run};
+use prodash::tree::{Event, Reply, RootOptions, SessionOptions, run};
 use std::alloc::Global;
 use std::process::Abort;
 use std::test::Fail;
@@ -111,19 +112,29 @@ const RUNS: &[Run] = &[
     (TERMINAL, "quit 0\nresize 0 30 4", "\x1b[2K\r", "Refused(Closed)"),
 ];
 
-pub(crate) fn assert_run(rt: &impl Abort, alloc: Global, row: &Run) -> Result<(), Fail> {
-    let (draw, lines, bytes, told) = *row;
+/// Returns the replies of a run, and its screen.
+fn run_with(
+    alloc: Global,
+    draw: Options,
+    events: &[Event],
+) -> Result<(Vec<Reply>, MemoryScreen), Refusal> {
     let options = SessionOptions {
         root: RootOptions::default(),
         draw,
         throughput: false,
     };
+    let mut screen = MemoryScreen::new(alloc, 0)?;
+    let replies = run(alloc, &options, events, &mut screen)?;
+    Ok((replies, screen))
+}
+
+pub(crate) fn assert_run(rt: &impl Abort, alloc: Global, row: &Run) -> Result<(), Fail> {
+    let (draw, lines, bytes, told) = *row;
     let mut events = Vec::new(alloc);
     for line in lines.lines() {
         events.push(event_of(alloc, line)?)?;
     }
-    let mut screen = MemoryScreen::new(alloc, 0)?;
-    let replies = run(alloc, &options, &events, &mut screen)?;
+    let (replies, screen) = run_with(alloc, draw, &events)?;
     assert_same(rt, screen.bytes(), bytes.as_bytes(), bytes);
     let last = replies.last().ok_or("no reply")?;
     let got = format!(in alloc; "{last:?}")?;

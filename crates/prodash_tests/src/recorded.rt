@@ -337,26 +337,43 @@ fn assert_missing<C: TreeLedger, S: Ledger, R: Wait + Abort>(
     Ok(())
 }
 
-/// A call at a handle that was dropped is refused, and doesn't count.
+/// A call at a handle that was dropped is refused.
+fn assert_gone<C: TreeLedger, S: Ledger, R: Wait + Abort>(
+    rt: &R,
+    alloc: Global,
+    item: &mut RecordedItem<C, S>,
+    task: Handle,
+) {
+    let event = Event::IncBy {
+        item: task,
+        step: 3,
+    };
+    let refusal = item.call(rt, alloc, event).err();
+    assert_same(rt, refusal, Some(Refusal::Gone), "a dropped item");
+}
+
+/// Such a call doesn't count.
 fn assert_not_counted<C: TreeLedger, S: Ledger, R: Wait + Abort>(
     rt: &R,
     alloc: Global,
     mut item: RecordedItem<C, S>,
     task: Handle,
-) -> Result<Share<C, S>, Fail> {
-    let event = Event::IncBy {
-        item: task,
-        step: 3,
-    };
-    assert_same(
-        rt,
-        item.call(rt, alloc, event),
-        Err(Refusal::Gone),
-        "a dropped item",
-    );
+) -> Share<C, S> {
+    assert_gone(rt, alloc, &mut item, task);
     let share = item.give_back();
     assert_same(rt, (share.calls(), share.sum()), (0, 0), "totals");
-    Ok(share)
+    share
+}
+
+/// An item adds a task and drops it. Returns its share and the task's handle.
+fn add_and_drop<C: TreeLedger, S: Ledger, R: Wait>(
+    rt: &R,
+    alloc: Global,
+    mut item: RecordedItem<C, S>,
+) -> Result<(Share<C, S>, Handle), Refusal> {
+    let task = add(rt, alloc, &mut item)?;
+    item.call(rt, alloc, Event::Drop { item: task })?;
+    Ok((item.give_back(), task))
 }
 
 /// An item only calls at a handle that another made and dropped.
@@ -365,13 +382,11 @@ fn assert_dropped<C: TreeLedger, S: Ledger, R: Wait + Abort>(
     alloc: Global,
     root: RecordedRoot<C, S>,
 ) -> Result<(), Fail> {
-    let mut first = root.share(rt)?;
-    let other = root.share(rt)?;
-    let task = add(rt, alloc, &mut first)?;
-    first.call(rt, alloc, Event::Drop { item: task })?;
+    let (first, task) = add_and_drop(rt, alloc, root.share(rt)?)?;
+    let other = assert_not_counted(rt, alloc, root.share(rt)?, task);
     let mut shares = Vec::new(alloc);
-    shares.push(first.give_back())?;
-    shares.push(assert_not_counted(rt, alloc, other, task)?)?;
+    shares.push(first)?;
+    shares.push(other)?;
     closed(rt, root, shares, 2)?;
     Ok(())
 }

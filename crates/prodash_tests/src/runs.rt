@@ -140,15 +140,23 @@ fn the_caller_shows_a_task(rt: HostRuntime) -> Result<(), Fail> {
     Ok(())
 }
 
+/// A new session that keeps this many messages replies and draws as in a transcript.
+fn assert_new_session(
+    rt: &impl Abort,
+    alloc: Global,
+    message_buffer_capacity: usize,
+    transcript: &str,
+) -> Result<(), Fail> {
+    let mut session = Session::new(alloc, &options(message_buffer_capacity))?;
+    assert_session(rt, alloc, &mut session, transcript)
+}
+
 #[test]
 fn sessions_have_replies_and_frames(rt: HostRuntime) -> Result<(), Fail> {
-    let alloc = rt.alloc();
     for transcript in RUNS {
-        let mut session = Session::new(alloc, &options(20))?;
-        assert_session(&rt, alloc, &mut session, transcript)?;
+        assert_new_session(&rt, rt.alloc(), 20, transcript)?;
     }
-    let mut session = Session::new(alloc, &options(2))?;
-    assert_session(&rt, alloc, &mut session, LATEST)
+    assert_new_session(&rt, rt.alloc(), 2, LATEST)
 }
 
 /// A run on a screen, which has these bytes after it, has the replies and bytes of a transcript.

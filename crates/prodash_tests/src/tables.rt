@@ -3,10 +3,11 @@ ghost use Rattle.std.specs.Prelude.{◌≡◌};
 use crate::fixtures::{ShortRow, assert_same, key_at, messages, rows};
 use crate::transcripts::event_of;
 use prodash::messages::{MessageCopyState, Messages};
-use prodash::progress::{Rows, State, Step, UNKNOWN};
+use prodash::progress::{Key, Rows, State, Step, UNKNOWN};
 use prodash::tree::{Counted, Counters, RootOptions, TreeCore, TreeState};
-use prodash::unit::{Bytes, Kind, dynamic};
+use prodash::unit::{Bytes, Kind, Unit, dynamic};
 use std::alloc::Global;
+use std::process::Abort;
 use std::test::Fail;
 
 /// Counters that are their own numbers.
@@ -21,14 +22,35 @@ impl Counters<u64> for OwnNumbers {
     }
 }
 
+type Table = TreeCore<u64>;
+
+fn assert_init(rt: &impl Abort, table: &mut Table, key: Key, to: Option<Counted<u64>>, want: bool) {
+    assert_same(rt, table.init(key, to), want, "init");
+}
+
+fn assert_remove(rt: &impl Abort, table: &mut Table, key: Key, want: bool) {
+    assert_same(rt, table.remove(key), want, "remove");
+}
+
+fn assert_name(rt: &impl Abort, table: &Table, key: Key, want: Option<&str>) {
+    assert_same(rt, table.name(key), want, "name");
+}
+
+fn assert_unit(rt: &impl Abort, table: &Table, key: Key, want: Option<Unit>) {
+    assert_same(rt, table.unit(key), want, "unit");
+}
+
+/// The tasks that are inserted, one of them twice.
+const INSERTED: &[(&[u16], &str)] = &[(&[1], "c"), (&[0, 1], "x"), (&[0, 1], "b"), (&[0], "a")];
+
 const LEFT: &[ShortRow] = &[(&[0], "a", None), (&[0, 1], "b", Some((3, Some(10))))];
 
 #[test]
 fn a_table_has_one_entry_for_a_key(rt: HostRuntime) -> Result<(), Fail> {
-    let (a, b, c) = (key_at(&[0]), key_at(&[0, 1]), key_at(&[1]));
-    let mut table: TreeCore<u64> = TreeCore::new(rt.alloc());
-    for (key, name) in [(c, "c"), (b, "x"), (b, "b"), (a, "a")] {
-        table.insert(rt.alloc(), key, name, UNKNOWN)?;
+    let (b, c) = (key_at(&[0, 1]), key_at(&[1]));
+    let mut table: Table = TreeCore::new(rt.alloc());
+    for (path, name) in INSERTED {
+        table.insert(rt.alloc(), key_at(path), name, UNKNOWN)?;
     }
     let progress = Some(Counted {
         counter: 3,
@@ -36,12 +58,12 @@ fn a_table_has_one_entry_for_a_key(rt: HostRuntime) -> Result<(), Fail> {
         unit: None,
         state: State::Running,
     });
-    assert_same(&rt, table.init(b, progress), true, "init b");
-    assert_same(&rt, table.remove(c), true, "remove c");
-    assert_same(&rt, table.remove(c), false, "remove c again");
-    assert_same(&rt, table.init(c, progress), false, "init c");
-    assert_same(&rt, table.name(b), Some("b"), "name of b");
-    assert_same(&rt, table.name(c), None, "name of c");
+    assert_init(&rt, &mut table, b, progress, true);
+    assert_remove(&rt, &mut table, c, true);
+    assert_remove(&rt, &mut table, c, false);
+    assert_init(&rt, &mut table, c, progress, false);
+    assert_name(&rt, &table, b, Some("b"));
+    assert_name(&rt, &table, c, None);
     let want = rows(rt.alloc(), LEFT)?;
     assert_same(&rt, table.rows(rt.alloc(), &OwnNumbers)?, want, "rows");
     Ok(())
@@ -93,7 +115,7 @@ fn a_tree_needs_no_renderer(rt: HostRuntime) -> Result<(), Fail> {
 fn a_table_keeps_units(rt: HostRuntime) -> Result<(), Fail> {
     let (a, b) = (key_at(&[0]), key_at(&[1]));
     let unit = Some(dynamic(Kind::Bytes(Bytes)));
-    let mut table: TreeCore<u64> = TreeCore::new(rt.alloc());
+    let mut table: Table = TreeCore::new(rt.alloc());
     table.insert(rt.alloc(), a, "a", UNKNOWN)?;
     let counted = Some(Counted {
         counter: 1,
@@ -101,9 +123,9 @@ fn a_table_keeps_units(rt: HostRuntime) -> Result<(), Fail> {
         unit,
         state: State::Running,
     });
-    assert_same(&rt, table.unit(a), None, "before");
-    assert_same(&rt, table.init(a, counted), true, "init");
-    assert_same(&rt, table.unit(a), unit, "after");
-    assert_same(&rt, table.unit(b), None, "no task");
+    assert_unit(&rt, &table, a, None);
+    assert_init(&rt, &mut table, a, counted, true);
+    assert_unit(&rt, &table, a, unit);
+    assert_unit(&rt, &table, b, None);
     Ok(())
 }
