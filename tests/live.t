@@ -189,7 +189,7 @@ Rows are hidden until the delay has passed, and messages are not.
    \x1b[2ma\x1b[0m \x1b[1;37mone\x1b[0m (esc)
   \x1b[2K\r (no-eol) (esc)
 
-Frames of a second
+Frames per second
 ==================
 
 `one_by_one` sends a message once that before it is written, so each is in a frame of its own. The

@@ -23,7 +23,7 @@ class Edit:
         self.changed = set()
 
     def applied(self, texts, read):
-        """Returns the texts with this edit made too, or None if an `old:` text no longer stands there once."""
+        """Returns the texts with this edit made too, or None if an `old:` text isn't there exactly once."""
         texts = dict(texts)
         for path, old, new in self.steps:
             text = texts[path] if path in texts else read(path)

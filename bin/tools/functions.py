@@ -2,7 +2,7 @@
 import re
 from collections import namedtuple
 
-# `type` is the type of the impl or the trait that the function stands in, and `block` how the checker names that impl;
+# `type` is the type of the impl or the trait that has the function, and `block` how the checker names that impl;
 # both are None for a free function. The body lies from `start` to `end`.
 Function = namedtuple("Function", "modules type block name start end")
 
@@ -12,7 +12,7 @@ NOT_CODE = re.compile(
 )
 # A type: whether it is a reference, and to what.
 REFERENCE = re.compile(r"\s*(&(?:\s*'\w+)?\s*(?:mut )?)?(.*)", re.S)
-# What stands before the brace of a clause.
+# What is before the brace of a clause.
 CLAUSE = re.compile(r"\b(?:requires|ensures|ghost)\b[^(){};]*$")
 
 
@@ -50,7 +50,8 @@ class Scanner:
         words = self.text[self.head : mark.start()]
         named = re.search(r"\bfn\s+(\w+)", words)
         self.pending = named[1] if named else self.pending
-        if CLAUSE.search(words):
+        is_in_clause = bool(self.open) and self.open[-1][0][0] == "clause"
+        if is_in_clause or CLAUSE.search(words):
             block = "clause", None
         elif self.pending:
             block, self.pending = ("fn", self.pending), None

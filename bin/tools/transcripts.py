@@ -71,7 +71,7 @@ def read_to(end, pipe, given):
 
 
 def outputs(end, pipe, count):
-    """Yields what each of so many commands writes, and its status, or why it has none."""
+    """Yields what each command writes, and its status, or why it has none."""
     given, why = b"", None
     for _ in range(count):
         given, why = (b"", "not run") if why else read_to(end, pipe, given)

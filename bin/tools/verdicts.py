@@ -50,7 +50,7 @@ class Verdict:
         return goals + [goal or file for file, goal, why in ours if not is_lost_name(why)]
 
     def with_closures(self, name):
-        """Returns the function and its closures, whose lines stand below `fn::NAME`."""
+        """Returns the function and its closures, whose lines are below `fn::NAME`."""
         module, _, last = name.rpartition("::")
         inside = f"{module}::fn::{last}::"
         return [it for it in self.functions if it == name or it.startswith(inside)]

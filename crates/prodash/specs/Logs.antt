@@ -57,7 +57,7 @@ step_text None None step = decimal step
 abbrev pub line_text : LogState → ℕ → List ℕ
 line_text log step = arrowed log.name (step_text log.max log.unit step)
 
--- the sign of a level of messages, in UTF-8: `ℹ` (U+2139), `𐄂` (U+10102) or `✓` (U+2713)
+-- the sign of a severity, in UTF-8: `ℹ` (U+2139), `𐄂` (U+10102) or `✓` (U+2713)
 abbrev pub sign_of : MessageLevel → List ℕ
 sign_of Info = 226 ∷ 132 ∷ 185 ∷ []
 sign_of Failure = 240 ∷ 144 ∷ 132 ∷ 130 ∷ []

@@ -1,4 +1,4 @@
-//! Progress of many tasks, drawn on a terminal: the crate that users name.
+//! Progress of many tasks, drawn on a terminal: the crate that users depend on.
 //!
 //! Begin at [`tree::run`]. It takes what happens to the tasks as a list of [`tree::Event`]s, and a
 //! [`render::line::draw::Screen`] to write to. Each event gets a [`tree::Reply`]. Each `Tick` draws
@@ -39,7 +39,7 @@
 //! it from a thread of its own, call [`render::line::render`].
 //!
 //! Then see [`progress`] for what a task shows, [`unit`] for values as texts, [`messages`] for what
-//! tasks say, [`tree`] for the tasks without a screen, and [`render::line`] for the screen without
+//! tasks report, [`tree`] for the tasks without a screen, and [`render::line`] for the screen without
 //! a tree.
 #![tactic(auto)]
 

@@ -28,7 +28,7 @@ is_path = pointwise nat_eq
 abbrev pub is_sibling : Path → ℕ → Path → Bool
 is_sibling p n q = nat_eq (length q) n && is_path (take (n - 1) p) (take (n - 1) q)
 
--- whether a sibling at level n comes before p
+-- whether a sibling at level n, or the ancestor of p there, comes before p
 abbrev pub has_sibling_before : List Path → Path → ℕ → Bool
 has_sibling_before paths p n = list_any (λ q. is_lt (path_cmp q p) && is_sibling p n q) paths
 
@@ -36,8 +36,8 @@ has_sibling_before paths p n = list_any (λ q. is_lt (path_cmp q p) && is_siblin
 abbrev pub has_parent : List Path → Path → ℕ → Bool
 has_parent paths p n = list_any (is_path (take (n - 1) p)) paths
 
--- whether something is above p at level n: a sibling, the root at level 1, and the parent of p at
--- the level of p
+-- whether something is above p at level n: an earlier path there, which may be the ancestor of p
+-- itself, the root at level 1, and the parent of p at the level of p
 abbrev pub has_above : List Path → Path → ℕ → Bool
 has_above paths p n =
     nat_eq n 1 || has_sibling_before paths p n || (nat_eq n (length p) && has_parent paths p n)
@@ -89,7 +89,7 @@ locations a = a.0 ∷ a.1 ∷ a.2 ∷ a.3 ∷ a.4 ∷ a.5 ∷ []
 abbrev pub location_at : Adjacency → ℕ → Option SiblingLocation
 location_at a n = if nat_eq n 0 then None else slice_get (locations a) (n - 1)
 
--- the locations of the ancestors of p: each has siblings on both sides, or is `NotFound`
+-- the locations of the ancestors of p: each is `AboveAndBelow` or `NotFound`
 abbrev pub AncestorsOnBothSides : Adjacency → Path → Type 0
 AncestorsOnBothSides a p =
     (n : ℕ) → 0 < n → n < length p → n ≤ max_level

@@ -6,7 +6,7 @@ use Rattle.prodash_base.specs.declared.progress.key.adjacency.SiblingLocation.{S
 use Rattle.prodash_base.specs.contracts.progress.key.adjacency.Adjacency as adjacency
 use Rattle.prodash_base.specs.contracts.progress.key.adjacency.SiblingLocation as sibling
 
--- a with this location at a level from 1 to 6
+-- the adjacency `a` with this location at a level from 1 to 6
 abbrev pub with_location : Adjacency → ℕ → SiblingLocation → Adjacency
 with_location a level location =
     if nat_eq level 1 then record a { 0 = location }
@@ -17,11 +17,11 @@ with_location a level location =
     else if nat_eq level 6 then record a { 5 = location }
     else a
 
--- a ends with the last location behind r at that level
+-- once `r` ends, `a` has at that level the location that was last written through `r`
 abbrev pub LendsLocation : MutBor Adjacency → ℕ → MutBor SiblingLocation → Fml
 LendsLocation a level r = Lends adjacency.the_row sibling.the_row a r (with_location a.now level)
 
--- the same if there is a location, and otherwise a stays as it is
+-- the same if there is a location, and otherwise `a` stays as it is
 abbrev pub LendsLocationIf : MutBor Adjacency → ℕ → Option (MutBor SiblingLocation) → Fml
 LendsLocationIf a level r =
     LendsIf adjacency.the_row sibling.the_row a r (with_location a.now level) a.now

@@ -11,7 +11,7 @@ abbrev pub message_of : ℕ → MessageLevel → List ℕ → List ℕ → Messa
 message_of time level origin message =
     record { time = time; level = level; origin = origin; message = message }
 
--- the test of equal levels
+-- the test of equal severities
 abbrev pub same_level : MessageLevel → MessageLevel → Bool
 same_level Info Info = true
 same_level Failure Failure = true

@@ -9,7 +9,7 @@ use Rattle.std.specs.Cmp.Lexicographic.{slice_cmp}
 abbrev pub Path : Type 0
 Path = List ℕ
 
--- the most numbers that a path has
+-- the greatest number of numbers that a path has
 abbrev pub max_level : ℕ
 max_level = 6
 

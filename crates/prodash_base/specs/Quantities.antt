@@ -3,7 +3,7 @@ use Rattle.std.specs.Prelude.{ℕ, ◌-◌, ◌*◌, ◌/◌, ◌%◌, ◌^◌, 
 use Rattle.std.specs.Fmt.{decimal}
 use Rattle.prodash_base.specs.Numerals.{cut}
 
--- how many hundredths of the bound the value is, rounded down, at most 2^64 - 1; of the bound 0, the value 0 is 0 and others are 2^64 - 1
+-- how many hundredths of the bound the value is, rounded down, at most 2^64 - 1; with the bound 0 it is 0 for the value 0, and else 2^64 - 1
 abbrev pub percentage_of : ℕ → ℕ → ℕ
 percentage_of value bound =
     if nat_eq bound 0 then (if nat_eq value 0 then 0 else 2 ^ 64 - 1)

@@ -3,7 +3,7 @@ use Rattle.std.specs.Prelude.{ℕ, Bool, nat_eq, ◌+◌, ◌-◌, ◌^◌, min,
 use Rattle.circular_buffer.specs.Buffer.{keep_last}
 use Rattle.prodash_base.specs.declared.messages.Message.{Message}
 
--- the most messages that a ring keeps, those it keeps, oldest first, and the count of all pushes
+-- the greatest number of messages that a ring keeps, those it keeps, oldest first, and the count of all pushes
 pub record Ring : Type 0 where
   pub capacity : ℕ
   pub messages : List Message

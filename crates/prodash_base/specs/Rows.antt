@@ -9,7 +9,7 @@ use Rattle.prodash_base.specs.declared.progress.State.TheVariants as states
 use Rattle.prodash_base.specs.declared.progress.Value.{Value}
 use Rattle.prodash_base.specs.declared.progress.Row.{Row}
 
--- a state, with the bytes of its reason and the moment from which the task may go on
+-- a state, with the bytes of its reason and the moment from which the task is expected to go on
 pub data Phase : Type 0 where
   Blocked : List ℕ → Option ℕ → Phase
   Halted : List ℕ → Option ℕ → Phase

@@ -5,7 +5,7 @@ use Rattle.prodash_base.specs.Numerals.{last_digits}
 use Rattle.prodash_base.specs.Shown.{Shown}
 use Rattle.prodash_base.specs.Displays.{spaced}
 
--- the steps in a second, rounded down, at most 2^64 - 1; in no time, no steps are 0 and others are 2^64 - 1
+-- the steps in a second, rounded down, at most 2^64 - 1; in a time of 0 they are 0 if no step was done, and else 2^64 - 1
 abbrev pub rate_of : ℕ → ℕ → ℕ
 rate_of step ns =
     if nat_eq ns 0 then (if nat_eq step 0 then 0 else 2 ^ 64 - 1)

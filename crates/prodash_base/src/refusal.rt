@@ -13,8 +13,8 @@ pub enum Refusal {
     /// As many messages as a `u64` can count were pushed already. Nothing has changed.
     #[error("too many messages")]
     TooManyMessages,
-    /// A handle is no longer valid, or the root handle was passed in place of an item's handle.
-    /// Nothing has changed.
+    /// The handle was never made or is no longer valid, or it is the root's where an item's is
+    /// needed. Nothing has changed.
     #[error("no such handle")]
     Gone,
     /// The renderer has already written its closing frame. Nothing has changed.
@@ -23,10 +23,11 @@ pub enum Refusal {
     /// The screen is broken. From now on the renderer returns this for every frame.
     #[error("output is broken")]
     Broken,
-    /// As many owners of the root as a `u64` can count exist already. Nothing has changed.
+    /// A root has 2^64 - 1 owners, a recorded tree has made 2^64 - 1 shares, or a recorded item has
+    /// made 2^64 - 1 calls. Nothing has changed.
     #[error("too many handles")]
     TooManyHandles,
-    /// A thread couldn't be started. None runs that the call started before.
+    /// A thread couldn't be started. Those that the call had started end.
     #[error("no thread")]
     NoThread,
 }

@@ -1,5 +1,7 @@
 //! What the files of tests share: rows and messages in short, and assertions.
-pub(crate) use prodash_fixtures::{Progress, ShortRow, key_at, message, messages, row, rows};
+pub(crate) use prodash_fixtures::{
+    Progress, ShortRow, clones, key_at, message, messages, row, rows,
+};
 use std::alloc::Global;
 use std::collections::HashMap;
 use std::fmt::Debug;

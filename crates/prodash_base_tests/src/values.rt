@@ -1,21 +1,12 @@
 use crate::fixtures::{
-    Progress, ShortRow, assert_ascending, assert_distinct, assert_hashed, assert_same, key_at,
-    message, messages, row, rows,
+    Progress, ShortRow, assert_ascending, assert_distinct, assert_hashed, assert_same, clones,
+    key_at, message, messages, row, rows,
 };
 use prodash_base::messages::{Message, MessageCopyState, MessageLevel};
 use prodash_base::progress::{Id, Row, State, UNKNOWN, Value};
 use prodash_base::{Refusal, Text};
 use std::alloc::{AllocError, Global};
 use std::test::Fail;
-
-/// Copies of the values.
-fn clones<T: Clone + Drop>(alloc: Global, values: &[T]) -> Result<Vec<T>, AllocError> {
-    let mut copies = Vec::new(alloc);
-    for value in values {
-        copies.push(value.clone()?)?;
-    }
-    Ok(copies)
-}
 
 const STATES: &[State] = &[
     State::Blocked("a", None),

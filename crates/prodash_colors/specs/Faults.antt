@@ -3,7 +3,7 @@ use Rattle.std.specs.Prelude.{ℕ}
 use Rattle.prodash_colors.specs.declared.fault.Fault.{Fault}
 use Rattle.prodash_colors.specs.declared.fault.Fault.TheVariants.{Usage, Output, Memory}
 
--- 2 if the arguments have to be mended, else 1
+-- 2 if the arguments are at fault, else 1
 abbrev pub status_of : Fault → ℕ
 status_of Usage = 2
 status_of Output = 1

@@ -22,7 +22,7 @@ pub enum Fault {
 impl Fault {
     ghost use Rattle.prodash_colors.specs.Faults.{status_of};
 
-    /// The exit status: 2 if the arguments have to be mended, else 1.
+    /// The exit status: 2 if the arguments are at fault, else 1.
     pub fn status(&self) -> u8
         ensures { result ≡ status_of self.now }
     {

@@ -1,4 +1,4 @@
--- Laws of whole runs: how a run goes on, what it renders, its prefixes, the steps at each place, and the run of the accepted events.
+-- Laws of whole runs: how a run goes on, what it renders, its prefixes, the steps at each place, and the run of the events that did not run out of memory.
 use Rattle.std.proofs.Common.{◌≡◌, ◌∙◌, ap, sym, subst, ℕ, zero, suc, ◌<◌, ◌++◌, ◌∷◌, [], List, refl, append_assoc, append-nil, take, length, Bool, true, false, cond, Result, Ok, arith}
 use Rattle.std.specs.Prelude.{is_ok}
 use Rattle.std.proofs.lemmas.List.{nil_from_length}
@@ -6,7 +6,7 @@ use Rattle.prodash_line.specs.Renderings.{RendersAll}
 use Rattle.prodash_line.specs.Screens.{ScreenState}
 use Rattle.prodash_core.specs.Trees.{Effect, OnTree, OnRenderer, Change, effect}
 use Rattle.prodash_core.specs.Sessions.{SessionState, is_memory, changed_tree, StepsBy, Steps}
-use Rattle.prodash_core.specs.Runs.{Run, StepsAt, next_by, next_session, session_after, accepted_events, accepted_replies, rendering_by, renderings_from}
+use Rattle.prodash_core.specs.Runs.{Run, StepsAt, next_by, next_session, session_after, events_with_memory, replies_with_memory, rendering_by, renderings_from}
 use Rattle.prodash_core.proofs.StepLaws.{frame_renders, step_next, step_idle, screen_stays}
 use Rattle.prodash_core.specs.declared.tree.event.Event.{Event}
 use Rattle.prodash_core.specs.declared.tree.event.Reply.{Reply}
@@ -77,20 +77,20 @@ steps_at (suc j) (e ∷ es) (r ∷ rs) w s s' h l =
     let at = steps_at j es rs (next_session w e r) h.0 s' h.2 (omega arith) in
     record { event = at.event; reply = at.reply; asked = at.asked; replied = at.replied; before = at.before; after = at.after; earlier = (h.0, h.1, at.earlier); step = at.step; later = at.later }
 
-accepted_step : (b : Bool) (w : SessionState) (s : ScreenState) (e : Event) (r : Reply) (es : List Event) (rs : List Reply) (s₁ s' : ScreenState) → is_memory r ≡ b
+step_with_memory : (b : Bool) (w : SessionState) (s : ScreenState) (e : Event) (r : Reply) (es : List Event) (rs : List Reply) (s₁ s' : ScreenState) → is_memory r ≡ b
     → Steps w s e r (next_session w e r) s₁ → Run (next_session w e r) s₁ es rs s' → Run w s (cond b es (e ∷ es)) (cond b rs (r ∷ rs)) s'
-accepted_step false w s e r es rs s₁ s' m step more = (s₁, step, more)
-accepted_step true w s e r es rs s₁ s' m step more =
+step_with_memory false w s e r es rs s₁ s' m step more = (s₁, step, more)
+step_with_memory true w s e r es rs s₁ s' m step more =
     let idle = step_idle w s e r (next_session w e r) s₁ m step in
     subst (λ q. Run q s es rs s') idle.0 (subst (λ q. Run (next_session w e r) q es rs s') idle.1 more)
 
 -- a run is also that of the events that weren't out of memory
-pub accepted_run : (es : List Event) (rs : List Reply) (w : SessionState) (s s' : ScreenState) → Run w s es rs s' → Run w s (accepted_events es rs) (accepted_replies rs) s'
-accepted_run [] [] w s s' h = h
-accepted_run [] (r ∷ rs) w s s' h = absurd h
-accepted_run (e ∷ es) [] w s s' h = absurd h
-accepted_run (e ∷ es) (r ∷ rs) w s s' h =
-    accepted_step (is_memory r) w s e r (accepted_events es rs) (accepted_replies rs) h.0 s' refl h.1 (accepted_run es rs (next_session w e r) h.0 s' h.2)
+pub run_with_memory : (es : List Event) (rs : List Reply) (w : SessionState) (s s' : ScreenState) → Run w s es rs s' → Run w s (events_with_memory es rs) (replies_with_memory rs) s'
+run_with_memory [] [] w s s' h = h
+run_with_memory [] (r ∷ rs) w s s' h = absurd h
+run_with_memory (e ∷ es) [] w s s' h = absurd h
+run_with_memory (e ∷ es) (r ∷ rs) w s s' h =
+    step_with_memory (is_memory r) w s e r (events_with_memory es rs) (replies_with_memory rs) h.0 s' refl h.1 (run_with_memory es rs (next_session w e r) h.0 s' h.2)
 
 after_step : (b : Bool) (w : SessionState) (s : ScreenState) (e : Event) (r : Reply) (es fs : List Event) (rs qs : List Reply) (s₁ : ScreenState) → is_memory r ≡ b
     → Steps w s e r (next_session w e r) s₁ → session_after (next_session w e r) fs qs ≡ session_after (next_session w e r) es rs
@@ -99,10 +99,10 @@ after_step false w s e r es fs rs qs s₁ m step more = more
 after_step true w s e r es fs rs qs s₁ m step more = ap (λ q. session_after q fs qs) (sym (step_idle w s e r (next_session w e r) s₁ m step).0) ∙ more
 
 -- and it ends in the same session
-pub accepted_after : (es : List Event) (rs : List Reply) (w : SessionState) (s s' : ScreenState) → Run w s es rs s'
-    → session_after w (accepted_events es rs) (accepted_replies rs) ≡ session_after w es rs
-accepted_after [] [] w s s' h = refl
-accepted_after [] (r ∷ rs) w s s' h = absurd h
-accepted_after (e ∷ es) [] w s s' h = absurd h
-accepted_after (e ∷ es) (r ∷ rs) w s s' h =
-    after_step (is_memory r) w s e r es (accepted_events es rs) rs (accepted_replies rs) h.0 refl h.1 (accepted_after es rs (next_session w e r) h.0 s' h.2)
+pub after_with_memory : (es : List Event) (rs : List Reply) (w : SessionState) (s s' : ScreenState) → Run w s es rs s'
+    → session_after w (events_with_memory es rs) (replies_with_memory rs) ≡ session_after w es rs
+after_with_memory [] [] w s s' h = refl
+after_with_memory [] (r ∷ rs) w s s' h = absurd h
+after_with_memory (e ∷ es) [] w s s' h = absurd h
+after_with_memory (e ∷ es) (r ∷ rs) w s s' h =
+    after_step (is_memory r) w s e r es (events_with_memory es rs) rs (replies_with_memory rs) h.0 refl h.1 (after_with_memory es rs (next_session w e r) h.0 s' h.2)

@@ -44,20 +44,23 @@ new_state title information = record {
   interrupt_mode = Instantly;
 }
 
--- the three answers
+-- the state as it is, to be drawn again
 abbrev pub redraw : State → State × Answer
 redraw s = (s, Redraw)
 
+-- the state as it is, and nothing is to be done
 abbrev pub skip : State → State × Answer
 skip s = (s, Skip)
 
+-- the state as it is, and the dashboard is to stop
 abbrev pub stop : State → State × Answer
 stop s = (s, Stop)
 
--- an offset n rows further down, at most 65535, and n rows further up, at least 0
+-- an offset n rows further down, at most 65535
 abbrev pub down : ℕ → ℕ → ℕ
 down n offset = min (offset + n) 65535
 
+-- an offset n rows further up, at least 0
 abbrev pub up : ℕ → ℕ → ℕ
 up n offset = offset - n
 

@@ -56,8 +56,8 @@ abbrev pub RunsFromNew : SessionOptions → List Event → List Reply → Screen
     → Type 0
 RunsFromNew options es rs s s' = Run (new_session options) s es rs s'
 
--- The step at a place of the list: its event and reply, the screen before and after it, and that it
--- goes from the session after the events before it to the session after it too.
+-- The step of the event at an index, with its reply: it leads from the session after the events
+-- before it to the session after it too, and from the screen before it to the screen after it.
 pub record StepsAt (w : SessionState) (es : List Event) (rs : List Reply) (j : ℕ)
     (s s' : ScreenState) : Type 0 where
   pub event : Event
@@ -78,22 +78,23 @@ abbrev pub StepsAtEach : SessionOptions → List Event → List Reply → Screen
 StepsAtEach options es rs s s' =
     (j : ℕ) → j < length es → StepsAt (new_session options) es rs j s s'
 
--- the events that weren't out of memory, and their replies
-abbrev pub accepted_events : List Event → List Reply → List Event
-accepted_events [] rs = []
-accepted_events (e ∷ es) [] = []
-accepted_events (e ∷ es) (r ∷ rs) =
-    if is_memory r then accepted_events es rs else e ∷ accepted_events es rs
+-- the events that didn't run out of memory
+abbrev pub events_with_memory : List Event → List Reply → List Event
+events_with_memory [] rs = []
+events_with_memory (e ∷ es) [] = []
+events_with_memory (e ∷ es) (r ∷ rs) =
+    if is_memory r then events_with_memory es rs else e ∷ events_with_memory es rs
 
-abbrev pub accepted_replies : List Reply → List Reply
-accepted_replies [] = []
-accepted_replies (r ∷ rs) = if is_memory r then accepted_replies rs else r ∷ accepted_replies rs
+-- their replies
+abbrev pub replies_with_memory : List Reply → List Reply
+replies_with_memory [] = []
+replies_with_memory (r ∷ rs) = if is_memory r then replies_with_memory rs else r ∷ replies_with_memory rs
 
--- the same run without the events that were out of memory, which ends in the same session
-pub record RunsWithoutRefused (options : SessionOptions) (es : List Event) (rs : List Reply)
+-- the run of the events that didn't run out of memory, by themselves, which ends in the same session
+pub record RunsWithMemory (options : SessionOptions) (es : List Event) (rs : List Reply)
     (s s' : ScreenState) : Type 0 where
-  pub run : Run (new_session options) s (accepted_events es rs) (accepted_replies rs) s'
-  pub session : session_after (new_session options) (accepted_events es rs) (accepted_replies rs)
+  pub run : Run (new_session options) s (events_with_memory es rs) (replies_with_memory rs) s'
+  pub session : session_after (new_session options) (events_with_memory es rs) (replies_with_memory rs)
       ≡ session_after (new_session options) es rs
 
 abbrev pub said_for : Tree → Option Slot → ℕ → MessageLevel → List ℕ → List Said

@@ -1,2 +1,2 @@
-//! Renderers, and what they share.
+//! The dashboard.
 pub mod tui;

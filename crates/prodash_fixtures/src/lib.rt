@@ -96,6 +96,15 @@ pub fn messages(alloc: Global, short: &[ShortMessage]) -> Result<Messages, Alloc
     Ok(Messages::new(messages))
 }
 
+/// Copies of the values.
+pub fn clones<T: Clone + Drop>(alloc: Global, values: &[T]) -> Result<Vec<T>, AllocError> {
+    let mut copies = Vec::new(alloc);
+    for value in values {
+        copies.push(value.clone()?)?;
+    }
+    Ok(copies)
+}
+
 /// A screen that takes at most `at_once` bytes at a time, and breaks once it has taken `left` more,
 /// or when it is flushed.
 #[derive(Drop)]

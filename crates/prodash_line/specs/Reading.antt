@@ -27,7 +27,7 @@ NoSignAt bytes = (s : Sign) (rest : List ℕ) → IsProper s → bytes ≡ spell
 abbrev pub is_parameter : ℕ → Bool
 is_parameter b = is_in_range 48 63 b
 
--- the parameters are the codes of no style that has one
+-- the parameters are those of no style that has a code
 abbrev pub NoStyle : List ℕ → Type 0
 NoStyle parameters = (style : Style) → style_codes style ≢ [] → style_parameters style ≡ parameters → ⊥
 

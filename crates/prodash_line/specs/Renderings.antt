@@ -31,8 +31,8 @@ after_result r input (Err refusal) = r
 abbrev pub renderer_after : Renderer → Rendering → Renderer
 renderer_after r x = after_result r x.input x.result
 
--- The inputs are rendered one after another, each from the renderer that those before it leave. Of each this relation holds: of the renderer
--- and the screen before it, the input with what was returned, and the screen after it.
+-- The inputs are rendered one after another, each from the renderer that those before it leave. For each the relation holds between the
+-- renderer and the screen before it, the input with what was returned, and the screen after it.
 abbrev pub RendersEach : (Renderer → ScreenState → Rendering → ScreenState → Type 0) → Renderer → ScreenState → List Rendering → ScreenState → Type 0
 RendersEach P r s [] s' = s' ≡ s
 RendersEach P r s (x ∷ xs) s' =

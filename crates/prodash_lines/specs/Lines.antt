@@ -4,6 +4,7 @@ use Rattle.std.specs.List.{list_any}
 use Rattle.std.specs.Fmt.{decimal}
 use Rattle.prodash_base.specs.declared.messages.MessageLevel.{MessageLevel}
 use Rattle.prodash_base.specs.declared.messages.MessageLevel.TheVariants.{Info, Success, Failure}
+use Rattle.prodash_core.specs.Traits.{unknown_id}
 use Rattle.prodash_core.specs.declared.tree.event.Event.{Event}
 use Rattle.prodash_core.specs.declared.tree.event.Event.TheVariants.{AddChild, Drop, Init, SetName, SetMax, Set, IncBy, Blocked, Halted, Running, Message, Name, Id, Step, Max, NumTasks, Snapshot, CopyMessages, CopyNew, DropRoot, Tick, Resize, Quit}
 use Rattle.prodash_core.specs.declared.tree.event.Event.TheVariants as events
@@ -21,7 +22,7 @@ abbrev pub bound_word : Option ℕ → List ℕ
 bound_word None = codes "-"
 bound_word (Some n) = decimal n
 
--- the word of a message's level
+-- the word of a message's severity
 abbrev pub level_word : MessageLevel → List ℕ
 level_word Info = codes "info"
 level_word Success = codes "done"
@@ -36,10 +37,11 @@ tick_word false = codes "hold"
 abbrev pub IsOneLine : List ℕ → Type 0
 IsOneLine text = IsTrue (not (list_any (λ b. nat_eq b 10) text))
 
--- the line of an event; of some events there is none
+-- the line of an event, which says all of it but which unit its word names; of some events there is
+-- none
 abbrev pub IsLineOf : Event → List ℕ → Type 0
 IsLineOf (AddChild parent name id) line =
-    (line ≡ text_line (codes "add") parent name) × IsOneLine name
+    (line ≡ text_line (codes "add") parent name) × IsOneLine name × (id ≡ unknown_id)
 IsLineOf (Drop item) line = line ≡ word_line (codes "drop") item
 IsLineOf (Init item max unit) line = (word : List ℕ)
     × (line ≡ text_line (codes "init") item (bound_word max ++ codes " " ++ word))
@@ -48,8 +50,10 @@ IsLineOf (SetName item name) line =
 IsLineOf (SetMax item max) line = line ≡ text_line (codes "max") item (bound_word max)
 IsLineOf (Set item step) line = line ≡ text_line (codes "set") item (decimal step)
 IsLineOf (IncBy item step) line = line ≡ text_line (codes "inc") item (decimal step)
-IsLineOf (Blocked item reason eta) line = (line ≡ word_line (codes "blocked") item) × (eta ≡ None)
-IsLineOf (Halted item reason eta) line = (line ≡ word_line (codes "halted") item) × (eta ≡ None)
+IsLineOf (Blocked item reason eta) line =
+    (line ≡ word_line (codes "blocked") item) × (reason.now ≡ codes "replay") × (eta ≡ None)
+IsLineOf (Halted item reason eta) line =
+    (line ≡ word_line (codes "halted") item) × (reason.now ≡ codes "replay") × (eta ≡ None)
 IsLineOf (Running item) line = line ≡ word_line (codes "running") item
 IsLineOf (Message item at level text) line =
     (line ≡ text_line (level_word level) item (decimal at ++ codes " " ++ text)) × IsOneLine text

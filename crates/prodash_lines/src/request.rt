@@ -5,7 +5,7 @@ use prodash_core::tree::Event;
 pub enum Request {
     /// An event.
     Apply(Event),
-    /// An event that adds an item, and the name of the item.
+    /// An event that adds an item, and the word by which the script names the item from then on.
     Name(String, Event),
     /// Nothing: the line is not an event.
     Fault,

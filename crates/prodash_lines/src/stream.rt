@@ -6,10 +6,10 @@ use std::alloc::{AllocError, Global};
 use std::io::Read;
 use std::{io, mem};
 
-/// The most bytes of a line.
+/// The greatest number of bytes of a line.
 pub const LIMIT: usize = 0x1_0000;
 
-/// The most bytes that are read at a time.
+/// The greatest number of bytes that are read at a time.
 const CHUNK: usize = 0x4000;
 
 /// What comes next.
@@ -27,6 +27,13 @@ pub enum Next {
 }
 
 /// Reads lines, and keeps the latest of them alone.
+///
+/// ```rust
+/// let mut lines = Lines::new(alloc, stream);
+/// while lines.advance()? == Next::Line {
+///     print(lines.line())?;
+/// }
+/// ```
 #[derive(Drop)]
 pub struct Lines<I: Read + Drop> {
     alloc: Global,
@@ -107,7 +114,9 @@ impl<I: Read + Drop> Lines<I> {
     }
 
     /// Returns the bytes of the latest line, without its line feed.
-    pub fn line(&self) -> &[u8] {
+    pub fn line(&self) -> &[u8]
+        ensures { length result.now ≤ LIMIT }
+    {
         self.line.bytes.as_slice()
     }
 

@@ -13,7 +13,7 @@ use std::sync::atomic::{AtomicBool, Ordering};
 use std::sync::{Arc, Wait};
 use std::thread::Threads;
 
-/// The most messages that are kept between two frames.
+/// The greatest number of messages that are kept between two frames.
 const MESSAGES: usize = 4096;
 
 /// Shows the events of `input` on `out` until the input ends. Returns how many lines were faulty.

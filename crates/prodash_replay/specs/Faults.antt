@@ -5,7 +5,7 @@ use Rattle.prodash_line.specs.declared.render.line.page.reading.Fault.TheVariant
 use Rattle.prodash_replay.specs.declared.fault.Fault.{Fault}
 use Rattle.prodash_replay.specs.declared.fault.Fault.TheVariants.{Usage, Line, Sign, Input, Output, Memory}
 
--- 2 if the arguments or the input have to be mended, else 1
+-- 2 if the arguments or the input are at fault, else 1
 abbrev pub status_of : Fault → ℕ
 status_of Usage = 2
 status_of (Line n) = 2

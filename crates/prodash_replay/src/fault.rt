@@ -34,7 +34,7 @@ pub enum Fault {
 impl Fault {
     ghost use Rattle.prodash_replay.specs.Faults.{status_of};
 
-    /// The exit status: 2 if the arguments or the input have to be mended, else 1.
+    /// The exit status: 2 if the arguments or the input are at fault, else 1.
     pub fn status(&self) -> u8
         ensures { result ≡ status_of self.now }
     {

@@ -36,6 +36,8 @@ const DEEP: &[&[u16]] = &[
     &[4],
 ];
 
+const NIECE: &[&[u16]] = &[&[1], &[1, 1], &[1, 1, 1], &[1, 2]];
+
 /// The keys of rows, the index of one, on which sides it and its ancestors have siblings, and the
 /// highest level at which they do.
 #[rattlefmt::skip]
@@ -61,6 +63,8 @@ const LOCATIONS: &[(&[&[u16]], usize, Adjacency, Level)] = &[
     (DEEP, 2, Adjacency(Both, No, No, No, No, Above), 6),
     (DEEP, 3, Adjacency(Both, No, No, No, No, No), 1),
     (DEEP, 4, Adjacency(Above, No, No, No, No, No), 1),
+    // an ancestor is above its own level
+    (NIECE, 2, Adjacency(No, Both, Above, No, No, No), 3),
 ];
 
 /// The key of each row is less than that of the next.

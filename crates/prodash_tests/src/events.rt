@@ -1,54 +1,90 @@
-use crate::fixtures::{ShortReply, assert_distinct, reply};
-use prodash::messages::{MessageCopyState, MessageLevel};
-use prodash::progress::{Id, UNKNOWN};
-use prodash::time::Moment;
+use crate::fixtures::{ShortReply, assert_distinct, clones, reply};
+use crate::transcripts::event_of;
+use prodash::progress::UNKNOWN;
 use prodash::tree::{Event, Reply};
+use prodash::unit::label;
 use prodash::{Refusal, Text};
 use std::alloc::{AllocError, Global};
 use std::test::Fail;
 
 /// Events that differ in their kind or in one field each.
-#[rattlefmt::skip]
-fn some_events(alloc: Global) -> Result<Vec<Event>, AllocError> {
-    let state = MessageCopyState::new(1);
-    let mut events = vec![in alloc;
-        Event::Drop { item: 1 }, Event::Drop { item: 2 },
-        Event::Init { item: 1, max: None, unit: None },
-        Event::Init { item: 2, max: None, unit: None },
-        Event::Init { item: 1, max: Some(1), unit: None },
-        Event::Set { item: 1, step: 1 }, Event::Set { item: 2, step: 1 },
-        Event::Set { item: 1, step: 2 },
-        Event::Snapshot, Event::CopyMessages, Event::DropRoot,
-        Event::CopyNew { previous: None }, Event::CopyNew { previous: Some(state) },
-        Event::Tick { at: 0, show: true }, Event::Tick { at: 1, show: true },
-        Event::Tick { at: 0, show: false },
-        Event::Quit { at: 0 }, Event::Quit { at: 1 },
-    ]?;
-    for (parent, name, id) in CHILDREN {
-        let (parent, id) = (*parent, *id);
-        events.push(Event::AddChild { parent, name: Text::from_str(alloc, name)?, id })?;
+const EVENTS: &str = "drop 1
+drop 2
+init 1 - -
+init 2 - -
+init 1 1 -
+init 1 - items
+name 1 a
+name 2 a
+name 1 b
+max 1 -
+max 2 -
+max 1 1
+set 1 1
+set 2 1
+set 1 2
+inc 1 1
+inc 2 1
+inc 1 2
+blocked 1
+blocked 2
+halted 1
+halted 2
+running 1
+running 2
+add 0 a
+add 1 a
+add 0 b
+info 1 0 a
+info 2 0 a
+info 1 1 a
+fail 1 0 a
+info 1 0 b
+name? 1
+name? 2
+id? 1
+id? 2
+step? 1
+step? 2
+max? 1
+max? 2
+unit? 1
+unit? 2
+tasks?
+snapshot
+messages
+new -
+new 1
+droproot
+tick 0
+tick 1
+hold 0
+resize 0 30 4
+resize 1 30 4
+resize 0 31 4
+resize 0 30 5
+resize hidden 30 4
+quit 0
+quit 1";
+
+/// These events, and some that have no line.
+fn some_events(alloc: Global) -> Result<Vec<Event>, Fail> {
+    let mut events = Vec::new(alloc);
+    for line in EVENTS.lines() {
+        events.push(event_of(alloc, line)?)?;
     }
-    for (item, at, level, text) in MESSAGES {
-        let (item, at, level) = (*item, *at, *level);
-        events.push(Event::Message { item, at, level, text: Text::from_str(alloc, text)? })?;
+    for (reason, eta) in [("other", None), ("replay", Some(1))] {
+        let item = 1;
+        events.push(Event::Blocked { item, reason, eta })?;
+        events.push(Event::Halted { item, reason, eta })?;
     }
+    events.push(Event::AddChild {
+        parent: 0,
+        name: Text::from_str(alloc, "a")?,
+        id: [0, 0, 0, 1],
+    })?;
     Ok(events)
 }
-
-const CHILDREN: &[(u64, &str, Id)] = &[
-    (0, "a", UNKNOWN),
-    (1, "a", UNKNOWN),
-    (0, "b", UNKNOWN),
-    (0, "a", [0, 0, 0, 1]),
-];
-
-const MESSAGES: &[(u64, Moment, MessageLevel, &str)] = &[
-    (1, 0, MessageLevel::Info, "a"),
-    (2, 0, MessageLevel::Info, "a"),
-    (1, 1, MessageLevel::Info, "a"),
-    (1, 0, MessageLevel::Failure, "a"),
-    (1, 0, MessageLevel::Info, "b"),
-];
 
 const REPLIES: &[ShortReply] = &[
     ShortReply::Made(1),
@@ -67,17 +103,34 @@ const REPLIES: &[ShortReply] = &[
     ShortReply::Refused(Refusal::Closed),
 ];
 
+/// Replies to the queries of an item, and of the number of tasks.
+#[rattlefmt::skip]
+fn replies_to_queries(alloc: Global) -> Result<Vec<Reply>, AllocError> {
+    Ok(vec![in alloc;
+        Reply::Bound(None), Reply::Bound(Some(1)), Reply::Bound(Some(2)),
+        Reply::Name(None), Reply::Name(Some(Text::from_str(alloc, "a")?)),
+        Reply::Name(Some(Text::from_str(alloc, "b")?)),
+        Reply::Id(UNKNOWN), Reply::Id(*b"TASK"),
+        Reply::Step(1), Reply::Step(2),
+        Reply::Unit(None), Reply::Unit(Some(label("a"))), Reply::Unit(Some(label("b"))),
+        Reply::Count(1), Reply::Count(2),
+    ]?)
+}
+
 fn some_replies(alloc: Global) -> Result<Vec<Reply>, AllocError> {
-    let mut replies = Vec::new(alloc);
+    let mut replies = replies_to_queries(alloc)?;
     for short in REPLIES {
         replies.push(reply(alloc, *short)?)?;
     }
     Ok(replies)
 }
 
+/// Events and replies differ by any field, and equal their clones.
 #[test]
 fn events_and_replies_differ_by_any_field(rt: HostRuntime) -> Result<(), Fail> {
-    assert_distinct(&rt, &some_events(rt.alloc())?, &some_events(rt.alloc())?);
-    assert_distinct(&rt, &some_replies(rt.alloc())?, &some_replies(rt.alloc())?);
+    let events = some_events(rt.alloc())?;
+    assert_distinct(&rt, &events, &clones(rt.alloc(), &events)?);
+    let replies = some_replies(rt.alloc())?;
+    assert_distinct(&rt, &replies, &clones(rt.alloc(), &replies)?);
     Ok(())
 }

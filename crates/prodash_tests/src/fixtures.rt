@@ -3,8 +3,8 @@ use prodash::Refusal;
 use prodash::messages::MessageCopyState;
 use prodash::tree::Reply;
 pub(crate) use prodash_fixtures::{
-    FakeScreen, MESSAGE_FRAME, ShortMessage, ShortRow, TASK_FRAME, TERMINAL, key_at, messages, row,
-    rows,
+    FakeScreen, MESSAGE_FRAME, ShortMessage, ShortRow, TASK_FRAME, TERMINAL, clones, key_at,
+    messages, row, rows,
 };
 use std::alloc::{AllocError, Global};
 use std::fmt::Debug;

@@ -14,7 +14,7 @@ use std::test::*;
 use std::thread::{self, Threads};
 use std::time::Duration;
 
-/// The delay in nanoseconds, unlike the time of a frame.
+/// The delay in nanoseconds, unlike the frame interval.
 const DELAY: u64 = 7;
 
 /// What two messages of `task` are printed as.

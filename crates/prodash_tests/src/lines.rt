@@ -1,6 +1,8 @@
 //! Lines of events: a table has a line, `->`, and what it is read as.
 use crate::fixtures::assert_same;
-use prodash_lines::{Lines, Names, Next, Request, parse, request_of, to_line};
+use prodash::tree::Event;
+use prodash::unit::label;
+use prodash_lines::{LIMIT, Lines, Names, Next, Request, parse, request_of, to_line};
 use std::alloc::{AllocError, Global};
 use std::fmt::Write;
 use std::process::Abort;
@@ -95,6 +97,17 @@ fn writes_the_lines_that_it_reads(rt: HostRuntime) -> Result<(), Fail> {
     Ok(())
 }
 
+#[test]
+fn writes_no_line_for_a_unit_without_a_word(rt: HostRuntime) -> Result<(), Fail> {
+    let event = Event::Init {
+        item: 1,
+        max: None,
+        unit: Some(label("other")),
+    };
+    assert_same(&rt, to_line(rt.alloc(), &event)?.is_none(), true, "no line");
+    Ok(())
+}
+
 /// What a line of a script asks for if `a` names the handle 7 and it is 5.
 fn asked(alloc: Global, line: &[u8]) -> Result<Request, AllocError> {
     let mut names = Names::new(alloc);
@@ -171,9 +184,24 @@ fn tells_a_last_line_that_is_cut_off(rt: HostRuntime) -> Result<(), Fail> {
     Ok(())
 }
 
+/// A stream of a line of this many bytes and of another.
+fn two_lines(alloc: Global, bytes: usize) -> Result<Vec<u8>, AllocError> {
+    let mut stream = vec![in alloc; b'a'; bytes]?;
+    stream.extend_from_slice(b"\nb\n")?;
+    Ok(stream)
+}
+
 #[test]
 fn drops_long_lines(rt: HostRuntime) -> Result<(), Fail> {
-    let mut stream = vec![in rt.alloc(); b'a'; 65_537]?;
-    stream.extend_from_slice(b"\nb\n")?;
+    let stream = two_lines(rt.alloc(), LIMIT + 1)?;
     assert_lines(&rt, rt.alloc(), &stream, "TooLong\nLine b\nEnd\n")
+}
+
+#[test]
+fn keeps_the_longest_line(rt: HostRuntime) -> Result<(), Fail> {
+    let stream = two_lines(rt.alloc(), LIMIT)?;
+    let mut lines = Lines::new(rt.alloc(), stream.as_slice());
+    assert_same(&rt, lines.advance()?, Next::Line, "line");
+    assert_same(&rt, Some(lines.line()), stream.get(..LIMIT), "bytes");
+    Ok(())
 }

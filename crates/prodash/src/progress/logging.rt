@@ -23,9 +23,16 @@ use std::thread::Threads;
 /// The size of the stack of the thread that a log starts, in bytes.
 const STACK_SIZE: usize = 1 << 20;
 
-/// Progress whose steps are logged as lines, at most one in half a second of the clock `K` for all
-/// logs that share it, and whose messages are logged as they are sent. It needs no tree and no
-/// renderer. Contracts see all but its counter.
+/// Progress whose steps are logged as lines, and whose messages are logged as they are sent. A log
+/// and all logs below it together log at most one step per half second of the clock `K`. It needs no
+/// tree and no renderer. Contracts see all but its counter.
+///
+/// ```rust
+/// let mut log = Log::new(&rt, alloc, "main", None, logger, clock)?;
+/// log.init(Some(10), None);
+/// log.set(3);
+/// // logs `main → 3 / 10`
+/// ```
 #[derive(Drop)]
 pub struct Log<L: Logger + Drop, K: Clock + Drop> {
     alloc: Global,
@@ -153,8 +160,8 @@ impl<L: Logger + Drop, K: Clock + Drop> Log<L, K> {
         self.log_step();
     }
 
-    /// Adds `step` to the step, and logs the line of it if one is due. A sum past 2^64 - 1 starts
-    /// again from 0.
+    /// Adds `step` steps to the counter, and logs the line of the sum if one is due. A sum past
+    /// 2^64 - 1 starts again from 0.
     pub fn inc_by(&self, step: Step) {
         self.counter.fetch_add(step, Ordering::SeqCst);
         self.log_step();

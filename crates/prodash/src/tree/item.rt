@@ -144,7 +144,7 @@ impl<R: Wait + Clone + Drop> Item<R> {
         self.steps.set(step);
     }
 
-    /// Adds `step` to the step of the item, without the lock. A sum past 2^64 - 1 starts again
+    /// Adds `step` steps to the item's counter, without the lock. A sum past 2^64 - 1 starts again
     /// from 0.
     pub fn inc_by(&self, step: Step) {
         self.steps.inc_by(step);
@@ -178,7 +178,8 @@ impl<R: Wait + Clone + Drop> Item<R> {
         self.steps.counter()
     }
 
-    /// Adds an item below this one. Below the sixth level it takes the place of a sibling.
+    /// Adds an item below this one. A child of an item at the sixth level gets that item's path with
+    /// the last number replaced, and replaces the entry that is there.
     ///
     /// # Errors
     ///
@@ -192,8 +193,8 @@ impl<R: Wait + Clone + Drop> Item<R> {
         self.add_child_with_id(alloc, name, UNKNOWN)
     }
 
-    /// Adds an item with an identifier below this one. Below the sixth level it takes the place of
-    /// a sibling.
+    /// Adds an item with an identifier below this one. A child of an item at the sixth level gets
+    /// that item's path with the last number replaced, and replaces the entry that is there.
     ///
     /// # Errors
     ///
@@ -238,7 +239,7 @@ impl<R: Wait + Clone + Drop> Item<R> {
             .message(alloc, self.key, at, level, message)
     }
 
-    /// Sends a message that the task is done, at the level `Success`.
+    /// Sends a message that the task is done, with the severity `Success`.
     ///
     /// # Errors
     ///
@@ -251,7 +252,7 @@ impl<R: Wait + Clone + Drop> Item<R> {
         self.message(alloc, at, MessageLevel::Success, message)
     }
 
-    /// Sends a message that the task has failed, at the level `Failure`.
+    /// Sends a message that the task has failed, with the severity `Failure`.
     ///
     /// # Errors
     ///
@@ -264,7 +265,7 @@ impl<R: Wait + Clone + Drop> Item<R> {
         self.message(alloc, at, MessageLevel::Failure, message)
     }
 
-    /// Sends a message with information about the task, at the level `Info`.
+    /// Sends a message with information about the task, with the severity `Info`.
     ///
     /// # Errors
     ///

@@ -132,6 +132,8 @@ impl Locked {
         ensures err_table { OnErr result (self.new.table ≡ self.old.table) }
         ensures err_slots { OnErr result (SameValues self.old.slots.slots self.new.slots.slots) }
         ensures reason { IfErr result (λ e. e ≡ Refusal.Memory) }
+        ensures owners { self.new.owners ≡ self.old.owners }
+        ensures ring { self.new.ring ≡ self.old.ring }
     {
         let key = Key::default().add_child(self.next_child);
         let (slot, steps) = self.insert(alloc, key, name, id)?;
@@ -146,6 +148,9 @@ impl Locked {
         ensures slot { path_in self.new.slots.slots slot ≡ None }
         ensures others { (other : ℕ) → other ≢ slot
             → get self.new.slots.slots other ≡ get self.old.slots.slots other }
+        ensures number { self.new.next_child ≡ self.old.next_child }
+        ensures owners { self.new.owners ≡ self.old.owners }
+        ensures ring { self.new.ring ≡ self.old.ring }
     {
         if let Some(slot) = self.slots.slots.try_remove(slot) {
             self.table.remove(slot.key);
@@ -154,7 +159,7 @@ impl Locked {
 
     /// Counts one owner of the root fewer.
     pub(crate) fn remove_owner(&mut self)
-        ensures { self.new.owners ≡ self.old.owners - 1 }
+        ensures { self.new ≡ record self.old { owners = self.old.owners - 1 } }
     {
         self.owners = self.owners.saturating_sub(1);
     }
@@ -205,8 +210,10 @@ impl Locked {
         unit: Option<Unit>,
     ) -> bool
         ensures found { result ≡ is_some (finite.get self.old.table key) }
-        ensures after { self.new.table ≡ change_at self.old.table key
-            (with_progress (new_progress slot max unit)) }
+        ensures after { self.new ≡ record self.old {
+          table = change_at self.old.table key
+              (with_progress (new_progress slot max unit));
+        } }
     {
         let progress = if max.is_some() || unit.is_some() {
             Some(Counted {
@@ -247,8 +254,16 @@ impl Locked {
         ensures err { OnErr result (self.new.ring ≡ self.old.ring) }
         ensures reason { IfErr result (λ e. (e ≡ Refusal.Memory)
             ⊎ (e ≡ Refusal.TooManyMessages)) }
+        ensures number { self.new.next_child ≡ self.old.next_child }
+        ensures owners { self.new.owners ≡ self.old.owners }
+        ensures table { self.new.table ≡ self.old.table }
+        ensures slots { self.new.slots ≡ self.old.slots }
     {
-        let Locked { table, ring, .. } = self;
+        let Locked {
+            ref table,
+            ref mut ring,
+            ..
+        } = *self;
         let origin = table.name(key).unwrap_or("");
         ring.push_overwrite(alloc, at, level, origin, text)
     }

@@ -1,5 +1,5 @@
 //! Owners of the tree.
-ghost use Rattle.std.specs.Prelude.{◌≡◌, ◌+◌, ◌<◌, ◌⊎◌, ◌↔◌, ℕ, [], Err, not, nat_eq, is_some, IfOk, IfErr, IfSome, OnOk, OnErr};
+ghost use Rattle.std.specs.Prelude.{◌≡◌, ◌+◌, ◌<◌, ◌⊎◌, ◌↔◌, ℕ, [], Err, not, nat_eq, is_some, IfOk, IfErr, IfSome, IfNone, OnOk, OnErr};
 ghost use Rattle.prodash_base.specs.Adjacency.{IsAscending, paths_of};
 ghost use Rattle.prodash_base.specs.Path.{child, child_limit};
 ghost use Rattle.prodash.specs.Items.{new_place};
@@ -111,7 +111,7 @@ impl<R: Wait + Clone + Drop> Root<R> {
         self.shared.lock(&self.rt).table.len()
     }
 
-    /// Returns the most messages that the tree keeps.
+    /// Returns the greatest number of messages that the tree keeps.
     pub fn messages_capacity(&self) -> usize {
         self.shared.lock(&self.rt).ring.capacity()
     }
@@ -206,7 +206,7 @@ impl<R: Wait + Clone + Drop> Root<R> {
     ///
     /// # Errors
     ///
-    /// `Memory`, if the tree or its runtime can't have one more holder.
+    /// `Memory`, if the reference count of the tree or of its runtime is at its limit.
     pub fn downgrade(&self) -> Result<WeakHandle<R>, Refusal>
         ensures { IfErr result (λ e. e ≡ Refusal.Memory) }
     {
@@ -220,8 +220,8 @@ impl<R: Wait + Clone + Drop> Root<R> {
     ///
     /// # Errors
     ///
-    /// `TooManyHandles`, if there are 2^64 - 1 owners. `Memory`, if the tree or its runtime can't
-    /// have one more holder.
+    /// `TooManyHandles`, if there are 2^64 - 1 owners. `Memory`, if the reference count of the tree
+    /// or of its runtime is at its limit.
     pub fn clone(&self) -> Result<Root<R>, Refusal>
         ensures { IfErr result (λ e. (e ≡ Refusal.Memory) ⊎ (e ≡ Refusal.TooManyHandles)) }
     {
@@ -243,8 +243,8 @@ impl<R: Wait + Clone + Drop> WeakHandle<R> {
     ///
     /// # Errors
     ///
-    /// `TooManyHandles`, if there are 2^64 - 1 owners. `Memory`, if the tree or its runtime can't
-    /// have one more holder.
+    /// `TooManyHandles`, if there are 2^64 - 1 owners. `Memory`, if the reference count of the tree
+    /// or of its runtime is at its limit.
     pub fn upgrade(&self) -> Result<Option<Root<R>>, Refusal>
         ensures { IfErr result (λ e. (e ≡ Refusal.Memory) ⊎ (e ≡ Refusal.TooManyHandles)) }
     {
@@ -259,8 +259,9 @@ fn one_more_owner<R: Wait + Clone + Drop>(
     shared: &Arc<Mutex<Locked>>,
     locked: &mut Locked,
 ) -> Result<Root<R>, Refusal>
-    ensures ok { OnOk result (locked.new.owners ≡ locked.old.owners + 1) }
-    ensures err { OnErr result (locked.new.owners ≡ locked.old.owners) }
+    ensures ok { OnOk result
+        (locked.new ≡ record locked.old { owners = locked.old.owners + 1 }) }
+    ensures err { OnErr result (locked.new ≡ locked.old) }
     ensures full { (result ≡ Err Refusal.TooManyHandles) ↔ (locked.old.owners ≡ u64.MAX) }
     ensures reason { IfErr result (λ e. (e ≡ Refusal.Memory) ⊎ (e ≡ Refusal.TooManyHandles)) }
 {
@@ -281,8 +282,9 @@ fn upgraded<R: Wait + Clone + Drop>(
 ) -> Result<Option<Root<R>>, Refusal>
     ensures some { IfOk result (λ root. is_some root ≡ not (nat_eq locked.old.owners 0)) }
     ensures counts { IfOk result (λ root. IfSome root (λ _.
-        locked.new.owners ≡ locked.old.owners + 1)) }
-    ensures err { OnErr result (locked.new.owners ≡ locked.old.owners) }
+        locked.new ≡ record locked.old { owners = locked.old.owners + 1 })) }
+    ensures none { IfOk result (λ root. IfNone root (locked.new ≡ locked.old)) }
+    ensures err { OnErr result (locked.new ≡ locked.old) }
     ensures full { (result ≡ Err Refusal.TooManyHandles) ↔ (locked.old.owners ≡ u64.MAX) }
     ensures reason { IfErr result (λ e. (e ≡ Refusal.Memory) ⊎ (e ≡ Refusal.TooManyHandles)) }
 {

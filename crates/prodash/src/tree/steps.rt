@@ -7,7 +7,7 @@ use std::sync::Arc;
 use std::sync::atomic::Ordering;
 
 /// The counter of an item. Each call but `counter` is one atomic operation; none waits for the
-/// lock of the tree, so code that has no leave to wait can report its steps.
+/// lock of the tree, so code that may not wait can report its steps.
 ///
 /// ```rust
 /// let steps = item.steps();

@@ -87,7 +87,7 @@ impl MessageRingBuffer {
         Ok(MessageRingBuffer { ring, pushed: 0 })
     }
 
-    /// Returns the most messages that the ring keeps.
+    /// Returns the greatest number of messages that the ring keeps.
     pub fn capacity(&self) -> usize
         ensures value { result ≡ self.now.capacity }
         ensures bound { result < 2 ^ 63 }

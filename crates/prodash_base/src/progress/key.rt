@@ -66,7 +66,7 @@ impl Default for Key {
 
 impl Key {
     /// Returns the key of the child with number `n`. A key of the deepest level has no children:
-    /// the call then returns the key of its sibling with that number.
+    /// the call then returns the key with its last number replaced by `n`.
     pub fn add_child(self, n: u16) -> Key
         ensures value { result ≡ child self n }
         ensures path { IsPath result }
@@ -96,7 +96,7 @@ impl Key {
         level <= own.len() && level <= others.len() && own[..level] == others[..level]
     }
 
-    /// Returns the most numbers that a key has, which is 6.
+    /// Returns the greatest number of numbers that a key has, which is 6.
     pub const fn max_level() -> Level
         ensures { result ≡ max_level }
     {

@@ -15,9 +15,9 @@ use std::alloc::{AllocError, Global};
 
 /// Returns the message that says how fast steps were done, as
 /// `done 10 items in 2.50s (4 items/s)`. Steps are shown in `unit`, or as plain `items` if there is
-/// none. The time from `start` to `now` is in seconds, rounded to hundredths, halves up, and is 0
-/// if `now` is before `start`. The steps in a second are rounded down and are at most 2^64 - 1; in
-/// no time, no steps are 0 and others are 2^64 - 1.
+/// none. The time from `start` to `now` is in seconds, rounded to hundredths, halves rounded up,
+/// and is 0 if `now` is before `start`. The steps in a second are rounded down and are at most
+/// 2^64 - 1. In a time of 0 they are 0 if no step was done, and else 2^64 - 1.
 ///
 /// # Errors
 ///

@@ -6,8 +6,8 @@ ghost use Rattle.prodash_base.specs.Quantities.{percentage_of, scale_of, scaled,
 use crate::appending::{push_ascii, push_cut, push_decimal, push_text, undo_if_refused};
 use std::alloc::AllocError;
 
-/// Returns how many hundredths of the bound the value is, rounded down, at most 2^64 - 1. Of the
-/// bound 0, the value 0 is 0 and others are 2^64 - 1.
+/// Returns how many hundredths of the bound the value is, rounded down, at most 2^64 - 1. With the
+/// bound 0 it is 0 for the value 0, and else 2^64 - 1.
 pub(super) fn percentage_of(value: u64, bound: u64) -> u64
     ensures { result ≡ percentage_of value bound }
 {

@@ -14,6 +14,12 @@ use std::alloc::AllocError;
 /// these are. For a call that shows the same as a label, [`label_texts`](super::label_texts) has
 /// a function of the same name, and [`label_throughput`](DisplayValue::label_throughput) is that
 /// for throughputs.
+///
+/// ```rust
+/// let mut text = String::new(alloc);
+/// Bytes.display_current_value(&mut text, 1999, None)?;
+/// assert_eq!(rt; text.as_str(), "1.9kB");
+/// ```
 pub trait DisplayValue {
     /// The text of each call.
     ghost shown: { Self → Shown };

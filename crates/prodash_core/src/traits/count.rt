@@ -30,7 +30,7 @@ pub trait Count {
     fn step(&self) -> Step
         ensures { shows self.now result };
 
-    /// Adds `step` to the step.
+    /// Adds `step` steps to the counter.
     fn inc_by(&self, step: Step)
         ensures { was_raised self.now step };
 

@@ -14,6 +14,14 @@ use prodash_base::unit::{Unit, throughput_message};
 use std::alloc::Global;
 
 /// The progress of a task.
+///
+/// ```rust
+/// fn count<P: Progress>(alloc: Global, task: &mut P, now: Moment) -> Result<(), Refusal> {
+///     task.init(Some(10), None);
+///     task.inc_by(10);
+///     task.done(alloc, now, "counted")
+/// }
+/// ```
 pub trait Progress: Count + Send + Sync {
     ghost use Rattle.std.specs.Prelude.{ℕ, List, Option};
     ghost use Rattle.prodash_base.specs.declared.messages.MessageLevel.{MessageLevel};
@@ -109,7 +117,7 @@ pub trait Progress: Count + Send + Sync {
         ensures ok { OnOk result (was_sent self.now at level message.now) }
         ensures reason { IfErr result (λ e. (e ≡ Refusal.Memory) ⊎ (e ≡ Refusal.TooManyMessages)) };
 
-    /// Sends a message with information about the task, at the level `Info`.
+    /// Sends a message with information about the task, with the severity `Info`.
     ///
     /// # Errors
     ///
@@ -121,7 +129,7 @@ pub trait Progress: Count + Send + Sync {
         self.message(alloc, at, MessageLevel::Info, message)
     }
 
-    /// Sends a message that the task is done, at the level `Success`.
+    /// Sends a message that the task is done, with the severity `Success`.
     ///
     /// # Errors
     ///
@@ -133,7 +141,7 @@ pub trait Progress: Count + Send + Sync {
         self.message(alloc, at, MessageLevel::Success, message)
     }
 
-    /// Sends a message that the task has failed, at the level `Failure`.
+    /// Sends a message that the task has failed, with the severity `Failure`.
     ///
     /// # Errors
     ///
@@ -153,6 +161,7 @@ pub trait Progress: Count + Send + Sync {
     /// As `message`. The text is made first.
     fn show_throughput(&self, alloc: Global, start: Moment, now: Moment) -> Result<(), Refusal>
         ensures ok { OnOk result ((step : ℕ) × (unit : Option _) × Self.shows self.now step
+            × IfSome unit (λ unit. has_unit self.now unit)
             × was_sent self.now now Info
             (texts.throughput_message (unit_shown unit) step (now - start))) }
         ensures reason { IfErr result (λ e. (e ≡ Refusal.Memory) ⊎ (e ≡ Refusal.TooManyMessages)) }
@@ -187,6 +196,11 @@ pub trait Progress: Count + Send + Sync {
 }
 
 /// The progress of a task that can have tasks below it.
+///
+/// ```rust
+/// let mut part = task.add_child(alloc, "part")?;
+/// part.init(Some(3), None);
+/// ```
 pub trait NestedProgress: Progress {
     ghost use Rattle.std.specs.Prelude.{ℕ, List};
 

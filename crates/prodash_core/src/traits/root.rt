@@ -107,7 +107,7 @@ pub trait Root {
     ///
     /// # Errors
     ///
-    /// `Memory`, if the root can't have one more holder.
+    /// `Memory`, if the reference count of the root is at its limit.
     fn downgrade(&self) -> Result<Self::WeakRoot, Refusal>
         ensures ok { IfOk result (λ handle. has_handle self.now handle) }
         ensures reason { IfErr result (λ e. e ≡ Refusal.Memory) };
@@ -127,8 +127,8 @@ pub trait WeakRoot {
     ///
     /// # Errors
     ///
-    /// `TooManyHandles`, if there are 2^64 - 1 owners. `Memory`, if the root can't have one more
-    /// holder.
+    /// `TooManyHandles`, if there are 2^64 - 1 owners. `Memory`, if the reference count of the root
+    /// is at its limit.
     fn upgrade(&self) -> Result<Option<Self::Root>, Refusal>
         ensures ok { IfOk result (λ root. finds self.now root) }
         ensures reason { IfErr result (λ e. (e ≡ Refusal.Memory) ⊎ (e ≡ Refusal.TooManyHandles)) };

@@ -135,20 +135,20 @@ pub enum Event {
         /// The state that the earlier event returned. Without one all messages are new.
         previous: Option<MessageCopyState>,
     },
-    /// Drops the root. Its handle is no longer valid, but those of items are.
+    /// Drops the root. Its handle is no longer valid; those of items stay valid.
     DropRoot,
     /// Draws a frame: prints the new messages, and draws the rows if they are shown and have
     /// changed. Without a root it is a closing frame, and so it is without tasks, unless the
     /// renderer is to keep running.
     Tick {
-        /// The time of the frame.
+        /// The moment of the frame.
         at: Moment,
         /// Whether the rows are shown or hidden.
         show: bool,
     },
     /// Sets the size of the terminal, and draws the rows of the latest tick if they are shown.
     Resize {
-        /// The time of the frame.
+        /// The moment of the frame.
         at: Moment,
         /// Whether the rows are shown or hidden.
         show: bool,
@@ -159,7 +159,7 @@ pub enum Event {
     },
     /// Draws a closing frame: blanks the rows on screen. Further frames are refused.
     Quit {
-        /// The time of the frame.
+        /// The moment of the frame.
         at: Moment,
     },
 }

@@ -1,6 +1,6 @@
 //! Whole runs.
 ghost use Rattle.std.specs.Prelude.{◌≡◌, IfOk, IfErr};
-ghost use Rattle.prodash_core.specs.Runs.{RunsFromNew, StepsAtEach, RunsWithoutRefused, KeepsMessages, EachBreaksExactly, EachFlushes, WritesFrames, ShowsOnPages, StaysFlushed};
+ghost use Rattle.prodash_core.specs.Runs.{RunsFromNew, StepsAtEach, RunsWithMemory, KeepsMessages, EachBreaksExactly, EachFlushes, WritesFrames, ShowsOnPages, StaysFlushed};
 
 use crate::tree::event::{Event, Reply};
 use crate::tree::options::SessionOptions;
@@ -43,9 +43,9 @@ pub fn run<S: Screen>(
         StepsAtEach options.now events.now replies.items
         (S.state screen.old) (S.state screen.new)) }
 
-    // The run is also that of the events that weren't out of memory.
-    ensures accepted { IfOk result (λ replies.
-        RunsWithoutRefused options.now events.now replies.items
+    // The events that didn't run out of memory, by themselves, have the same run.
+    ensures with_memory { IfOk result (λ replies.
+        RunsWithMemory options.now events.now replies.items
         (S.state screen.old) (S.state screen.new)) }
 
     // After each prefix of the events, the messages that are kept are the latest of all so far.

@@ -20,6 +20,13 @@ use std::alloc::Global;
 use std::marker::Model;
 
 /// The table of tasks, the handles and the messages of a session. Contracts see a `Tree`.
+///
+/// ```rust
+/// let mut tree = TreeState::new(alloc, &RootOptions::default())?;
+/// let name = Text::from_str(alloc, "task")?;
+/// tree.apply(alloc, &Event::AddChild { parent: 0, name, id: UNKNOWN })?;
+/// let rows = tree.rows(alloc)?;
+/// ```
 #[derive(Drop)]
 pub struct TreeState {
     table: TreeCore<Handle>,

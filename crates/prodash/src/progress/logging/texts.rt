@@ -59,7 +59,7 @@ pub(super) fn message_line(
     Ok(format!(in alloc; "{sign}{name} → {message}")?)
 }
 
-/// Returns the sign of a level.
+/// Returns the sign of a severity.
 fn sign_of(level: MessageLevel) -> &'static str
     ensures { result.now ≡ sign_of level }
 {

@@ -15,7 +15,8 @@ const INTERVAL: u64 = 500_000_000;
 ///
 /// # Errors
 ///
-/// `NoThread`, if the thread can't be started. `Memory`, if the runtime can't have one more holder.
+/// `NoThread`, if the thread can't be started. `Memory`, if the reference count of the runtime is at
+/// its limit.
 pub(super) fn start<R, K>(
     rt: &R,
     trigger: Arc<AtomicBool>,

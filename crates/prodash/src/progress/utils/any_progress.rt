@@ -19,6 +19,11 @@ use std::sync::Wait;
 
 /// Progress of any kind that this crate has, for code whose type of progress is known only when it
 /// runs. A child is of the same kind as its parent.
+///
+/// ```rust
+/// let mut any = if quiet { AnyProgress::Discard(Discard) } else { AnyProgress::Item(item) };
+/// any.init(Some(10), None);
+/// ```
 #[derive(Drop)]
 pub enum AnyProgress<R: Wait + Clone + Drop, L: Logger + Drop, K: Clock + Drop> {
     /// An item of a tree.

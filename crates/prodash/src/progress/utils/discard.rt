@@ -1,5 +1,5 @@
 //! Progress that is discarded.
-ghost use Rattle.std.specs.Prelude.{◌≡◌, None, false, is_err};
+ghost use Rattle.std.specs.Prelude.{◌≡◌, None, Ok, false, is_err};
 ghost use Rattle.prodash_core.specs.Traits.{unknown_id};
 
 use crate::messages::MessageLevel;
@@ -53,11 +53,15 @@ impl Progress for Discard {
 
     fn init(&mut self, _max: Option<Step>, _unit: Option<Unit>) {}
 
-    fn set_name(&mut self, _alloc: Global, _name: &str) -> Result<(), Refusal> {
+    fn set_name(&mut self, _alloc: Global, _name: &str) -> Result<(), Refusal>
+        ensures { is_err result ≡ false }
+    {
         Ok(())
     }
 
-    fn name(&self, _alloc: Global) -> Result<Option<String>, Refusal> {
+    fn name(&self, _alloc: Global) -> Result<Option<String>, Refusal>
+        ensures { result ≡ Ok None }
+    {
         Ok(None)
     }
 
@@ -71,7 +75,9 @@ impl Progress for Discard {
         _at: Moment,
         _level: MessageLevel,
         _message: &str,
-    ) -> Result<(), Refusal> {
+    ) -> Result<(), Refusal>
+        ensures { is_err result ≡ false }
+    {
         Ok(())
     }
 }

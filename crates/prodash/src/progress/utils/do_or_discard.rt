@@ -16,6 +16,13 @@ use std::mem;
 
 /// Progress, or progress that discards all calls. It is made from an `Option`. A child is discarded
 /// exactly if its parent is.
+///
+/// ```rust
+/// let mut progress = DoOrDiscard::from(Some(item));
+/// progress.set(3);
+/// let item = progress.take();
+/// // `progress` discards from now on
+/// ```
 #[derive(Drop)]
 pub struct DoOrDiscard<T> {
     inner: Either<T, Discard>,

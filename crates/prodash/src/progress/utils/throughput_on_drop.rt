@@ -10,9 +10,15 @@ use prodash_core::traits::{Count, NestedProgress, Progress};
 use std::alloc::Global;
 use std::sync::Arc;
 
-/// Progress that sends a message when it is dropped, which says how fast the steps were done that
-/// the progress is at, as `done 10 items in 2.50s (4 items/s)`. The time counts from when it was
-/// made. A message that is refused is left out.
+/// Progress that, when it is dropped, sends a message that says how fast it came to its step, as
+/// `done 10 items in 2.50s (4 items/s)`. The time counts from when it was made. A message that is
+/// refused is left out.
+///
+/// ```rust
+/// let mut timed = ThroughputOnDrop::new(alloc, item, clock);
+/// timed.inc_by(10);
+/// drop(timed);
+/// ```
 pub struct ThroughputOnDrop<T: Progress + Drop, K: Clock + Drop> {
     alloc: Global,
     inner: T,

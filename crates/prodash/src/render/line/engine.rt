@@ -1,4 +1,4 @@
-//! Drawing from a thread of its own: a tree is drawn once a frame, until its root is gone or the
+//! Draws a tree from threads of its own: one frame per interval, until its root is gone or the
 //! handle of the renderer ends it.
 mod event;
 mod handle;

@@ -1,5 +1,5 @@
 //! What the locks of a recorded tree protect.
-ghost use Rattle.std.specs.Prelude.{◌≡◌, ◌+◌, ◌<◌, ◌≤◌, ◌↔◌, ◌++◌, ◌∷◌, [], Ok, Err, false, IsTrue, IfOk, IfSome, OnOk, OnErr, length};
+ghost use Rattle.std.specs.Prelude.{◌≡◌, ◌+◌, ◌<◌, ◌≤◌, ◌↔◌, ◌++◌, ◌∷◌, [], Ok, Err, true, false, is_some, IsTrue, IfOk, IfSome, OnOk, OnErr, length};
 ghost use Rattle.std.specs.Option.{ForSome, ForNone};
 ghost use Rattle.prodash_core.specs.Trees.{is_frame, Plays};
 ghost use Rattle.prodash.specs.Journals.{no_calls, with_call, amount, calls_of, sum_of};
@@ -151,6 +151,8 @@ impl<C: TreeLedger, S: Ledger> Locked<C, S> {
             IfSome self.old.state (λ old. IfSome self.new.state (λ new.
             Plays old.tree event.now (Ok r) new.tree
             × (new.entries ≡ old.entries ++ (event.now, r) ∷ [])))) }
+        ensures states { OnOk result ((is_some self.old.state ≡ true)
+            × (is_some self.new.state ≡ true)) }
         ensures ok { OnOk result (share.new ≡ with_call share.old event.now) }
         ensures err { OnErr result ((share.new ≡ share.old)
             × (self.new.state ≡ self.old.state)) }

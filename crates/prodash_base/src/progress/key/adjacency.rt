@@ -10,14 +10,14 @@ pub enum SiblingLocation {
     Below,
     /// On both sides.
     AboveAndBelow,
-    /// On neither side. An ancestor that has siblings on one side only is `NotFound` too, as is
-    /// each level past that of the item.
+    /// On neither side; for an ancestor also on one side only. So is each level past the item's own.
     #[default]
     NotFound,
 }
 
-/// The sides on which an item and its ancestors have siblings, from level 1 to level 6. The root
-/// counts as above level 1, and the parent of an item as above the item.
+/// The sides on which an item and its ancestors have siblings, from level 1 to level 6. Above counts
+/// more than siblings: at level 1 the root, at the item's own level its parent, and at that of an
+/// ancestor the row of that ancestor itself.
 ///
 /// ```rust
 /// let adjacency = Key::adjacency(rows.as_slice(), index);

@@ -77,7 +77,7 @@ impl State {
     /// Handles an event, and returns what is to be done. It never takes memory.
     ///
     /// - A tick, another window size, another title and other information are to be drawn.
-    /// - `Esc`, `q`, `c` and `[` with control are requests to interrupt. The answer is `Stop`, or
+    /// - `Esc`, `q`, and Control with `c` or `[` are requests to interrupt. The answer is `Stop`, or
     ///   `Redraw` if they are deferred, and then the request waits until the mode is `Instantly`.
     /// - `` ` `` and `~` toggle whether messages are hidden and whether they are maximized, `[` and
     ///   `{` the same of the information.

@@ -102,7 +102,7 @@ fn erase_row(rows: &mut Vec<Vec<char>>, columns: u16, row: usize)
 impl Page {
     /// Returns a page of `rows` blank rows, all in the window, with the cursor at its beginning.
     ///
-    /// `Memory`: it is out of memory.
+    /// `Memory`: the call ran out of memory.
     pub fn new(alloc: Global, columns: u16, rows: u16) -> Result<Self, Refusal>
         requires wide { 0 < columns }
         requires high { 0 < rows }
@@ -125,7 +125,7 @@ impl Page {
 
     /// Writes one sign.
     ///
-    /// `Memory`: it is out of memory, and the page is as it was.
+    /// `Memory`: the call ran out of memory, and the page is as it was.
     pub fn apply(&mut self, alloc: Global, sign: &Sign) -> Result<(), Refusal>
         ensures ok { OnOk result (self.new ≡ after_sign sign.now self.old) }
         ensures err { OnErr result (self.new ≡ self.old) }

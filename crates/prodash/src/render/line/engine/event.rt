@@ -7,14 +7,14 @@ pub enum EngineEvent {
     /// Looks at the root: prints its new messages, and draws its rows if they are shown and have
     /// changed. Without a root it closes the renderer.
     Tick {
-        /// The time of the frame.
+        /// The moment of the frame.
         at: Moment,
         /// Whether the rows are shown or hidden. Hidden rows are remembered, and not drawn.
         show: bool,
     },
     /// Sets the size of the terminal, and draws the rows of the latest tick if they are shown.
     Resize {
-        /// The time of the frame.
+        /// The moment of the frame.
         at: Moment,
         /// Whether the rows are shown or hidden.
         show: bool,
@@ -25,7 +25,7 @@ pub enum EngineEvent {
     },
     /// Closes the renderer.
     Quit {
-        /// The time of the frame.
+        /// The moment of the frame.
         at: Moment,
     },
 }

@@ -19,7 +19,7 @@ use std::thread::{Builder, Threads};
 pub struct StackSizes {
     /// The thread that draws.
     pub event_loop: usize,
-    /// The thread that asks for a frame after each frame's time.
+    /// The thread that asks for a frame after each frame interval.
     pub ticker: usize,
     /// The thread that shows the rows after the initial delay. Without a delay it isn't started.
     pub delay: usize,
@@ -36,7 +36,7 @@ impl Default for StackSizes {
 }
 
 /// Draws the tree of a weak root onto a writer, from threads of its own: one frame at once, and one
-/// more after each frame's time. It ends when the root has no owner, when the writer fails, when a
+/// more after each frame interval. It ends when the root has no owner, when the writer fails, when a
 /// frame sees no rows and the renderer isn't to keep running, or when the handle ends it.
 ///
 /// A frame that runs out of memory, or can't own the root, is left out.
@@ -191,7 +191,7 @@ fn starts_delay<
 }
 
 /// The event loop: draws a frame for each request, until the renderer has ended. A quit that is
-/// refused for now is tried again after a frame's time.
+/// refused for now is tried again after the frame interval.
 fn run<
     R: Wait + Drop,
     K: Clock + Drop,
@@ -238,7 +238,7 @@ fn event_of<R: Wait + Drop, K: Clock + Drop>(
     }
 }
 
-/// The ticker: asks for a frame and sleeps for a frame's time, until the event loop has ended.
+/// The ticker: asks for a frame and sleeps for the frame interval, until the event loop has ended.
 fn tick<R: Wait + Drop, K: Clock + Drop>(shared: Shared<R, K>) {
     if !shared.mailbox.has_begun(&shared.rt) {
         return;

@@ -1,6 +1,6 @@
 use Rattle.std.proofs.Common.{arith, [], refl}
 use Rattle.std.proofs.lemmas.Grind.{common_steps}
-use Rattle.prodash_core.proofs.RunLaws.{completes_more, completes_all, pushed_is, run_renders, steps_at, accepted_run, accepted_after}
+use Rattle.prodash_core.proofs.RunLaws.{completes_more, completes_all, pushed_is, run_renders, steps_at, run_with_memory, after_with_memory}
 use Rattle.prodash_core.proofs.AllSaid.{rings_of_prefixes}
 use Rattle.prodash_line.proofs.Renderings.{writes_attempts, breaks_exactly, flushes_each, stays_flushed}
 use Rattle.prodash_line.proofs.PageRenderings.{shows_on_page}
@@ -21,10 +21,10 @@ returns-clause-steps g c = completes_all _ _ _ c.loop-event.replies.items _ _ _ 
 pub returns-clause-each : goal.returns-clause-each
 returns-clause-each g c = λ j l. steps_at j c.args.events.now c.loop-event.replies.items _ _ _ (returns-clause-steps g c) l
 
-pub returns-clause-accepted : goal.returns-clause-accepted
-returns-clause-accepted g c = record {
-  run = accepted_run c.args.events.now c.loop-event.replies.items _ _ _ (returns-clause-steps g c);
-  session = accepted_after c.args.events.now c.loop-event.replies.items _ _ _ (returns-clause-steps g c);
+pub returns-clause-with_memory : goal.returns-clause-with_memory
+returns-clause-with_memory g c = record {
+  run = run_with_memory c.args.events.now c.loop-event.replies.items _ _ _ (returns-clause-steps g c);
+  session = after_with_memory c.args.events.now c.loop-event.replies.items _ _ _ (returns-clause-steps g c);
 }
 
 pub returns-clause-messages : goal.returns-clause-messages

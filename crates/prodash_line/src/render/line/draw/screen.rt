@@ -58,7 +58,7 @@ pub trait Screen {
 
     /// Flushes all bytes taken so far.
     ///
-    /// `Broken`: the screen is broken, and what was taken may not be flushed.
+    /// `Broken`: the screen is broken, and what was taken might not have been flushed.
     fn flush(&mut self) -> Result<(), Refusal>
         ensures same { (state self.new).bytes ≡ (state self.old).bytes }
         ensures flushed { OnOk result ((state self.new).flushed ≡ (state self.new).bytes) }

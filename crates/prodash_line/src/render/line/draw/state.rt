@@ -135,7 +135,8 @@ impl Model for State {
 }
 
 impl State {
-    /// Returns the state of a renderer that has drawn nothing yet, and whether it shows throughput.
+    /// Returns the state of a renderer that has drawn nothing yet. `throughput` says whether it
+    /// measures throughput, for the units that show it.
     pub fn new(alloc: Global, options: Options, throughput: bool) -> State
         ensures { result ≡ new_renderer options throughput }
     {

@@ -17,9 +17,9 @@ use std::alloc::{AllocError, AllocFailed, Global};
 /// Why bytes could not be read as signs.
 #[derive(Clone, Copy, Debug, PartialEq, Eq)]
 pub enum Fault {
-    /// The bytes before this index spell signs, and those from it on begin with none.
+    /// The bytes before this index spell signs, and no sign begins at it.
     At(usize),
-    /// It is out of memory.
+    /// The call ran out of memory.
     Memory,
 }
 
