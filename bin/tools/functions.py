@@ -87,7 +87,8 @@ def split_parameters(text):
 
 def names_in(text):
     """Returns the names in a type, each the last of its path, with a capital."""
-    return [it[:1].upper() + it[1:] for it in re.findall(r"(?<!')\b[A-Za-z_]\w*\b(?!\s*::)", text)]
+    found = re.findall(r"(?:(&)\s*(?:'\w+\s*)?(mut\s+)?)?(?<!')\b([A-Za-z_]\w*)\b(?!\s*::)", text)
+    return ["Ref" * bool(ref) + "Mut" * bool(mut) + it[:1].upper() + it[1:] for ref, mut, it in found]
 
 
 def parameter_names(text):
