@@ -1,6 +1,8 @@
 //! A journal as lines: what two workers did is written, read again, and done on a new tree.
 use crate::fixtures::assert_same;
-use crate::recorded::{Case, Running, add, call_lines, closed, join_all, on_new_tree};
+use crate::recorded::{
+    Case, Running, add, assert_replayed, call_lines, closed, join_all, on_new_tree,
+};
 use crate::transcripts::Task;
 use prodash::Refusal;
 use prodash::tree::recorded::{Journal, RecordedItem, RecordedRoot, TreeLedger};
@@ -96,14 +98,10 @@ fn replayed<C: TreeLedger>(
     alloc: Global,
     events: &[Event],
     journal: &Journal<C>,
-) -> Result<TreeState, Fail> {
+) -> Result<TreeState, Refusal> {
     let mut tree = TreeState::new(alloc, &RootOptions::default())?;
     for (event, (_, reply)) in events.iter().zip(journal.entries().iter()) {
-        if event.is_frame() {
-            return Err(Fail::new("a frame"));
-        }
-        let got = tree.apply(alloc, event)?;
-        assert!(rt; got == *reply, "another reply");
+        assert_replayed(rt, alloc, &mut tree, event, reply)?;
     }
     Ok(tree)
 }

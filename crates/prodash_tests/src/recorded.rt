@@ -163,6 +163,22 @@ pub(crate) fn call_lines<C: TreeLedger, S: Ledger>(
     Ok(())
 }
 
+/// A tree replies to an event of no frame as an entry says.
+pub(crate) fn assert_replayed(
+    rt: &impl Abort,
+    alloc: Global,
+    tree: &mut TreeState,
+    event: &Event,
+    want: &Reply,
+) -> Result<(), Refusal> {
+    if event.is_frame() {
+        return Err(Refusal::Closed);
+    }
+    let got = tree.apply(alloc, event)?;
+    assert!(rt; got == *want, "another reply");
+    Ok(())
+}
+
 /// A new tree that gets the events of a journal has its replies.
 fn replayed<C: TreeLedger>(
     rt: &impl Abort,
@@ -171,11 +187,7 @@ fn replayed<C: TreeLedger>(
 ) -> Result<TreeState, Refusal> {
     let mut tree = TreeState::new(alloc, &RootOptions::default())?;
     for (event, reply) in journal.entries() {
-        if event.is_frame() {
-            return Err(Refusal::Closed);
-        }
-        let got = tree.apply(alloc, event)?;
-        assert!(rt; got == *reply, "another reply");
+        assert_replayed(rt, alloc, &mut tree, event, reply)?;
     }
     Ok(tree)
 }

@@ -2,9 +2,10 @@ ghost use Rattle.std.specs.Prelude.{◌≡◌};
 
 use crate::fixtures::{ShortRow, assert_same, key_at, messages, rows};
 use crate::transcripts::event_of;
+use prodash::Refusal;
 use prodash::messages::{MessageCopyState, Messages};
 use prodash::progress::{Key, Rows, State, Step, UNKNOWN};
-use prodash::tree::{Counted, Counters, RootOptions, TreeCore, TreeState};
+use prodash::tree::{Counted, Counters, Event, RootOptions, TreeCore, TreeState};
 use prodash::unit::{Bytes, Kind, Unit, dynamic};
 use std::alloc::Global;
 use std::process::Abort;
@@ -78,15 +79,20 @@ info 2 0 y";
 
 const ROWS: &[ShortRow] = &[(&[0], "a", None), (&[0, 0], "b", Some((3, Some(10))))];
 
+/// Applies an event that is no frame.
+fn apply(alloc: Global, tree: &mut TreeState, event: &Event) -> Result<(), Refusal> {
+    if event.is_frame() {
+        return Err(Refusal::Closed);
+    }
+    tree.apply(alloc, event)?;
+    Ok(())
+}
+
 /// A tree after all events.
 fn grown(alloc: Global) -> Result<TreeState, Fail> {
     let mut tree = TreeState::new(alloc, &RootOptions::default())?;
     for line in EVENTS.lines() {
-        let event = event_of(alloc, line)?;
-        if event.is_frame() {
-            return Err(Fail::new("a frame"));
-        }
-        tree.apply(alloc, &event)?;
+        apply(alloc, &mut tree, &event_of(alloc, line)?)?;
     }
     Ok(tree)
 }
