@@ -5,6 +5,7 @@ pub mod Adjacency
 pub mod Lends
 pub mod Messages
 pub mod Rings
+pub mod Appending
 pub mod Numerals
 pub mod Quantities
 pub mod Shown

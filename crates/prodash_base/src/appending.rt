@@ -2,7 +2,8 @@
 //!
 //! A call named `push_..` may have appended a part of its text if it is out of memory: what was in
 //! the string is a prefix of what is in it then. A call named `append_..` appends all or nothing.
-ghost use Rattle.std.specs.Prelude.{◌≡◌, ◌+◌, ◌*◌, ◌/◌, ◌%◌, ◌^◌, ◌<◌, ◌≤◌, ◌∷◌, [], ◌++◌, max, min, OnOk, OnErr, string_bytes, take};
+ghost use Rattle.std.specs.Prelude.{◌≡◌, ◌+◌, ◌*◌, ◌/◌, ◌%◌, ◌^◌, ◌<◌, ◌≤◌, ◌∷◌, [], max, min, OnOk, OnErr, string_bytes, take};
+ghost use Rattle.prodash_base.specs.Appending.{Appends};
 ghost use Rattle.std.specs.Fmt.{decimal};
 ghost use Rattle.std.specs.String.Boundary.{IsSplitPoint};
 ghost use Rattle.prodash_base.specs.plumbing.Prefixes.{IsPrefix};
@@ -31,7 +32,7 @@ pub(crate) fn undo_if_refused(
 
 /// Appends a text.
 pub(crate) fn push_text(out: &mut String, text: &str) -> Result<(), AllocError>
-    ensures ok { OnOk result (string_bytes out.new ≡ string_bytes out.old ++ text.now) }
+    ensures ok { OnOk result (Appends out.old text.now out.new) }
     ensures kept { IsPrefix (string_bytes out.old) (string_bytes out.new) }
 {
     out.push_str(text)
@@ -40,7 +41,7 @@ pub(crate) fn push_text(out: &mut String, text: &str) -> Result<(), AllocError>
 /// Appends an ASCII character.
 pub(crate) fn push_ascii(out: &mut String, byte: u8) -> Result<(), AllocError>
     requires { byte < 128 }
-    ensures ok { OnOk result (string_bytes out.new ≡ string_bytes out.old ++ byte ∷ []) }
+    ensures ok { OnOk result (Appends out.old (byte ∷ []) out.new) }
     ensures kept { IsPrefix (string_bytes out.old) (string_bytes out.new) }
 {
     out.push(byte as char)
@@ -48,7 +49,7 @@ pub(crate) fn push_ascii(out: &mut String, byte: u8) -> Result<(), AllocError>
 
 /// Appends a number in decimal digits.
 pub(crate) fn push_decimal(out: &mut String, n: u64) -> Result<(), AllocError>
-    ensures ok { OnOk result (string_bytes out.new ≡ string_bytes out.old ++ decimal n) }
+    ensures ok { OnOk result (Appends out.old (decimal n) out.new) }
     ensures kept { IsPrefix (string_bytes out.old) (string_bytes out.new) }
 {
     push_text(out, Buffer::new().format(n))
@@ -56,7 +57,7 @@ pub(crate) fn push_decimal(out: &mut String, n: u64) -> Result<(), AllocError>
 
 /// Appends a number in decimal digits, or nothing.
 pub(crate) fn append_decimal(out: &mut String, n: u128) -> Result<(), AllocError>
-    ensures ok { OnOk result (string_bytes out.new ≡ string_bytes out.old ++ decimal n) }
+    ensures ok { OnOk result (Appends out.old (decimal n) out.new) }
     ensures err { OnErr result (string_bytes out.new ≡ string_bytes out.old) }
 {
     out.push_str(Buffer::new().format(n))
@@ -64,7 +65,7 @@ pub(crate) fn append_decimal(out: &mut String, n: u128) -> Result<(), AllocError
 
 /// Appends the last digits of a number, with leading zeros if it has fewer than `places`.
 pub(crate) fn push_last_digits(out: &mut String, places: u8, n: u128) -> Result<(), AllocError>
-    ensures ok { OnOk result (string_bytes out.new ≡ string_bytes out.old ++ last_digits places n) }
+    ensures ok { OnOk result (Appends out.old (last_digits places n) out.new) }
     ensures kept { IsPrefix (string_bytes out.old) (string_bytes out.new) }
 {
     if places == 0 {
@@ -76,8 +77,7 @@ pub(crate) fn push_last_digits(out: &mut String, places: u8, n: u128) -> Result<
 
 /// Appends a decimal point and the last digits of a number, or nothing if `places` is 0.
 pub(crate) fn push_after_point(out: &mut String, places: u8, n: u128) -> Result<(), AllocError>
-    ensures ok { OnOk result
-        (string_bytes out.new ≡ string_bytes out.old ++ after_point (last_digits places n)) }
+    ensures ok { OnOk result (Appends out.old (after_point (last_digits places n)) out.new) }
     ensures kept { IsPrefix (string_bytes out.old) (string_bytes out.new) }
 {
     if places == 0 {
@@ -89,8 +89,8 @@ pub(crate) fn push_after_point(out: &mut String, places: u8, n: u128) -> Result<
 
 /// Appends a decimal point and the last digits of a number, without the zeros at their end.
 pub(crate) fn push_without_zeros(out: &mut String, places: u8, n: u128) -> Result<(), AllocError>
-    ensures ok { OnOk result (string_bytes out.new
-        ≡ string_bytes out.old ++ after_point (without_zeros (last_digits places n))) }
+    ensures ok { OnOk result
+        (Appends out.old (after_point (without_zeros (last_digits places n))) out.new) }
     ensures kept { IsPrefix (string_bytes out.old) (string_bytes out.new) }
 {
     if places > 0 && n % 10 == 0 {
@@ -104,7 +104,7 @@ pub(crate) fn push_without_zeros(out: &mut String, places: u8, n: u128) -> Resul
 pub(crate) fn push_cut(out: &mut String, places: u8, a: u64, b: u64) -> Result<(), AllocError>
     requires some { 0 < b }
     requires few { places ≤ 6 }
-    ensures ok { OnOk result (string_bytes out.new ≡ string_bytes out.old ++ cut places a b) }
+    ensures ok { OnOk result (Appends out.old (cut places a b) out.new) }
     ensures kept { IsPrefix (string_bytes out.old) (string_bytes out.new) }
 {
     push_decimal(out, a / b)?;
@@ -115,7 +115,7 @@ pub(crate) fn push_cut(out: &mut String, places: u8, a: u64, b: u64) -> Result<(
 /// Appends a quotient with at most three decimals, rounded down, without zeros at the end. The
 /// divisor 0 counts as 1.
 pub(crate) fn push_fraction(out: &mut String, a: u64, b: u64) -> Result<(), AllocError>
-    ensures ok { OnOk result (string_bytes out.new ≡ string_bytes out.old ++ fraction_text a b) }
+    ensures ok { OnOk result (Appends out.old (fraction_text a b) out.new) }
     ensures kept { IsPrefix (string_bytes out.old) (string_bytes out.new) }
 {
     let b = b.max(1);

@@ -1,5 +1,6 @@
 //! Moments, clocks, and moments as texts.
-ghost use Rattle.std.specs.Prelude.{◌≡◌, ℕ, ◌++◌, ◌/◌, pos, length, unsigned_abs, OnOk, IfOk, IfErr, string_bytes};
+ghost use Rattle.std.specs.Prelude.{◌≡◌, ℕ, ◌/◌, pos, length, unsigned_abs, OnOk, IfOk, IfErr, string_bytes};
+ghost use Rattle.prodash_base.specs.Appending.{Appends};
 ghost use Rattle.jiff.specs.Words.{epoch_day};
 ghost use Rattle.prodash_base.specs.plumbing.Prefixes.{IsPrefix};
 ghost use Rattle.prodash_base.specs.Moments.{CalendarDate, IsDateOf, IsDateTimeText, second_of, day_of, date_text, clock_text, time_text};
@@ -70,8 +71,12 @@ fn date_of(at: Moment) -> Date
 
 /// Appends a date, as `2554-07-21`.
 fn push_date(out: &mut String, date: Date) -> Result<(), AllocError>
-    ensures ok { OnOk result (string_bytes out.new ≡ string_bytes out.old ++ date_text
-        (record { year = unsigned_abs date.year; month = date.month; day = date.day })) }
+    ensures ok { OnOk result
+        (Appends out.old (date_text (record {
+          year = unsigned_abs date.year;
+          month = date.month;
+          day = date.day;
+        })) out.new) }
     ensures kept { IsPrefix (string_bytes out.old) (string_bytes out.new) }
 {
     push_last_digits(out, 4, u128::from(date.year().unsigned_abs()))?;
@@ -83,7 +88,7 @@ fn push_date(out: &mut String, date: Date) -> Result<(), AllocError>
 
 /// Appends the time of day of a second since 1970, as `23:34:33`.
 fn push_clock(out: &mut String, seconds: u64) -> Result<(), AllocError>
-    ensures ok { OnOk result (string_bytes out.new ≡ string_bytes out.old ++ clock_text seconds) }
+    ensures ok { OnOk result (Appends out.old (clock_text seconds) out.new) }
     ensures kept { IsPrefix (string_bytes out.old) (string_bytes out.new) }
 {
     push_last_digits(out, 2, u128::from(seconds / 3600 % 24))?;

@@ -2,7 +2,8 @@
 //! for what it shows as a label does, and [`DisplayValue::label_throughput`] for throughputs.
 //!
 //! Each call that is out of memory returns an `AllocError` and leaves the string unchanged.
-ghost use Rattle.std.specs.Prelude.{◌≡◌, ◌++◌, codes, OnOk, OnErr, string_bytes};
+ghost use Rattle.std.specs.Prelude.{◌≡◌, codes, OnOk, OnErr, string_bytes};
+ghost use Rattle.prodash_base.specs.Appending.{Appends};
 ghost use Rattle.std.specs.Fmt.{decimal};
 ghost use Rattle.prodash_base.specs.plumbing.Prefixes.{IsPrefix};
 ghost use Rattle.prodash_base.specs.Shown.{label_shown, label_percentage, label_fraction, label_time_unit, unless_one};
@@ -15,7 +16,7 @@ use std::alloc::AllocError;
 
 /// Appends a value as a plain number.
 pub fn display_current_value(out: &mut String, value: Step) -> Result<(), AllocError>
-    ensures ok { OnOk result (string_bytes out.new ≡ string_bytes out.old ++ decimal value) }
+    ensures ok { OnOk result (Appends out.old (decimal value) out.new) }
     ensures err { OnErr result (string_bytes out.new ≡ string_bytes out.old) }
 {
     append_decimal(out, u128::from(value))
@@ -23,7 +24,7 @@ pub fn display_current_value(out: &mut String, value: Step) -> Result<(), AllocE
 
 /// Appends the separator `/`.
 pub fn separator(out: &mut String) -> Result<(), AllocError>
-    ensures ok { OnOk result (string_bytes out.new ≡ string_bytes out.old ++ codes "/") }
+    ensures ok { OnOk result (Appends out.old (codes "/") out.new) }
     ensures err { OnErr result (string_bytes out.new ≡ string_bytes out.old) }
 {
     out.push_str("/")
@@ -31,7 +32,7 @@ pub fn separator(out: &mut String) -> Result<(), AllocError>
 
 /// Appends an upper bound as a plain number.
 pub fn display_upper_bound(out: &mut String, upper_bound: Step) -> Result<(), AllocError>
-    ensures ok { OnOk result (string_bytes out.new ≡ string_bytes out.old ++ decimal upper_bound) }
+    ensures ok { OnOk result (Appends out.old (decimal upper_bound) out.new) }
     ensures err { OnErr result (string_bytes out.new ≡ string_bytes out.old) }
 {
     append_decimal(out, u128::from(upper_bound))
@@ -39,8 +40,7 @@ pub fn display_upper_bound(out: &mut String, upper_bound: Step) -> Result<(), Al
 
 /// Appends a percentage, as `[30%]`.
 pub fn display_percentage(out: &mut String, percentage: u64) -> Result<(), AllocError>
-    ensures ok { OnOk result
-        (string_bytes out.new ≡ string_bytes out.old ++ label_percentage percentage) }
+    ensures ok { OnOk result (Appends out.old (label_percentage percentage) out.new) }
     ensures err { OnErr result (string_bytes out.new ≡ string_bytes out.old) }
 {
     let length = out.len();
@@ -50,8 +50,7 @@ pub fn display_percentage(out: &mut String, percentage: u64) -> Result<(), Alloc
 
 /// Appends a percentage.
 fn push_percentage(out: &mut String, percentage: u64) -> Result<(), AllocError>
-    ensures ok { OnOk result
-        (string_bytes out.new ≡ string_bytes out.old ++ label_percentage percentage) }
+    ensures ok { OnOk result (Appends out.old (label_percentage percentage) out.new) }
     ensures kept { IsPrefix (string_bytes out.old) (string_bytes out.new) }
 {
     push_text(out, "[")?;

@@ -1,5 +1,6 @@
 //! The message that says how fast steps were done.
-ghost use Rattle.std.specs.Prelude.{◌≡◌, ◌++◌, ◌-◌, OnOk, IfOk, IfErr, codes, option_copied, string_bytes};
+ghost use Rattle.std.specs.Prelude.{◌≡◌, ◌-◌, OnOk, IfOk, IfErr, codes, option_copied, string_bytes};
+ghost use Rattle.prodash_base.specs.Appending.{Appends};
 ghost use Rattle.prodash_base.specs.plumbing.Prefixes.{IsPrefix};
 ghost use Rattle.prodash_base.specs.ThroughputMessages as texts;
 ghost use Rattle.prodash_base.specs.ThroughputMessages.{rate_of, seconds_text, amount_text, done_text};
@@ -55,8 +56,7 @@ fn rate_of(step: Step, nanoseconds: u64) -> u64
 
 /// Appends a number of nanoseconds in seconds, as `2.50`.
 fn push_seconds(out: &mut String, nanoseconds: u64) -> Result<(), AllocError>
-    ensures ok { OnOk result
-        (string_bytes out.new ≡ string_bytes out.old ++ seconds_text nanoseconds) }
+    ensures ok { OnOk result (Appends out.old (seconds_text nanoseconds) out.new) }
     ensures kept { IsPrefix (string_bytes out.old) (string_bytes out.new) }
 {
     let hundredths = (u128::from(nanoseconds) + 5_000_000) / 10_000_000;
@@ -72,8 +72,7 @@ fn push_amount<K: DisplayValue>(
     value: Step,
     step: Step,
 ) -> Result<(), AllocError>
-    ensures ok { OnOk result
-        (string_bytes out.new ≡ string_bytes out.old ++ amount_text (K.shown kind.now) value step) }
+    ensures ok { OnOk result (Appends out.old (amount_text (K.shown kind.now) value step) out.new) }
     ensures kept { IsPrefix (string_bytes out.old) (string_bytes out.new) }
 {
     push_value(kind, out, value, None)?;
@@ -87,8 +86,8 @@ fn push_done<K: DisplayValue>(
     step: Step,
     nanoseconds: u64,
 ) -> Result<(), AllocError>
-    ensures ok { OnOk result (string_bytes out.new ≡ string_bytes out.old
-        ++ done_text (K.shown kind.now) step nanoseconds) }
+    ensures ok { OnOk result
+        (Appends out.old (done_text (K.shown kind.now) step nanoseconds) out.new) }
     ensures kept { IsPrefix (string_bytes out.old) (string_bytes out.new) }
 {
     push_text(out, "done ")?;
@@ -104,8 +103,8 @@ fn push_message<K: DisplayValue>(
     step: Step,
     nanoseconds: u64,
 ) -> Result<(), AllocError>
-    ensures ok { OnOk result (string_bytes out.new
-        ≡ string_bytes out.old ++ texts.throughput_message (K.shown kind.now) step nanoseconds) }
+    ensures ok { OnOk result
+        (Appends out.old (texts.throughput_message (K.shown kind.now) step nanoseconds) out.new) }
     ensures kept { IsPrefix (string_bytes out.old) (string_bytes out.new) }
 {
     push_done(kind, out, step, nanoseconds)?;

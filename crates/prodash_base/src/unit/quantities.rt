@@ -1,5 +1,6 @@
 //! Percentages, bytes, large numbers and durations.
-ghost use Rattle.std.specs.Prelude.{◌≡◌, ◌++◌, ◌<◌, ◌≤◌, codes, IfSome, OnOk, OnErr, string_bytes};
+ghost use Rattle.std.specs.Prelude.{◌≡◌, ◌<◌, ◌≤◌, codes, IfSome, OnOk, OnErr, string_bytes};
+ghost use Rattle.prodash_base.specs.Appending.{Appends};
 ghost use Rattle.prodash_base.specs.plumbing.Prefixes.{IsPrefix};
 ghost use Rattle.prodash_base.specs.Quantities.{percentage_of, scale_of, scaled, bytes_text, human_text, duration_part, duration_text};
 
@@ -40,8 +41,7 @@ fn scale_of(n: u64) -> Option<(u64, u8)>
 /// the number as it is if it is less than 1000.
 fn push_scaled(out: &mut String, places: u8, n: u64) -> Result<(), AllocError>
     requires { places ≤ 6 }
-    ensures ok { OnOk result
-        (string_bytes out.new ≡ string_bytes out.old ++ scaled places n (scale_of n)) }
+    ensures ok { OnOk result (Appends out.old (scaled places n (scale_of n)) out.new) }
     ensures kept { IsPrefix (string_bytes out.old) (string_bytes out.new) }
 {
     let Some((power, letter)) = scale_of(n) else {
@@ -53,7 +53,7 @@ fn push_scaled(out: &mut String, places: u8, n: u64) -> Result<(), AllocError>
 
 /// Appends a number of bytes, as `18.4EB`.
 fn push_bytes(out: &mut String, n: u64) -> Result<(), AllocError>
-    ensures ok { OnOk result (string_bytes out.new ≡ string_bytes out.old ++ bytes_text n) }
+    ensures ok { OnOk result (Appends out.old (bytes_text n) out.new) }
     ensures kept { IsPrefix (string_bytes out.old) (string_bytes out.new) }
 {
     push_scaled(out, 1, n)?;
@@ -62,7 +62,7 @@ fn push_bytes(out: &mut String, n: u64) -> Result<(), AllocError>
 
 /// Appends a number of bytes, as `18.4EB`, or nothing.
 pub(super) fn append_bytes(out: &mut String, n: u64) -> Result<(), AllocError>
-    ensures ok { OnOk result (string_bytes out.new ≡ string_bytes out.old ++ bytes_text n) }
+    ensures ok { OnOk result (Appends out.old (bytes_text n) out.new) }
     ensures err { OnErr result (string_bytes out.new ≡ string_bytes out.old) }
 {
     let length = out.len();
@@ -72,8 +72,7 @@ pub(super) fn append_bytes(out: &mut String, n: u64) -> Result<(), AllocError>
 
 /// Appends a large number, as `2.54M`, or nothing. More than six decimals count as six.
 pub(super) fn append_human(out: &mut String, decimals: u8, n: u64) -> Result<(), AllocError>
-    ensures ok { OnOk result
-        (string_bytes out.new ≡ string_bytes out.old ++ human_text decimals n) }
+    ensures ok { OnOk result (Appends out.old (human_text decimals n) out.new) }
     ensures err { OnErr result (string_bytes out.new ≡ string_bytes out.old) }
 {
     let length = out.len();
@@ -83,8 +82,7 @@ pub(super) fn append_human(out: &mut String, decimals: u8, n: u64) -> Result<(),
 
 /// Appends a part of a duration, as `20m`; nothing if it is zero.
 fn push_duration_part(out: &mut String, n: u64, letter: &str) -> Result<(), AllocError>
-    ensures ok { OnOk result
-        (string_bytes out.new ≡ string_bytes out.old ++ duration_part n letter.now) }
+    ensures ok { OnOk result (Appends out.old (duration_part n letter.now) out.new) }
     ensures kept { IsPrefix (string_bytes out.old) (string_bytes out.new) }
 {
     if n == 0 {
@@ -96,7 +94,7 @@ fn push_duration_part(out: &mut String, n: u64, letter: &str) -> Result<(), Allo
 
 /// Appends a number of seconds, as `7d4h20m10s`.
 fn push_duration(out: &mut String, n: u64) -> Result<(), AllocError>
-    ensures ok { OnOk result (string_bytes out.new ≡ string_bytes out.old ++ duration_text n) }
+    ensures ok { OnOk result (Appends out.old (duration_text n) out.new) }
     ensures kept { IsPrefix (string_bytes out.old) (string_bytes out.new) }
 {
     if n == 0 {
@@ -110,7 +108,7 @@ fn push_duration(out: &mut String, n: u64) -> Result<(), AllocError>
 
 /// Appends a number of seconds, as `7d4h20m10s`, or nothing.
 pub(super) fn append_duration(out: &mut String, n: u64) -> Result<(), AllocError>
-    ensures ok { OnOk result (string_bytes out.new ≡ string_bytes out.old ++ duration_text n) }
+    ensures ok { OnOk result (Appends out.old (duration_text n) out.new) }
     ensures err { OnErr result (string_bytes out.new ≡ string_bytes out.old) }
 {
     let length = out.len();

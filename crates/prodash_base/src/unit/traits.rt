@@ -1,4 +1,5 @@
-ghost use Rattle.std.specs.Prelude.{◌≡◌, ◌++◌, OnOk, OnErr, codes, string_bytes};
+ghost use Rattle.std.specs.Prelude.{◌≡◌, OnOk, OnErr, codes, string_bytes};
+ghost use Rattle.prodash_base.specs.Appending.{Appends};
 ghost use Rattle.prodash_base.specs.plumbing.Prefixes.{IsPrefix};
 ghost use Rattle.prodash_base.specs.Shown.{Shown, throughput_text, timespan_text, optional_fraction};
 
@@ -31,8 +32,7 @@ pub trait DisplayValue {
         value: Step,
         upper: Option<Step>,
     ) -> Result<(), AllocError>
-        ensures ok { OnOk result
-            (string_bytes out.new ≡ string_bytes out.old ++ (shown self.now).value value upper) }
+        ensures ok { OnOk result (Appends out.old ((shown self.now).value value upper) out.new) }
         ensures err { OnErr result (string_bytes out.new ≡ string_bytes out.old) };
 
     /// Appends what separates a value from its upper bound. Both are context.
@@ -42,8 +42,8 @@ pub trait DisplayValue {
         value: Step,
         upper: Option<Step>,
     ) -> Result<(), AllocError>
-        ensures ok { OnOk result (string_bytes out.new
-            ≡ string_bytes out.old ++ (shown self.now).separator value upper) }
+        ensures ok { OnOk result
+            (Appends out.old ((shown self.now).separator value upper) out.new) }
         ensures err { OnErr result (string_bytes out.new ≡ string_bytes out.old) };
 
     /// Appends an upper bound. The value is context and is not shown.
@@ -53,20 +53,19 @@ pub trait DisplayValue {
         upper_bound: Step,
         value: Step,
     ) -> Result<(), AllocError>
-        ensures ok { OnOk result (string_bytes out.new
-            ≡ string_bytes out.old ++ (shown self.now).upper_bound upper_bound value) }
+        ensures ok { OnOk result
+            (Appends out.old ((shown self.now).upper_bound upper_bound value) out.new) }
         ensures err { OnErr result (string_bytes out.new ≡ string_bytes out.old) };
 
     /// Appends the unit of a value, which is context and is not shown.
     fn display_unit(&self, out: &mut String, value: Step) -> Result<(), AllocError>
-        ensures ok { OnOk result
-            (string_bytes out.new ≡ string_bytes out.old ++ (shown self.now).unit value) }
+        ensures ok { OnOk result (Appends out.old ((shown self.now).unit value) out.new) }
         ensures err { OnErr result (string_bytes out.new ≡ string_bytes out.old) };
 
     /// Appends a percentage.
     fn display_percentage(&self, out: &mut String, percentage: u64) -> Result<(), AllocError>
-        ensures ok { OnOk result (string_bytes out.new
-            ≡ string_bytes out.old ++ (shown self.now).percentage percentage) }
+        ensures ok { OnOk result
+            (Appends out.old ((shown self.now).percentage percentage) out.new) }
         ensures err { OnErr result (string_bytes out.new ≡ string_bytes out.old) };
 
     /// Returns the time unit in which a number of nanoseconds is shown, and a quotient that says
@@ -81,15 +80,15 @@ pub trait DisplayValue {
         out: &mut String,
         throughput: &Throughput,
     ) -> Result<(), AllocError>
-        ensures ok { OnOk result (string_bytes out.new
-            ≡ string_bytes out.old ++ (shown self.now).throughput throughput.now) }
+        ensures ok { OnOk result
+            (Appends out.old ((shown self.now).throughput throughput.now) out.new) }
         ensures err { OnErr result (string_bytes out.new ≡ string_bytes out.old) };
 
     /// Appends a throughput as a label shows it, as `|5/1.5m|`, with the change and the time unit
     /// of this kind.
     fn label_throughput(&self, out: &mut String, throughput: &Throughput) -> Result<(), AllocError>
-        ensures ok { OnOk result (string_bytes out.new
-            ≡ string_bytes out.old ++ throughput_text (shown self.now) throughput.now) }
+        ensures ok { OnOk result
+            (Appends out.old (throughput_text (shown self.now) throughput.now) out.new) }
         ensures err { OnErr result (string_bytes out.new ≡ string_bytes out.old) }
     {
         let length = out.len();
@@ -100,8 +99,8 @@ pub trait DisplayValue {
     /// Appends what [`label_throughput`](DisplayValue::label_throughput) does. If it is out of
     /// memory, a part of that text may have been appended.
     fn push_throughput(&self, out: &mut String, throughput: &Throughput) -> Result<(), AllocError>
-        ensures ok { OnOk result (string_bytes out.new
-            ≡ string_bytes out.old ++ throughput_text (shown self.now) throughput.now) }
+        ensures ok { OnOk result
+            (Appends out.old (throughput_text (shown self.now) throughput.now) out.new) }
         ensures kept { IsPrefix (string_bytes out.old) (string_bytes out.new) }
     {
         let (fraction, time_unit) = self.fraction_and_time_unit(throughput.timespan);
@@ -117,8 +116,7 @@ fn push_timespan(
     fraction: Option<(u64, u64)>,
     time_unit: &str,
 ) -> Result<(), AllocError>
-    ensures ok { OnOk result
-        (string_bytes out.new ≡ string_bytes out.old ++ timespan_text fraction time_unit.now) }
+    ensures ok { OnOk result (Appends out.old (timespan_text fraction time_unit.now) out.new) }
     ensures kept { IsPrefix (string_bytes out.old) (string_bytes out.new) }
 {
     push_ascii(out, b'/')?;
@@ -129,8 +127,7 @@ fn push_timespan(
 
 /// Appends a fraction, if there is one.
 fn push_optional_fraction(out: &mut String, fraction: Option<(u64, u64)>) -> Result<(), AllocError>
-    ensures ok { OnOk result
-        (string_bytes out.new ≡ string_bytes out.old ++ optional_fraction fraction) }
+    ensures ok { OnOk result (Appends out.old (optional_fraction fraction) out.new) }
     ensures kept { IsPrefix (string_bytes out.old) (string_bytes out.new) }
 {
     match fraction {

@@ -1,4 +1,5 @@
-ghost use Rattle.std.specs.Prelude.{◌≡◌, ◌++◌, Some, None, OnOk, OnErr, IfErr, string_bytes};
+ghost use Rattle.std.specs.Prelude.{◌≡◌, Some, None, OnOk, OnErr, IfErr, string_bytes};
+ghost use Rattle.prodash_base.specs.Appending.{Appends};
 ghost use Rattle.prodash_base.specs.Units.{display_text};
 
 use super::Kind;
@@ -149,8 +150,7 @@ impl UnitDisplay {
     ///
     /// `Refusal::Memory` if out of memory. Then `out` is unchanged.
     pub fn append_to(&self, out: &mut String) -> Result<(), Refusal>
-        ensures ok { OnOk result
-            (string_bytes out.new ≡ string_bytes out.old ++ display_text self.now) }
+        ensures ok { OnOk result (Appends out.old (display_text self.now) out.new) }
         ensures err { OnErr result (string_bytes out.new ≡ string_bytes out.old) }
         ensures reason { IfErr result (λ e. e ≡ Refusal.Memory) }
     {

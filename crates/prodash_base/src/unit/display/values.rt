@@ -1,5 +1,6 @@
 //! Values of any kind, with their bounds, units, percentages and throughputs, appended to a string.
-ghost use Rattle.std.specs.Prelude.{◌≡◌, ◌++◌, OnOk, OnErr, IfErr, string_bytes};
+ghost use Rattle.std.specs.Prelude.{◌≡◌, OnOk, OnErr, IfErr, string_bytes};
+ghost use Rattle.prodash_base.specs.Appending.{Appends};
 ghost use Rattle.prodash_base.specs.plumbing.Prefixes.{IsPrefix};
 ghost use Rattle.prodash_base.specs.Displays.{same_location, percentage_at, throughput_at, percentage_before, throughput_before, percentage_after, throughput_after, bound_text, values_text, after_text, unit_text, spaced, all_text};
 
@@ -26,8 +27,8 @@ pub fn append<K: DisplayValue>(
     bound: Option<Step>,
     throughput: Option<Throughput>,
 ) -> Result<(), Refusal>
-    ensures ok { OnOk result (string_bytes out.new ≡ string_bytes out.old
-        ++ all_text (K.shown kind.now) mode value bound throughput) }
+    ensures ok { OnOk result
+        (Appends out.old (all_text (K.shown kind.now) mode value bound throughput) out.new) }
     ensures err { OnErr result (string_bytes out.new ≡ string_bytes out.old) }
     ensures reason { IfErr result (λ e. e ≡ Refusal.Memory) }
 {
@@ -51,8 +52,8 @@ pub fn append_values<K: DisplayValue>(
     bound: Option<Step>,
     throughput: Option<Throughput>,
 ) -> Result<(), Refusal>
-    ensures ok { OnOk result (string_bytes out.new ≡ string_bytes out.old
-        ++ values_text (K.shown kind.now) mode value bound throughput) }
+    ensures ok { OnOk result
+        (Appends out.old (values_text (K.shown kind.now) mode value bound throughput) out.new) }
     ensures err { OnErr result (string_bytes out.new ≡ string_bytes out.old) }
     ensures reason { IfErr result (λ e. e ≡ Refusal.Memory) }
 {
@@ -76,8 +77,8 @@ pub fn append_unit<K: DisplayValue>(
     bound: Option<Step>,
     throughput: Option<Throughput>,
 ) -> Result<(), Refusal>
-    ensures ok { OnOk result (string_bytes out.new ≡ string_bytes out.old
-        ++ unit_text (K.shown kind.now) mode value bound throughput) }
+    ensures ok { OnOk result
+        (Appends out.old (unit_text (K.shown kind.now) mode value bound throughput) out.new) }
     ensures err { OnErr result (string_bytes out.new ≡ string_bytes out.old) }
     ensures reason { IfErr result (λ e. e ≡ Refusal.Memory) }
 {
@@ -137,8 +138,8 @@ fn push_percentage_before<K: DisplayValue>(
     out: &mut String,
     percentage: Option<u64>,
 ) -> Result<(), AllocError>
-    ensures ok { OnOk result (string_bytes out.new
-        ≡ string_bytes out.old ++ percentage_before (K.shown kind.now) percentage) }
+    ensures ok { OnOk result
+        (Appends out.old (percentage_before (K.shown kind.now) percentage) out.new) }
     ensures kept { IsPrefix (string_bytes out.old) (string_bytes out.new) }
 {
     let Some(percentage) = percentage else {
@@ -154,8 +155,8 @@ fn push_throughput_before<K: DisplayValue>(
     out: &mut String,
     throughput: Option<Throughput>,
 ) -> Result<(), AllocError>
-    ensures ok { OnOk result (string_bytes out.new
-        ≡ string_bytes out.old ++ throughput_before (K.shown kind.now) throughput) }
+    ensures ok { OnOk result
+        (Appends out.old (throughput_before (K.shown kind.now) throughput) out.new) }
     ensures kept { IsPrefix (string_bytes out.old) (string_bytes out.new) }
 {
     let Some(throughput) = throughput else {
@@ -171,8 +172,8 @@ fn push_percentage_after<K: DisplayValue>(
     out: &mut String,
     percentage: Option<u64>,
 ) -> Result<(), AllocError>
-    ensures ok { OnOk result (string_bytes out.new
-        ≡ string_bytes out.old ++ percentage_after (K.shown kind.now) percentage) }
+    ensures ok { OnOk result
+        (Appends out.old (percentage_after (K.shown kind.now) percentage) out.new) }
     ensures kept { IsPrefix (string_bytes out.old) (string_bytes out.new) }
 {
     let Some(percentage) = percentage else {
@@ -188,8 +189,8 @@ fn push_throughput_after<K: DisplayValue>(
     out: &mut String,
     throughput: Option<Throughput>,
 ) -> Result<(), AllocError>
-    ensures ok { OnOk result (string_bytes out.new
-        ≡ string_bytes out.old ++ throughput_after (K.shown kind.now) throughput) }
+    ensures ok { OnOk result
+        (Appends out.old (throughput_after (K.shown kind.now) throughput) out.new) }
     ensures kept { IsPrefix (string_bytes out.old) (string_bytes out.new) }
 {
     let Some(throughput) = throughput else {
@@ -206,8 +207,7 @@ fn push_bound<K: DisplayValue>(
     value: Step,
     bound: Option<Step>,
 ) -> Result<(), AllocError>
-    ensures ok { OnOk result
-        (string_bytes out.new ≡ string_bytes out.old ++ bound_text (K.shown kind.now) value bound) }
+    ensures ok { OnOk result (Appends out.old (bound_text (K.shown kind.now) value bound) out.new) }
     ensures kept { IsPrefix (string_bytes out.old) (string_bytes out.new) }
 {
     let Some(upper) = bound else {
@@ -224,8 +224,7 @@ pub(in crate::unit) fn push_value<K: DisplayValue>(
     value: Step,
     bound: Option<Step>,
 ) -> Result<(), AllocError>
-    ensures ok { OnOk result
-        (string_bytes out.new ≡ string_bytes out.old ++ (K.shown kind.now).value value bound) }
+    ensures ok { OnOk result (Appends out.old ((K.shown kind.now).value value bound) out.new) }
     ensures kept { IsPrefix (string_bytes out.old) (string_bytes out.new) }
 {
     kind.display_current_value(out, value, bound)
@@ -240,8 +239,8 @@ fn push_values<K: DisplayValue>(
     bound: Option<Step>,
     throughput: Option<Throughput>,
 ) -> Result<(), AllocError>
-    ensures ok { OnOk result (string_bytes out.new ≡ string_bytes out.old
-        ++ values_text (K.shown kind.now) mode value bound throughput) }
+    ensures ok { OnOk result
+        (Appends out.old (values_text (K.shown kind.now) mode value bound throughput) out.new) }
     ensures kept { IsPrefix (string_bytes out.old) (string_bytes out.new) }
 {
     let before = Location::BeforeValue;
@@ -260,8 +259,8 @@ fn push_after<K: DisplayValue>(
     bound: Option<Step>,
     throughput: Option<Throughput>,
 ) -> Result<(), AllocError>
-    ensures ok { OnOk result (string_bytes out.new ≡ string_bytes out.old
-        ++ after_text (K.shown kind.now) mode value bound throughput) }
+    ensures ok { OnOk result
+        (Appends out.old (after_text (K.shown kind.now) mode value bound throughput) out.new) }
     ensures kept { IsPrefix (string_bytes out.old) (string_bytes out.new) }
 {
     let after = Location::AfterUnit;
@@ -278,8 +277,8 @@ fn push_unit<K: DisplayValue>(
     bound: Option<Step>,
     throughput: Option<Throughput>,
 ) -> Result<(), AllocError>
-    ensures ok { OnOk result (string_bytes out.new ≡ string_bytes out.old
-        ++ unit_text (K.shown kind.now) mode value bound throughput) }
+    ensures ok { OnOk result
+        (Appends out.old (unit_text (K.shown kind.now) mode value bound throughput) out.new) }
     ensures kept { IsPrefix (string_bytes out.old) (string_bytes out.new) }
 {
     kind.display_unit(out, value)?;
@@ -292,8 +291,7 @@ pub(in crate::unit) fn push_spaced_unit<K: DisplayValue>(
     out: &mut String,
     value: Step,
 ) -> Result<(), AllocError>
-    ensures ok { OnOk result
-        (string_bytes out.new ≡ string_bytes out.old ++ spaced ((K.shown kind.now).unit value)) }
+    ensures ok { OnOk result (Appends out.old (spaced ((K.shown kind.now).unit value)) out.new) }
     ensures kept { IsPrefix (string_bytes out.old) (string_bytes out.new) }
 {
     let length = out.len();
@@ -315,8 +313,8 @@ fn push_all<K: DisplayValue>(
     bound: Option<Step>,
     throughput: Option<Throughput>,
 ) -> Result<(), AllocError>
-    ensures ok { OnOk result (string_bytes out.new ≡ string_bytes out.old
-        ++ all_text (K.shown kind.now) mode value bound throughput) }
+    ensures ok { OnOk result
+        (Appends out.old (all_text (K.shown kind.now) mode value bound throughput) out.new) }
     ensures kept { IsPrefix (string_bytes out.old) (string_bytes out.new) }
 {
     push_values(kind, out, mode, value, bound, throughput)?;
