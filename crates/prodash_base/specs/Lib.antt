@@ -4,6 +4,7 @@ pub mod Rows
 pub mod Adjacency
 pub mod Lends
 pub mod Messages
+pub mod Refusals
 pub mod Rings
 pub mod Appending
 pub mod Numerals

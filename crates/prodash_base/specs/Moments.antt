@@ -59,6 +59,10 @@ pub record IsDateOf (number : ℕ) (d : CalendarDate) : Type 0 where
   pub day : IsInRange 1 (days_in_month d.year d.month) d.day
   pub same : day_number d ≡ number
 
+-- no two dates have this day number
+abbrev pub HasOneDate : ℕ → Type 0
+HasOneDate number = (d e : CalendarDate) → IsDateOf number d → IsDateOf number e → d ≡ e
+
 -- a date as text, as `2554-07-21`
 abbrev pub date_text : CalendarDate → List ℕ
 date_text d =

@@ -1,5 +1,5 @@
 -- Rings of messages: the latest of all messages that were ever pushed.
-use Rattle.std.specs.Prelude.{ℕ, Bool, nat_eq, ◌+◌, ◌-◌, ◌^◌, min, List, [], ◌∷◌, ◌++◌, length, Option, Some, None}
+use Rattle.std.specs.Prelude.{◌≡◌, ℕ, Bool, nat_eq, ◌+◌, ◌-◌, ◌^◌, min, List, [], ◌∷◌, ◌++◌, length, Option, Some, None}
 use Rattle.circular_buffer.specs.Buffer.{keep_last}
 use Rattle.prodash_base.specs.declared.messages.Message.{Message}
 
@@ -8,6 +8,10 @@ pub record Ring : Type 0 where
   pub capacity : ℕ
   pub messages : List Message
   pub pushed : ℕ
+
+-- the count of all pushes can't rise any more
+abbrev pub IsCountFull : Ring → Type 0
+IsCountFull ring = ring.pushed ≡ 18446744073709551615
 
 -- a ring before its first push
 abbrev pub new_ring : ℕ → Ring

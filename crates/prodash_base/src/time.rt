@@ -3,7 +3,7 @@ ghost use Rattle.std.specs.Prelude.{◌≡◌, ℕ, ◌/◌, pos, length, unsign
 ghost use Rattle.prodash_base.specs.Appending.{Appends};
 ghost use Rattle.jiff.specs.Words.{epoch_day};
 ghost use Rattle.prodash_base.specs.plumbing.Prefixes.{IsPrefix};
-ghost use Rattle.prodash_base.specs.Moments.{CalendarDate, IsDateOf, IsDateTimeText, second_of, day_of, date_text, clock_text, time_text};
+ghost use Rattle.prodash_base.specs.Moments.{HasOneDate, IsDateTimeText, second_of, day_of, date_text, clock_text, time_text};
 
 use crate::appending::{push_ascii, push_last_digits};
 use crate::refusal::Refusal;
@@ -100,5 +100,5 @@ fn push_clock(out: &mut String, seconds: u64) -> Result<(), AllocError>
 
 /// A law of dates: no two dates have one day number.
 pub fn days_have_one_date()
-    ensures { (number : ℕ) (d e : CalendarDate) → IsDateOf number d → IsDateOf number e → d ≡ e }
+    ensures { (number : ℕ) → HasOneDate number }
 {}

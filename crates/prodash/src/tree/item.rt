@@ -1,5 +1,6 @@
 //! Items of the locked tree.
-ghost use Rattle.std.specs.Prelude.{◌≡◌, ◌⊎◌, OnOk, OnErr, IfOk, IfErr, true, is_some};
+ghost use Rattle.std.specs.Prelude.{◌≡◌, OnOk, OnErr, IfOk, IfErr, true, is_some};
+ghost use Rattle.prodash_base.specs.Refusals.{RefusesMessage};
 ghost use Rattle.prodash.specs.Items.{new_place, next_path, with_child};
 
 use crate::messages::MessageLevel;
@@ -232,7 +233,7 @@ impl<R: Wait + Clone + Drop> Item<R> {
         level: MessageLevel,
         message: &str,
     ) -> Result<(), Refusal>
-        ensures { IfErr result (λ e. (e ≡ Refusal.Memory) ⊎ (e ≡ Refusal.TooManyMessages)) }
+        ensures { IfErr result RefusesMessage }
     {
         self.shared
             .lock(&self.rt)
@@ -246,8 +247,7 @@ impl<R: Wait + Clone + Drop> Item<R> {
     /// As `message`.
     pub fn done(&mut self, alloc: Global, at: Moment, message: &str) -> Result<(), Refusal>
         ensures kept { self.new ≡ self.old }
-        ensures err { IfErr result (λ e. (e ≡ Refusal.Memory)
-            ⊎ (e ≡ Refusal.TooManyMessages)) }
+        ensures err { IfErr result RefusesMessage }
     {
         self.message(alloc, at, MessageLevel::Success, message)
     }
@@ -259,8 +259,7 @@ impl<R: Wait + Clone + Drop> Item<R> {
     /// As `message`.
     pub fn fail(&mut self, alloc: Global, at: Moment, message: &str) -> Result<(), Refusal>
         ensures kept { self.new ≡ self.old }
-        ensures err { IfErr result (λ e. (e ≡ Refusal.Memory)
-            ⊎ (e ≡ Refusal.TooManyMessages)) }
+        ensures err { IfErr result RefusesMessage }
     {
         self.message(alloc, at, MessageLevel::Failure, message)
     }
@@ -272,8 +271,7 @@ impl<R: Wait + Clone + Drop> Item<R> {
     /// As `message`.
     pub fn info(&mut self, alloc: Global, at: Moment, message: &str) -> Result<(), Refusal>
         ensures kept { self.new ≡ self.old }
-        ensures err { IfErr result (λ e. (e ≡ Refusal.Memory)
-            ⊎ (e ≡ Refusal.TooManyMessages)) }
+        ensures err { IfErr result RefusesMessage }
     {
         self.message(alloc, at, MessageLevel::Info, message)
     }

@@ -1,6 +1,7 @@
 //! What the lock of a tree protects: the table, the slots, the messages, the owners of the root,
 //! and the number of its next child.
-ghost use Rattle.std.specs.Prelude.{◌≡◌, ◌≢◌, ◌-◌, ◌⊎◌, ℕ, [], None, OnOk, OnErr, IfOk, IfErr, is_some, string_bytes};
+ghost use Rattle.std.specs.Prelude.{◌≡◌, ◌≢◌, ◌-◌, ℕ, [], None, OnOk, OnErr, IfOk, IfErr, is_some, string_bytes};
+ghost use Rattle.prodash_base.specs.Refusals.{RefusesMessage};
 ghost use Rattle.std.specs.Option.{option_map};
 ghost use Rattle.std.specs.FinMap as finite;
 ghost use Rattle.prodash_base.specs.Adjacency.{IsAscending, paths_of};
@@ -252,8 +253,7 @@ impl Locked {
         ensures ok { OnOk result (self.new.ring ≡ push self.old.ring
             (message_of at level (name_of (finite.get self.old.table key)) text.now)) }
         ensures err { OnErr result (self.new.ring ≡ self.old.ring) }
-        ensures reason { IfErr result (λ e. (e ≡ Refusal.Memory)
-            ⊎ (e ≡ Refusal.TooManyMessages)) }
+        ensures reason { IfErr result RefusesMessage }
         ensures number { self.new.next_child ≡ self.old.next_child }
         ensures owners { self.new.owners ≡ self.old.owners }
         ensures table { self.new.table ≡ self.old.table }

@@ -1,5 +1,6 @@
 //! Owners of the tree.
-ghost use Rattle.std.specs.Prelude.{◌≡◌, ◌+◌, ◌<◌, ◌⊎◌, ◌↔◌, ℕ, [], Err, not, nat_eq, is_some, IfOk, IfErr, IfSome, IfNone, OnOk, OnErr};
+ghost use Rattle.std.specs.Prelude.{◌≡◌, ◌+◌, ◌<◌, ◌↔◌, ℕ, [], Err, not, nat_eq, is_some, IfOk, IfErr, IfSome, IfNone, OnOk, OnErr};
+ghost use Rattle.prodash_base.specs.Refusals.{RefusesHandle};
 ghost use Rattle.prodash_base.specs.Adjacency.{IsAscending, paths_of};
 ghost use Rattle.prodash_base.specs.Path.{child, child_limit};
 ghost use Rattle.prodash.specs.Items.{new_place};
@@ -223,7 +224,7 @@ impl<R: Wait + Clone + Drop> Root<R> {
     /// `TooManyHandles`, if there are 2^64 - 1 owners. `Memory`, if the reference count of the tree
     /// or of its runtime is at its limit.
     pub fn clone(&self) -> Result<Root<R>, Refusal>
-        ensures { IfErr result (λ e. (e ≡ Refusal.Memory) ⊎ (e ≡ Refusal.TooManyHandles)) }
+        ensures { IfErr result RefusesHandle }
     {
         let mut locked = self.shared.lock(&self.rt);
         one_more_owner(&self.rt, &self.shared, &mut locked)
@@ -246,7 +247,7 @@ impl<R: Wait + Clone + Drop> WeakHandle<R> {
     /// `TooManyHandles`, if there are 2^64 - 1 owners. `Memory`, if the reference count of the tree
     /// or of its runtime is at its limit.
     pub fn upgrade(&self) -> Result<Option<Root<R>>, Refusal>
-        ensures { IfErr result (λ e. (e ≡ Refusal.Memory) ⊎ (e ≡ Refusal.TooManyHandles)) }
+        ensures { IfErr result RefusesHandle }
     {
         let mut locked = self.shared.lock(&self.rt);
         upgraded(&self.rt, &self.shared, &mut locked)
@@ -263,7 +264,7 @@ fn one_more_owner<R: Wait + Clone + Drop>(
         (locked.new ≡ record locked.old { owners = locked.old.owners + 1 }) }
     ensures err { OnErr result (locked.new ≡ locked.old) }
     ensures full { (result ≡ Err Refusal.TooManyHandles) ↔ (locked.old.owners ≡ u64.MAX) }
-    ensures reason { IfErr result (λ e. (e ≡ Refusal.Memory) ⊎ (e ≡ Refusal.TooManyHandles)) }
+    ensures reason { IfErr result RefusesHandle }
 {
     if locked.owners == u64::MAX {
         return Err(Refusal::TooManyHandles);
@@ -286,7 +287,7 @@ fn upgraded<R: Wait + Clone + Drop>(
     ensures none { IfOk result (λ root. IfNone root (locked.new ≡ locked.old)) }
     ensures err { OnErr result (locked.new ≡ locked.old) }
     ensures full { (result ≡ Err Refusal.TooManyHandles) ↔ (locked.old.owners ≡ u64.MAX) }
-    ensures reason { IfErr result (λ e. (e ≡ Refusal.Memory) ⊎ (e ≡ Refusal.TooManyHandles)) }
+    ensures reason { IfErr result RefusesHandle }
 {
     if locked.owners == 0 {
         return Ok(None);

@@ -1,8 +1,9 @@
-ghost use Rattle.std.specs.Prelude.{◌≡◌, ℕ, ◌+◌, ◌^◌, ◌<◌, ◌⊎◌, ◌↔◌, min, List, [], ◌∷◌, ◌++◌, length, drop, fold, Some, OnOk, OnErr, IfOk, IfErr};
+ghost use Rattle.std.specs.Prelude.{◌≡◌, ℕ, ◌+◌, ◌^◌, ◌<◌, ◌↔◌, min, List, [], ◌∷◌, ◌++◌, length, drop, fold, Some, OnOk, OnErr, IfOk, IfErr};
+ghost use Rattle.prodash_base.specs.Refusals.{RefusesMessage};
 ghost use Rattle.circular_buffer.specs.Buffer.{buffer, keep_last};
 ghost use Rattle.prodash_base.specs.declared.messages.Message.{Message};
 ghost use Rattle.prodash_base.specs.Messages.{message_of};
-ghost use Rattle.prodash_base.specs.Rings.{new_ring, push, messages_since, latest_messages, ring_of, new_since};
+ghost use Rattle.prodash_base.specs.Rings.{IsCountFull, new_ring, push, messages_since, latest_messages, ring_of, new_since};
 
 use crate::messages::{Message, MessageLevel};
 use crate::refusal::Refusal;
@@ -116,8 +117,8 @@ impl MessageRingBuffer {
     ) -> Result<(), Refusal>
         ensures ok { OnOk result
             (self.new ≡ push self.old (message_of at level origin.now message.now)) }
-        ensures too_many { (result ≡ Err Refusal.TooManyMessages) ↔ (self.old.pushed ≡ u64.MAX) }
-        ensures reason { IfErr result (λ e. (e ≡ Refusal.Memory) ⊎ (e ≡ Refusal.TooManyMessages)) }
+        ensures too_many { (result ≡ Err Refusal.TooManyMessages) ↔ IsCountFull self.old }
+        ensures reason { IfErr result RefusesMessage }
         ensures err { OnErr result (self.new ≡ self.old) }
     {
         if self.pushed == u64::MAX {

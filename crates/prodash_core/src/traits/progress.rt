@@ -1,4 +1,5 @@
 ghost use Rattle.std.specs.Prelude.{◌≡◌, ◌-◌, ◌⊎◌, ℕ, Option, IfOk, IfErr, IfSome, OnOk, OnErr, string_bytes};
+ghost use Rattle.prodash_base.specs.Refusals.{RefusesMessage};
 ghost use Rattle.std.specs.Option.{option_map};
 ghost use Rattle.prodash_base.specs.ThroughputMessages as texts;
 ghost use Rattle.prodash_base.specs.Units.{unit_shown};
@@ -115,7 +116,7 @@ pub trait Progress: Count + Send + Sync {
         message: &str,
     ) -> Result<(), Refusal>
         ensures ok { OnOk result (was_sent self.now at level message.now) }
-        ensures reason { IfErr result (λ e. (e ≡ Refusal.Memory) ⊎ (e ≡ Refusal.TooManyMessages)) };
+        ensures reason { IfErr result RefusesMessage };
 
     /// Sends a message with information about the task, with the severity `Info`.
     ///
@@ -124,7 +125,7 @@ pub trait Progress: Count + Send + Sync {
     /// As `message`.
     fn info(&self, alloc: Global, at: Moment, message: &str) -> Result<(), Refusal>
         ensures ok { OnOk result (was_sent self.now at Info message.now) }
-        ensures reason { IfErr result (λ e. (e ≡ Refusal.Memory) ⊎ (e ≡ Refusal.TooManyMessages)) }
+        ensures reason { IfErr result RefusesMessage }
     {
         self.message(alloc, at, MessageLevel::Info, message)
     }
@@ -136,7 +137,7 @@ pub trait Progress: Count + Send + Sync {
     /// As `message`.
     fn done(&self, alloc: Global, at: Moment, message: &str) -> Result<(), Refusal>
         ensures ok { OnOk result (was_sent self.now at Success message.now) }
-        ensures reason { IfErr result (λ e. (e ≡ Refusal.Memory) ⊎ (e ≡ Refusal.TooManyMessages)) }
+        ensures reason { IfErr result RefusesMessage }
     {
         self.message(alloc, at, MessageLevel::Success, message)
     }
@@ -148,7 +149,7 @@ pub trait Progress: Count + Send + Sync {
     /// As `message`.
     fn fail(&self, alloc: Global, at: Moment, message: &str) -> Result<(), Refusal>
         ensures ok { OnOk result (was_sent self.now at Failure message.now) }
-        ensures reason { IfErr result (λ e. (e ≡ Refusal.Memory) ⊎ (e ≡ Refusal.TooManyMessages)) }
+        ensures reason { IfErr result RefusesMessage }
     {
         self.message(alloc, at, MessageLevel::Failure, message)
     }
@@ -164,7 +165,7 @@ pub trait Progress: Count + Send + Sync {
             × IfSome unit (λ unit. has_unit self.now unit)
             × was_sent self.now now Info
             (texts.throughput_message (unit_shown unit) step (now - start))) }
-        ensures reason { IfErr result (λ e. (e ≡ Refusal.Memory) ⊎ (e ≡ Refusal.TooManyMessages)) }
+        ensures reason { IfErr result RefusesMessage }
     {
         let step = self.step();
         let unit = self.unit();
@@ -188,7 +189,7 @@ pub trait Progress: Count + Send + Sync {
     ) -> Result<(), Refusal>
         ensures ok { OnOk result (was_sent self.now now level
             (texts.throughput_message (unit_shown unit) step (now - start))) }
-        ensures reason { IfErr result (λ e. (e ≡ Refusal.Memory) ⊎ (e ≡ Refusal.TooManyMessages)) }
+        ensures reason { IfErr result RefusesMessage }
     {
         let text = throughput_message(alloc, start, now, step, unit.as_ref())?;
         self.message(alloc, now, level, &text)

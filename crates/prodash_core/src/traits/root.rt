@@ -1,4 +1,5 @@
-ghost use Rattle.std.specs.Prelude.{◌≡◌, ◌⊎◌, ℕ, List, None, IfOk, IfErr, OnOk, OnErr};
+ghost use Rattle.std.specs.Prelude.{◌≡◌, ℕ, List, None, IfOk, IfErr, OnOk, OnErr};
+ghost use Rattle.prodash_base.specs.Refusals.{RefusesHandle};
 ghost use Rattle.prodash_base.specs.Adjacency.{IsAscending, paths_of};
 ghost use Rattle.prodash_base.specs.Rows.{PathRow, rows_of};
 
@@ -131,5 +132,5 @@ pub trait WeakRoot {
     /// is at its limit.
     fn upgrade(&self) -> Result<Option<Self::Root>, Refusal>
         ensures ok { IfOk result (λ root. finds self.now root) }
-        ensures reason { IfErr result (λ e. (e ≡ Refusal.Memory) ⊎ (e ≡ Refusal.TooManyHandles)) };
+        ensures reason { IfErr result RefusesHandle };
 }

@@ -1,5 +1,6 @@
 //! Owners of recorded trees, and their items.
-ghost use Rattle.std.specs.Prelude.{◌≡◌, ◌⊎◌, ◌↔◌, Err, false, IfOk, IfErr, OnOk, OnErr, length};
+ghost use Rattle.std.specs.Prelude.{◌≡◌, ◌↔◌, Err, false, IfOk, IfErr, OnOk, OnErr, length};
+ghost use Rattle.prodash_base.specs.Refusals.{RefusesHandle};
 ghost use Rattle.prodash_core.specs.Trees.{is_frame};
 ghost use Rattle.prodash.specs.Journals.{IsJournal, no_calls, with_call, amount, calls_of, sum_of};
 
@@ -96,7 +97,7 @@ impl<C: TreeLedger, S: Ledger> RecordedRoot<C, S> {
     /// owner.
     pub fn share<R: Wait>(&self, rt: &R) -> Result<RecordedItem<C, S>, Refusal>
         ensures ok { IfOk result (λ item. item ≡ no_calls) }
-        ensures err { IfErr result (λ e. (e ≡ Refusal.Memory) ⊎ (e ≡ Refusal.TooManyHandles)) }
+        ensures err { IfErr result RefusesHandle }
     {
         let mut rest = self.rest.lock(rt);
         if rest.is_full() {

@@ -1,5 +1,6 @@
 //! The engine: each event draws one frame of what its root shows then.
-ghost use Rattle.std.specs.Prelude.{◌≡◌, ◌⊎◌, IfOk, IfErr};
+ghost use Rattle.std.specs.Prelude.{◌≡◌, IfOk, IfErr};
+ghost use Rattle.prodash_base.specs.Refusals.{RefusesHandle};
 ghost use Rattle.prodash_line.specs.Renderer.{Renders, new_renderer};
 ghost use Rattle.prodash.specs.Engines.{MaySee, StepsAt};
 
@@ -142,8 +143,7 @@ where
     fn look(&self) -> Result<Option<(Rows, Messages, MessageCopyState)>, Refusal>
         ensures ok { IfOk result (λ seen. MaySee (W.finds self.now.weak) W.Root.looks
             self.now.renderer.seen seen) }
-        ensures err { IfErr result
-            (λ e. (e ≡ Refusal.Memory) ⊎ (e ≡ Refusal.TooManyHandles)) }
+        ensures err { IfErr result RefusesHandle }
     {
         let Some(root) = self.weak.upgrade()? else {
             return Ok(None);
