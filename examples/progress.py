@@ -1,5 +1,8 @@
 #!/usr/bin/env python3
-"""Three downloads that are made up, as lines for prodash-live: examples/progress.py | bin/prodash-live"""
+"""Writes three made-up downloads as lines for prodash-live.
+
+    examples/progress.py | bin/prodash-live
+"""
 import random
 import time
 

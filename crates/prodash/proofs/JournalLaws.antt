@@ -5,8 +5,7 @@ use Rattle.prodash_core.specs.Trees.{Tree, Plays}
 use Rattle.prodash_core.specs.declared.tree.event.Event.{Event}
 use Rattle.prodash_core.specs.declared.tree.event.Reply.{Reply}
 use Rattle.prodash_core.specs.Replies.{owns_memory}
-use Rattle.prodash_core.proofs.ReadingEvents.{reads_only, memory_only}
-use Rattle.prodash.proofs.TreeRefusals.{no_handle_limit}
+use Rattle.prodash_core.proofs.PlayedEvents.{reads_only, memory_only, no_handle_limit}
 use Rattle.prodash.specs.Journals.{Leads, Replays, IsJournal, amount_of, amount}
 
 -- one accepted event more leads to the tree after it

@@ -1,4 +1,3 @@
 pub mod EngineSteps
 mod JournalLaws
-mod TreeRefusals
 mod WorkedItems

@@ -1,5 +1,6 @@
 -- The engine: a renderer that looks at a root by itself, and what one step of it does.
-use Rattle.std.specs.Prelude.{◌≡◌, ℕ, List, Option, Some, None, Result, Ok, Err, ◌⊎◌}
+use Rattle.std.specs.Prelude.{◌≡◌, ℕ, List, Option, Some, None, Result, Ok, Err, ◌⊎◌, Bool, true, false}
+use Rattle.std.specs.Map.{keys_of}
 use Rattle.prodash_base.specs.Adjacency.{IsAscending}
 use Rattle.prodash_base.specs.Rows.{PathRow}
 use Rattle.prodash_base.specs.declared.messages.Message.{Message}
@@ -8,9 +9,10 @@ use Rattle.prodash_base.specs.declared.refusal.Refusal.TheVariants as refusals
 use Rattle.prodash_line.specs.declared.render.line.draw.input.Input.{Input}
 use Rattle.prodash_line.specs.declared.render.line.draw.input.Input.TheVariants as inputs
 use Rattle.prodash_line.specs.declared.render.line.draw.input.Answer.{Answer}
-use Rattle.prodash_line.specs.Renderer.{Renderer, Seen, Accepts, RunsOutOfMemory, Refuses, Breaks}
+use Rattle.prodash_line.specs.declared.render.line.draw.input.Options.{Options as DrawOptions}
+use Rattle.prodash_line.specs.Renderer.{Renderer, Seen, Accepts, RunsOutOfMemory, Refuses, Breaks, Renders, new_renderer}
 use Rattle.prodash_line.specs.Screens.{ScreenState}
-use Rattle.prodash_core.specs.Tables.{paths_of}
+use Rattle.prodash.specs.declared.render.line.engine.options.Options.{Options}
 use Rattle.prodash.specs.declared.render.line.engine.event.EngineEvent.{EngineEvent}
 use Rattle.prodash.specs.declared.render.line.engine.event.EngineEvent.TheVariants.{Tick, Resize, Quit}
 
@@ -20,6 +22,38 @@ pub record EngineState (S W : Type 0) : Type 0 where
   pub screen : S
   pub weak : W
 
+-- the engine of a renderer that has drawn nothing yet
+abbrev pub new_engine : {S W : Type 0} → DrawOptions → Bool → S → W → EngineState S W
+new_engine options throughput screen weak =
+    record { renderer = new_renderer options throughput; screen = screen; weak = weak }
+
+-- the options by default: a coloured terminal of 80 columns and 20 rows, six frames a second
+abbrev pub default_options : Options
+default_options = record {
+  output_is_terminal = true;
+  colored = true;
+  timestamp = false;
+  terminal_dimensions = (80, 20);
+  hide_cursor = false;
+  throughput = false;
+  level_filter = None;
+  initial_delay = None;
+  nanoseconds_per_frame = 166_666_666;
+  keep_running_if_progress_is_empty = true;
+}
+
+-- those of the options that decide what a frame is
+abbrev pub draw_options : Options → DrawOptions
+draw_options o = record {
+  level_filter = o.level_filter;
+  terminal_dimensions = o.terminal_dimensions;
+  keep_running_if_progress_is_empty = o.keep_running_if_progress_is_empty;
+  output_is_terminal = o.output_is_terminal;
+  colored = o.colored;
+  timestamp = o.timestamp;
+  hide_cursor = o.hide_cursor;
+}
+
 -- what one look at a root may show, by how many messages were seen before
 abbrev pub Looks : Type 0 → Type 1
 Looks Root = Root → Option ℕ → List PathRow → List Message → ℕ → Type 0
@@ -28,7 +62,7 @@ Looks Root = Root → Option ℕ → List PathRow → List Message → ℕ → T
 abbrev pub ShownBy : {Root : Type 0} → Looks Root → Option Root → Option ℕ → Seen → Type 0
 ShownBy looks None previous None = Unit {0}
 ShownBy looks (Some root) previous (Some seen) =
-    IsAscending (paths_of seen.0) × looks root previous seen.0 seen.1 seen.2
+    IsAscending (keys_of seen.0) × looks root previous seen.0 seen.1 seen.2
 ShownBy looks root previous seen = ⊥
 
 -- what a tick may see of a weak root: what one look at a root shows that it may find
@@ -65,3 +99,22 @@ StepsAt event sees r s (Err refusals.TooManyHandles) r' s' = LooksAtRoot event �
 StepsAt event sees r s (Err refusals.Closed) r' s' = Refuses r refusals.Closed s r' s'
 StepsAt event sees r s (Err refusals.Broken) r' s' = Refuses r refusals.Broken s r' s' ⊎ BreaksAtEvent event sees r s r' s'
 StepsAt event sees r s (Err _) r' s' = ⊥
+
+module _ {S W Root : Type 0} where
+  -- what a tick of an engine may see
+  abbrev pub EngineSees : (W → Option Root → Type 0) → Looks Root → EngineState S W → Seen → Type 0
+  EngineSees finds looks e = MaySee (finds e.weak) looks e.renderer.seen
+
+  -- what a step of an engine returns, and what it leaves of the renderer and the screen
+  abbrev pub EngineSteps : (S → ScreenState) → (W → Option Root → Type 0) → Looks Root
+      → EngineState S W → EngineEvent → Result Answer Refusal → EngineState S W → Type 0
+  EngineSteps state finds looks e event result e' =
+      StepsAt event (EngineSees finds looks e) e.renderer (state e.screen) result
+      e'.renderer (state e'.screen)
+
+module _ {S W : Type 0} where
+  -- what an engine returns for an input, and what it leaves of the renderer and the screen
+  abbrev pub EngineRenders : (S → ScreenState) → EngineState S W → Input → Result Answer Refusal
+      → EngineState S W → Type 0
+  EngineRenders state e input result e' =
+      Renders e.renderer input (state e.screen) result e'.renderer (state e'.screen)

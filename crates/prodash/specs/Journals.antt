@@ -1,5 +1,5 @@
 -- Journals: the accepted events of a tree, each with its reply.
-use Rattle.std.specs.Prelude.{◌≡◌, ℕ, ◌+◌, List, [], ◌∷◌, Ok}
+use Rattle.std.specs.Prelude.{◌≡◌, ℕ, ◌+◌, List, [], ◌∷◌, ◌++◌, Option, Some, Ok}
 use Rattle.std.specs.List.{sum_by}
 use Rattle.prodash_core.specs.Trees.{Tree, new_tree, Plays}
 use Rattle.prodash_core.specs.declared.tree.event.Event.{Event}
@@ -56,3 +56,13 @@ calls_of shares = sum_by (λ share. share.calls) shares
 
 abbrev pub sum_of : List Tally → ℕ
 sum_of shares = sum_by (λ share. share.sum) shares
+
+-- The event is accepted with this reply, and gets an entry.
+pub record Records (old : Recorded) (e : Event) (reply : Reply) (new : Recorded) : Type 0 where
+  pub plays : Plays old.tree e (Ok reply) new.tree
+  pub entry : new.entries ≡ old.entries ++ (e, reply) ∷ []
+
+-- the same of a recorded tree whose journal isn't taken out
+abbrev pub RecordsIn : Option Recorded → Event → Reply → Option Recorded → Type 0
+RecordsIn (Some old) e reply (Some new) = Records old e reply new
+RecordsIn _ e reply _ = ⊥

@@ -1,4 +1,5 @@
 pub mod Items
+pub mod Locks
 pub mod Engines
 pub mod Logs
 pub mod Wrappers

@@ -2,6 +2,7 @@
 use Rattle.std.specs.Prelude.{ℕ, ◌+◌, ◌-◌, ◌^◌, min, List, [], ◌∷◌, ◌++◌, codes, Option, Some, None, ◌≡◌, ◌⊎◌}
 use Rattle.std.specs.Fmt.{decimal}
 use Rattle.std.specs.Str.Pattern.{FindsText, SplitsAroundMatch}
+use Rattle.prodash_base.specs.Displays.{amount}
 use Rattle.prodash_base.specs.Units.{all_text_of}
 use Rattle.prodash_base.specs.declared.unit.units.Unit.{Unit}
 use Rattle.prodash_base.specs.declared.messages.MessageLevel.{MessageLevel}
@@ -49,13 +50,21 @@ arrowed name said = name ++ arrow ++ said
 
 -- a step with its bound and its unit: without a unit, the bound is between spaces
 abbrev pub step_text : Option ℕ → Option Unit → ℕ → List ℕ
-step_text max (Some unit) step = all_text_of unit step max None
+step_text max (Some unit) step = all_text_of unit (amount step max None)
 step_text (Some max) None step = decimal step ++ codes " / " ++ decimal max
 step_text None None step = decimal step
 
+-- the line of a name at a step, with the bound and the unit of the step
+abbrev pub step_line : List ℕ → Option ℕ → Option Unit → ℕ → List ℕ
+step_line name max unit step = arrowed name (step_text max unit step)
+
 -- the line of a log at a step, as `main::work → 3 / 10`
 abbrev pub line_text : LogState → ℕ → List ℕ
-line_text log step = arrowed log.name (step_text log.max log.unit step)
+line_text log step = step_line log.name log.max log.unit step
+
+-- the line of a log at some step
+abbrev pub IsLineOf : LogState → List ℕ → Type 0
+IsLineOf log line = (step : ℕ) × (line ≡ line_text log step)
 
 -- the sign of a severity, in UTF-8: `ℹ` (U+2139), `𐄂` (U+10102) or `✓` (U+2713)
 abbrev pub sign_of : MessageLevel → List ℕ
@@ -84,3 +93,9 @@ abbrev pub IsSecondPart : List ℕ → Option (List ℕ) → Type 0
 IsSecondPart name None = IsOnePart name
 IsSecondPart name (Some second) =
     (first : List ℕ) × (rest : List ℕ) × AreParted name first rest × IsFirstPart rest second
+
+-- all of the log's name but its first part is replaced by the name
+abbrev pub Renames : LogState → List ℕ → LogState → Type 0
+Renames log name after =
+    (first : List ℕ) × IsFirstPart log.name first
+    × (after ≡ record log { name = joined first name })

@@ -20,13 +20,9 @@
 //! let options = SessionOptions {
 //!     root: RootOptions::default(),
 //!     draw: draw::Options {
-//!         level_filter: None,
 //!         terminal_dimensions: (40, 20),
-//!         keep_running_if_progress_is_empty: true,
-//!         output_is_terminal: true,
 //!         colored: false,
-//!         timestamp: false,
-//!         hide_cursor: false,
+//!         ..draw::Options::default()
 //!     },
 //!     throughput: false,
 //! };
@@ -39,8 +35,8 @@
 //! it from a thread of its own, call [`render::line::render`].
 //!
 //! Then see [`progress`] for what a task shows, [`unit`] for values as texts, [`messages`] for what
-//! tasks report, [`tree`] for the tasks without a screen, and [`render::line`] for the screen without
-//! a tree.
+//! tasks report, [`tree`] for the tasks without a screen, and [`render::line`] for the screen
+//! without a tree.
 #![tactic(auto)]
 
 pub mod messages;

@@ -1,8 +1,8 @@
 //! What a task shows: its key, state, value and row; and progress that wraps other progress, or
 //! none.
 pub mod key;
-mod logging;
-mod utils;
+pub mod logging;
+pub mod utils;
 
 pub use key::Key;
 pub use logging::Log;

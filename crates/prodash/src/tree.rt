@@ -1,5 +1,5 @@
 //! The tree of tasks, which threads share, sessions of events on one, and whole runs.
-mod item;
+pub mod item;
 mod locked;
 pub mod recorded;
 pub mod root;

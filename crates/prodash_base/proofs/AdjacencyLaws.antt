@@ -12,7 +12,8 @@ use Rattle.std.proofs.lemmas.List.{take_all, length-map, length-take-le}
 use Rattle.std.proofs.lemmas.List.Folds.{list_any_at}
 use Rattle.prodash_base.specs.declared.progress.Row.{Row}
 use Rattle.prodash_base.specs.Path.{Path, path_cmp}
-use Rattle.prodash_base.specs.Adjacency.{IsAscending, paths_of, is_path, is_sibling, has_sibling_before, has_parent, has_below}
+use Rattle.prodash_base.specs.Numbers.{same_numbers}
+use Rattle.prodash_base.specs.Adjacency.{IsAscending, paths_of, is_beside, has_sibling_before, has_parent, has_below}
 use Rattle.prodash_base.specs.plumbing.Branches.{path_at, cmp_prefix, HasLevel, StartsBranch, EndsBranch}
 use Rattle.prodash_base.proofs.BranchLaws.{in_order, turned, equal_if_both, same_prefix, prefix_ties, prefix_le, prefix_up, path_of_row, row_inside}
 
@@ -37,14 +38,14 @@ equal_between n q p le gt = by (cmp_prefix n q p) refl
     by Greater e = let u : is_le (cmp_prefix n q p) ≡ false = ap is_le e in absurd (cc)
 
 -- what the test of a sibling says
-sibling : (l : ℕ) (p q : Path) → length q ≡ l → cmp_prefix (l - 1) q p ≡ Equal → is_sibling p l q ≡ true
+sibling : (l : ℕ) (p q : Path) → length q ≡ l → cmp_prefix (l - 1) q p ≡ Equal → is_beside p l q ≡ true
 sibling l p q level tie =
     both _ _ ((unsigned_Decides (length q) l).1 level) ((bytes_decides (take (l - 1) p) (take (l - 1) q)).1 (sym (same_prefix (l - 1) q p tie)))
 
-sibling_level : (l : ℕ) (p q : Path) → is_sibling p l q ≡ true → length q ≡ l
+sibling_level : (l : ℕ) (p q : Path) → is_beside p l q ≡ true → length q ≡ l
 sibling_level l p q h = (unsigned_Decides (length q) l).0 (and_parts _ _ h).0
 
-sibling_tie : (l : ℕ) (p q : Path) → is_sibling p l q ≡ true → cmp_prefix (l - 1) q p ≡ Equal
+sibling_tie : (l : ℕ) (p q : Path) → is_beside p l q ≡ true → cmp_prefix (l - 1) q p ≡ Equal
 sibling_tie l p q h = prefix_ties (l - 1) q p (sym ((bytes_decides (take (l - 1) p) (take (l - 1) q)).0 (and_parts _ _ h).1))
 
 module _ (S : List Path) (up : IsAscending S) (x : ℕ) (inside : x < length S) where
@@ -85,17 +86,17 @@ module _ (S : List Path) (up : IsAscending S) (x : ℕ) (inside : x < length S) 
       let lt : path_cmp q p ≡ Less = in_order S up k x [] kx inside in
       let ge : is_ge (cmp_prefix (l - 1) q p) ≡ true = rest k [] at.1 (omega arith) in
       let gt : is_gt (cmp_prefix (l - 1) q p) ≡ false = prefix_up S up (l - 1) k x [] (omega arith) inside in
-      list_any_at (λ r. is_lt (path_cmp r p) && is_sibling p l r) S k [] (omega arith)
+      list_any_at (λ r. is_lt (path_cmp r p) && is_beside p l r) S k [] (omega arith)
       (both _ _ (ap is_lt lt) (sibling l p q at.3 (equal_if_both _ ge gt)))
 
   pub before_found : (l first : ℕ) → AllWithin (λ q. IsTrue (is_lt (cmp_prefix (l - 1) q (path_at S x)))) S 0 first
       → has_sibling_before S (path_at S x) l ≡ true → HasLevel S l first x
   before_found l first before h =
       let p = path_at S x in
-      let found = listed (λ r. is_lt (path_cmp r p) && is_sibling p l r) S h in
+      let found = listed (λ r. is_lt (path_cmp r p) && is_beside p l r) S h in
       let k = found.0 in
       let q = path_at S k in
-      let parts = and_parts (is_lt (path_cmp q p)) (is_sibling p l q) found.2 in
+      let parts = and_parts (is_lt (path_cmp q p)) (is_beside p l q) found.2 in
       let low : first ≤ k = from_first (l - 1) first before k (sibling_tie l p q parts.1) in
       let high : k < x = elim (cases_lt k x) [
         | inl lt ↦ lt
@@ -115,17 +116,17 @@ module _ (S : List Path) (up : IsAscending S) (x : ℕ) (inside : x < length S) 
       let gt : path_cmp q p ≡ Greater = turned p q (in_order S up x k [] (omega arith) (omega arith)) in
       let le : is_le (cmp_prefix (l - 1) q p) ≡ true = before k [] (omega arith) ke in
       let rise : is_gt (cmp_prefix (l - 1) p q) ≡ false = prefix_up S up (l - 1) x k [] (omega arith) (omega arith) in
-      list_any_at (λ r. is_gt (path_cmp r p) && is_sibling p l r) S k [] (omega arith)
+      list_any_at (λ r. is_gt (path_cmp r p) && is_beside p l r) S k [] (omega arith)
       (both _ _ (ap is_gt gt) (sibling l p q at.3 (equal_between (l - 1) q p le rise)))
 
   pub after_found : (l end : ℕ) → AllWithin (λ q. IsTrue (is_gt (cmp_prefix (l - 1) q (path_at S x)))) S end (length S)
       → has_below S (path_at S x) l ≡ true → HasLevel S l (x + 1) end
   after_found l end rest h =
       let p = path_at S x in
-      let found = listed (λ r. is_gt (path_cmp r p) && is_sibling p l r) S h in
+      let found = listed (λ r. is_gt (path_cmp r p) && is_beside p l r) S h in
       let k = found.0 in
       let q = path_at S k in
-      let parts = and_parts (is_gt (path_cmp q p)) (is_sibling p l q) found.2 in
+      let parts = and_parts (is_gt (path_cmp q p)) (is_beside p l q) found.2 in
       let low : x + 1 ≤ k = elim (cases_lt x k) [
         | inl lt ↦ omega arith
         | inr ge ↦ let one = not_after k ge in let two = parts.0 in absurd (cc)
@@ -154,13 +155,13 @@ module _ (S : List Path) (up : IsAscending S) (x : ℕ) (inside : x < length S) 
         let q = path_at S first in
         let whole : take (l - 1) q ≡ q = take_all (l - 1) q (omega arith) in
         let same : take (l - 1) p ≡ q = sym (same_prefix (l - 1) q p first_tie) ∙ whole in
-        list_any_at (is_path (take (l - 1) p)) S first [] (omega arith) ((bytes_decides (take (l - 1) p) q).1 same)
+        list_any_at (same_numbers (take (l - 1) p)) S first [] (omega arith) ((bytes_decides (take (l - 1) p) q).1 same)
 
     pub parent_is_first : l ≤ length (path_at S x) → has_parent S (path_at S x) l ≡ true → length (path_at S first) ≡ l - 1
     parent_is_first short h =
         let n = l - 1 in
         let p = path_at S x in
-        let found = listed (is_path (take n p)) S h in
+        let found = listed (same_numbers (take n p)) S h in
         let k = found.0 in
         let q = path_at S k in
         let f = path_at S first in

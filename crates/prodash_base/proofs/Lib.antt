@@ -1,3 +1,4 @@
+pub mod KeyOrder
 pub mod BranchLaws
 pub mod AdjacencyLaws
 pub mod AncestorLaws

@@ -5,7 +5,7 @@ use Rattle.std.proofs.lemmas.List.{take-append-drop}
 use Rattle.std.proofs.Math.Seq.{take-append_seam}
 use Rattle.std.proofs.lemmas.Str.{IsUtf8-string_bytes, IsCharBoundary-from_take}
 use Rattle.std.specs.String.Boundary.{IsSplitPoint}
-use Rattle.prodash_base.specs.plumbing.Prefixes.{IsPrefix}
+use Rattle.prodash_base.specs.Appending.{IsPrefix}
 
 -- a text is a prefix of what was appended to it
 pub IsPrefix-append : (old new text : List ℕ) → new ≡ old ++ text → IsPrefix old new

@@ -1,10 +1,12 @@
 -- The messages of a ring as the last of all that were ever pushed.
-use Rattle.std.proofs.Common.{◌≡◌, ℕ, ◌+◌, ◌-◌, min, List, [], ◌∷◌, ◌++◌, length, drop, Some, refl, ap, sym, ◌∙◌, arith, append_assoc, length-append, length-drop}
-use Rattle.std.specs.Prelude.{fold}
+use Rattle.std.proofs.Common.{◌≡◌, ℕ, ◌+◌, ◌-◌, min, List, [], ◌∷◌, ◌++◌, length, drop, Some, refl, ap, sym, ◌∙◌, arith, ◌≤◌, ◌<◌, Bool, true, false, append_assoc, length-append, length-drop}
+use Rattle.std.specs.Prelude.{fold, nat_le}
 use Rattle.std.proofs.lemmas.List.{append-nil, drop-drop, drop-append-le, drop_at}
+use Rattle.std.proofs.lemmas.Bool.Decides.{nat_tests}
 use Rattle.std.proofs.lemmas.Grind.{common_steps}
 use Rattle.circular_buffer.specs.Buffer.{keep_last}
-use Rattle.prodash_base.specs.Rings.{new_ring, push, messages_since, latest_messages, ring_of, new_since}
+use Rattle.prodash_base.proofs.SampleLaws.{drop_past}
+use Rattle.prodash_base.specs.Rings.{new_ring, push, messages_since, ring_of}
 use Rattle.prodash_base.specs.declared.messages.Message.{Message}
 
 -- the last messages after one more
@@ -38,25 +40,28 @@ fold-push capacity (m ∷ after) =
     let first : push (new_ring capacity) m ≡ ring_of capacity (m ∷ []) = grind (arith, common_steps) in
     ap (λ r. fold push r after) first ∙ fold-push-ring_of capacity (m ∷ []) after
 
+within : (capacity seen : ℕ) (all : List Message) → seen ≤ length all → messages_since (ring_of capacity all) (Some seen) ≡ keep_last capacity (drop seen all)
+within capacity seen all h =
+    let messages = keep_last capacity all in
+    let later = length all - seen in
+    let left : length messages ≡ length all - (length all - capacity) = length-drop (length all - capacity) all in
+    let after : length (drop seen all) ≡ length all - seen = length-drop seen all in
+    let count : length all - capacity + (length messages - later) ≡ seen + (length (drop seen all) - capacity) = omega arith in
+    drop-drop (length messages - later) (length all - capacity) all ∙ ap (λ k. drop k all) count
+    ∙ sym (drop-drop (length (drop seen all) - capacity) seen all)
+
+-- a copy with the state from after the first pushes
+pub messages_since-drop : (capacity seen : ℕ) (all : List Message) → messages_since (ring_of capacity all) (Some seen) ≡ keep_last capacity (drop seen all)
+messages_since-drop capacity seen all =
+    elim (nat_le seen (length all)) as (λ b. nat_le seen (length all) ≡ b → messages_since (ring_of capacity all) (Some seen) ≡ keep_last capacity (drop seen all)) [
+      | true ↦ λ e. let few : seen ≤ length all = grind (arith, nat_tests) in within capacity seen all few
+      | false ↦ λ e.
+          let many : length all < seen = grind (arith, nat_tests) in
+          drop_past (keep_last capacity all) _ (omega arith) ∙ sym (drop_past (drop seen all) _ (omega (arith, length-drop seen all)))
+    ] refl
+
 -- a copy with the state from before the later pushes
 pub messages_since-append : (capacity : ℕ) (before after : List Message)
-    → messages_since (ring_of capacity (before ++ after)) (Some (ring_of capacity before).pushed) ≡ latest_messages capacity after
+    → messages_since (ring_of capacity (before ++ after)) (Some (ring_of capacity before).pushed) ≡ keep_last capacity after
 messages_since-append capacity before after =
-    let all = before ++ after in
-    let messages = keep_last capacity all in
-    let later = length all - length before in
-    let whole : length all ≡ length before + length after = length-append before after in
-    let left : length messages ≡ length all - (length all - capacity) = length-drop (length all - capacity) all in
-    let count : length all - capacity + (length messages - later) ≡ length before + (length after - capacity) = omega arith in
-    drop-drop (length messages - later) (length all - capacity) all ∙ ap (λ k. drop k all) count
-    ∙ sym (drop-drop (length after - capacity) (length before) all)
-    ∙ ap (drop (length after - capacity)) (drop_at before after (length before) refl)
-
--- the messages that are new since those before
-pub new_since-append : (capacity : ℕ) (before after : List Message) → new_since capacity (before ++ after) (length before) ≡ latest_messages capacity after
-new_since-append capacity before after =
-    let all = before ++ after in
-    let whole : length all ≡ length before + length after = length-append before after in
-    let count : length all - min capacity (length all - length before) ≡ length before + (length after - capacity) = omega arith in
-    ap (λ k. drop k all) count ∙ sym (drop-drop (length after - capacity) (length before) all)
-    ∙ ap (drop (length after - capacity)) (drop_at before after (length before) refl)
+    messages_since-drop capacity (length before) (before ++ after) ∙ ap (keep_last capacity) (drop_at before after (length before) refl)

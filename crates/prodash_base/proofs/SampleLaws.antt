@@ -4,7 +4,7 @@ use Rattle.std.specs.Prelude.{nat_lt, nat_le, ◌⊎◌}
 use Rattle.std.proofs.Common.{inl, inr, take, length, length-drop, drop, get_or, drop-cons, add-one}
 use Rattle.std.proofs.Math.Nat.{mul-add-div_right, div-add-mod}
 use Rattle.std.proofs.lemmas.Bool.Decides.{nat_tests}
-use Rattle.prodash_base.specs.Samples.{one_second, duration, samples_of, is_empty, after_mark, is_mark, to_mark, latest_over, rate_at, sample_of, per_second, IsShortestOver}
+use Rattle.prodash_base.specs.Samples.{one_second, duration, samples_of, after_mark, to_mark, latest_over, rate_at, sample_of, per_second, IsShortestOver}
 use Rattle.prodash_base.specs.declared.throughput.sample.Observation.{Observation}
 use Rattle.prodash_base.specs.declared.throughput.sample.Sample.{Sample}
 
@@ -98,13 +98,29 @@ scaled_apart a n k h =
     ap (λ m. m * k) (sym (div-add-mod a n)) ∙ omega arith in
     sym (ap (λ m. m / n) whole ∙ mul-add-div_right h (a / n * k) (a % n * k))
 
+abbrev pub is_empty : List Sample → Bool
+is_empty [] = true
+is_empty (s ∷ older) = false
+
+-- the test whether a sample that follows these is a mark
+abbrev pub is_mark : Sample → List Sample → Bool
+is_mark s older = is_empty older || nat_lt one_second (duration (s ∷ after_mark older))
+
+after_mark-cons : (s : Sample) (older : List Sample) → after_mark (s ∷ older) ≡ cond (is_mark s older) [] (s ∷ after_mark older)
+after_mark-cons s [] = refl
+after_mark-cons s (t ∷ older) = refl
+
 -- a mark
 pub marked : (s : Sample) (older : List Sample) → is_mark s older ≡ true → (to_mark (s ∷ older) ≡ s ∷ older) × (after_mark (s ∷ older) ≡ [])
-marked s older e = (ap (λ b. cond b (s ∷ older) (to_mark older)) e, ap (λ b. cond b [] (s ∷ after_mark older)) e)
+marked s older e =
+    let none = after_mark-cons s older ∙ ap (λ b. cond b [] (s ∷ after_mark older)) e in
+    (ap (λ recent. drop (length recent) (s ∷ older)) none, none)
 
 -- no mark
 pub unmarked : (s : Sample) (older : List Sample) → is_mark s older ≡ false → (to_mark (s ∷ older) ≡ to_mark older) × (after_mark (s ∷ older) ≡ s ∷ after_mark older)
-unmarked s older e = (ap (λ b. cond b (s ∷ older) (to_mark older)) e, ap (λ b. cond b [] (s ∷ after_mark older)) e)
+unmarked s older e =
+    let more = after_mark-cons s older ∙ ap (λ b. cond b [] (s ∷ after_mark older)) e in
+    (ap (λ recent. drop (length recent) (s ∷ older)) more, more)
 
 length_0 : (samples : List Sample) → length samples ≡ 0 → is_empty samples ≡ true
 length_0 [] h = refl
@@ -129,10 +145,10 @@ is_empty_past observations n =
 duration-after_mark : (samples : List Sample) → duration (after_mark samples) ≤ duration samples
 duration-after_mark [] = omega arith
 duration-after_mark (s ∷ older) =
-    elim (is_mark s older) as (λ b. duration (cond b [] (s ∷ after_mark older)) ≤ duration (s ∷ older)) [
-      | true ↦ omega arith
-      | false ↦ omega (arith, duration-after_mark older)
-    ]
+    elim (is_mark s older) as (λ b. is_mark s older ≡ b → duration (after_mark (s ∷ older)) ≤ duration (s ∷ older)) [
+      | true ↦ λ e. omega (arith, ap duration (marked s older e).1)
+      | false ↦ λ e. omega (arith, ap duration (unmarked s older e).1, duration-after_mark older)
+    ] refl
 
 mark_over : (s : Sample) (older : List Sample) → is_mark s older ≡ true → 2 ≤ length (s ∷ older) → one_second < duration (s ∷ older)
 mark_over s [] e many = absurd (omega arith)
@@ -142,10 +158,10 @@ mark_over s (t ∷ older) e many = omega (arith, is_below one_second (duration (
 pub to_mark-over : (samples : List Sample) → 2 ≤ length (to_mark samples) → one_second < duration (to_mark samples)
 to_mark-over [] h = absurd (omega arith)
 to_mark-over (s ∷ older) h =
-    elim (is_mark s older) as (λ b. is_mark s older ≡ b → 2 ≤ length (cond b (s ∷ older) (to_mark older)) → one_second < duration (cond b (s ∷ older) (to_mark older))) [
-      | true ↦ λ e many. mark_over s older e many
-      | false ↦ λ e many. to_mark-over older many
-    ] refl h
+    elim (is_mark s older) as (λ b. is_mark s older ≡ b → one_second < duration (to_mark (s ∷ older))) [
+      | true ↦ λ e. omega (arith, ap duration (marked s older e).0, mark_over s older e (omega (arith, ap length (marked s older e).0)))
+      | false ↦ λ e. omega (arith, ap duration (unmarked s older e).0, to_mark-over older (omega (arith, ap length (unmarked s older e).0)))
+    ] refl
 
 -- the rate at the last mark, by how many samples there are
 pub rate_at-few : (samples : List Sample) → length samples < 2 → rate_at samples ≡ None

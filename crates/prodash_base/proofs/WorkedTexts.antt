@@ -5,7 +5,7 @@ use Rattle.std.specs.Fmt.{digits}
 use Rattle.prodash_base.specs.Numerals.{last_digits}
 use Rattle.prodash_base.specs.Quantities.{percentage_of, bytes_text, human_text, duration_text}
 use Rattle.prodash_base.specs.Shown.{Shown, label_shown, range_shown, bytes_shown, duration_shown, human_shown, label_fraction, throughput_text}
-use Rattle.prodash_base.specs.Displays.{all_text, values_text, unit_text}
+use Rattle.prodash_base.specs.Displays.{amount, all_text, values_text, unit_text}
 use Rattle.prodash_base.specs.ThroughputMessages.{throughput_message, seconds_text}
 use Rattle.prodash_base.specs.declared.unit.display.Mode.{Mode}
 use Rattle.prodash_base.specs.declared.unit.display.Throughput.{Throughput}
@@ -32,11 +32,11 @@ five_in ns = record { value_change_in_timespan = 5; timespan = ns }
 abbrev five_in_a_second : Option Throughput
 five_in_a_second = Some (five_in 1_000_000_000)
 
-pub range_counts_from_one : all_text (range_shown (codes "steps")) None 1 (Some 5) None ≡ codes "2 of 5 steps"
+pub range_counts_from_one : all_text (range_shown (codes "steps")) None (amount 1 (Some 5) None) ≡ codes "2 of 5 steps"
 unfolding digits
 range_counts_from_one = refl
 
-pub greatest_of_range : all_text (range_shown (codes "steps")) None (2 ^ 64 - 1) None None ≡ codes "18446744073709551616 steps"
+pub greatest_of_range : all_text (range_shown (codes "steps")) None (amount (2 ^ 64 - 1) None None) ≡ codes "18446744073709551616 steps"
 unfolding digits
 greatest_of_range = refl
 
@@ -44,50 +44,50 @@ pub range_throughput : throughput_text (range_shown (codes "steps")) (five_in 1_
 unfolding digits
 range_throughput = refl
 
-pub percentage_before_value : all_text items percentage_first 3 (Some 10) None ≡ codes "[30%] 3/10 items"
+pub percentage_before_value : all_text items percentage_first (amount 3 (Some 10) None) ≡ codes "[30%] 3/10 items"
 unfolding digits
 percentage_before_value = refl
 
-pub percentage_is_exact : all_text items percentage_first 29 (Some 100) None ≡ codes "[29%] 29/100 items"
+pub percentage_is_exact : all_text items percentage_first (amount 29 (Some 100) None) ≡ codes "[29%] 29/100 items"
 unfolding digits
 percentage_is_exact = refl
 
-pub nothing_of_nothing : all_text items percentage_first 0 (Some 0) None ≡ codes "[0%] 0/0 items"
+pub nothing_of_nothing : all_text items percentage_first (amount 0 (Some 0) None) ≡ codes "[0%] 0/0 items"
 unfolding digits
 nothing_of_nothing = refl
 
-pub one_of_nothing : all_text items percentage_first 1 (Some 0) None ≡ codes "[18446744073709551615%] 1/0 items"
+pub one_of_nothing : all_text items percentage_first (amount 1 (Some 0) None) ≡ codes "[18446744073709551615%] 1/0 items"
 unfolding digits
 one_of_nothing = refl
 
 pub greatest_percentage : percentage_of (2 ^ 64 - 1) 1 ≡ 2 ^ 64 - 1
 greatest_percentage = refl
 
-pub no_percentage_without_bound : all_text items percentage_first 3 None None ≡ codes "3 items"
+pub no_percentage_without_bound : all_text items percentage_first (amount 3 None None) ≡ codes "3 items"
 unfolding digits
 no_percentage_without_bound = refl
 
-pub throughput_after_unit : all_text items throughput_last 3 (Some 10) five_in_a_second ≡ codes "3/10 items |5/s|"
+pub throughput_after_unit : all_text items throughput_last (amount 3 (Some 10) five_in_a_second) ≡ codes "3/10 items |5/s|"
 unfolding digits
 throughput_after_unit = refl
 
-pub both_before_value : all_text items both_first 3 (Some 10) five_in_a_second ≡ codes "[30%] |5/s| 3/10 items"
+pub both_before_value : all_text items both_first (amount 3 (Some 10) five_in_a_second) ≡ codes "[30%] |5/s| 3/10 items"
 unfolding digits
 both_before_value = refl
 
-pub both_after_unit : all_text items both_last 3 (Some 10) five_in_a_second ≡ codes "3/10 items [30%] |5/s|"
+pub both_after_unit : all_text items both_last (amount 3 (Some 10) five_in_a_second) ≡ codes "3/10 items [30%] |5/s|"
 unfolding digits
 both_after_unit = refl
 
-pub values_alone : values_text items throughput_last 3 (Some 10) five_in_a_second ≡ codes "3/10"
+pub values_alone : values_text items throughput_last (amount 3 (Some 10) five_in_a_second) ≡ codes "3/10"
 unfolding digits
 values_alone = refl
 
-pub unit_alone : unit_text items throughput_last 3 (Some 10) five_in_a_second ≡ codes "items |5/s|"
+pub unit_alone : unit_text items throughput_last (amount 3 (Some 10) five_in_a_second) ≡ codes "items |5/s|"
 unfolding digits
 unit_alone = refl
 
-pub unit_of_one_byte : unit_text (label_shown (codes "B")) None 3 (Some 10) None ≡ codes "B"
+pub unit_of_one_byte : unit_text (label_shown (codes "B")) None (amount 3 (Some 10) None) ≡ codes "B"
 unit_of_one_byte = refl
 
 pub seconds : throughput_text items (five_in (2 * 10 ^ 9)) ≡ codes "|5/2s|"
@@ -113,7 +113,7 @@ no_time = refl
 pub one_millisecond : label_fraction 1_999_999 ≡ None
 one_millisecond = refl
 
-pub bytes : all_text bytes_shown None 999 None None ≡ codes "999B"
+pub bytes : all_text bytes_shown None (amount 999 None None) ≡ codes "999B"
 unfolding digits
 bytes = refl
 
@@ -129,7 +129,7 @@ pub exabytes : bytes_text (2 ^ 64 - 1) ≡ codes "18.4EB"
 unfolding digits last_digits
 exabytes = refl
 
-pub days : all_text duration_shown None 620410 None None ≡ codes "7d4h20m10s"
+pub days : all_text duration_shown None (amount 620410 None None) ≡ codes "7d4h20m10s"
 unfolding digits
 days = refl
 
@@ -137,7 +137,7 @@ pub no_seconds : duration_text 0 ≡ codes "0s"
 unfolding digits
 no_seconds = refl
 
-pub millions : all_text (human_shown 2 (codes "objects")) None 2540000 None None ≡ codes "2.54M objects"
+pub millions : all_text (human_shown 2 (codes "objects")) None (amount 2540000 None None) ≡ codes "2.54M objects"
 unfolding digits last_digits
 millions = refl
 

@@ -5,7 +5,7 @@ use Rattle.std.specs.FinMap.{get-insert, get-empty}
 use Rattle.std.proofs.lemmas.Cmp.{nat_list_cmp_total}
 use Rattle.prodash_base.proofs.MapViews.{get-retain_at}
 use Rattle.prodash_base.specs.Path.{path_cmp}
-use Rattle.prodash_base.specs.Rows.{PathRow, Running}
+use Rattle.prodash_base.specs.Rows.{PathRow, Running, unknown_id}
 use Rattle.prodash_base.specs.Trackers.{Tracker, new_tracker, update_elapsed, in_one_second, frame_throughputs, after_frame}
 use Rattle.prodash_base.specs.declared.throughput.sample.Observation.{Observation}
 use Rattle.prodash_base.specs.declared.unit.display.Throughput.{Throughput}
@@ -16,7 +16,7 @@ row n step = (
   n ∷ [],
   record {
     name = codes "task";
-    id = 0 ∷ 0 ∷ 0 ∷ 0 ∷ [];
+    id = unknown_id;
     progress = Some (record { counter = step; bound = None; unit = None; phase = Running });
   },
 )

@@ -1,10 +1,10 @@
 -- Adjacency: on which sides a path and its ancestors have siblings in a list of paths.
-use Rattle.std.specs.Prelude.{◌≡◌, ℕ, ◌-◌, ◌<◌, ◌≤◌, ◌⊎◌, Bool, true, false, ◌&&◌, ◌||◌, nat_eq, nat_lt, List, [], ◌∷◌, length, take, map, find, unwrap_or, Option, Some, None, slice_get, if◌then◌else◌}
+use Rattle.std.specs.Prelude.{◌≡◌, ℕ, ◌-◌, ◌<◌, ◌≤◌, ◌⊎◌, Bool, true, false, ◌&&◌, ◌||◌, nat_eq, nat_lt, List, [], ◌∷◌, length, take, map, find, unwrap_or, Option, Some, None, IfSome, slice_get, if◌then◌else◌}
 use Rattle.std.specs.List.{AllAdjacentBelow, list_any}
 use Rattle.std.specs.Option.{option_map}
 use Rattle.std.specs.declared.cmp.Ordering.TheVariants.{Less}
 use Rattle.std.specs.Ordering.{is_lt, is_gt}
-use Rattle.std.specs.Cmp.Lexicographic.{pointwise}
+use Rattle.prodash_base.specs.Numbers.{same_numbers}
 use Rattle.prodash_base.specs.Path.{Path, path_cmp, max_level}
 use Rattle.prodash_base.specs.declared.progress.Row.{Row}
 use Rattle.prodash_base.specs.declared.progress.key.adjacency.Adjacency.{Adjacency}
@@ -19,22 +19,18 @@ paths_of = map (λ r. r.key)
 abbrev pub IsAscending : List Path → Type 0
 IsAscending paths = AllAdjacentBelow (λ p q. path_cmp p q ≡ Less) paths (length paths)
 
--- the test of equal paths
-abbrev pub is_path : Path → Path → Bool
-is_path = pointwise nat_eq
-
--- the test of a path q with n numbers, all but the last of which are the first of p: a sibling of
--- p, or of the ancestor of p at level n, or that ancestor itself
-abbrev pub is_sibling : Path → ℕ → Path → Bool
-is_sibling p n q = nat_eq (length q) n && is_path (take (n - 1) p) (take (n - 1) q)
+-- the test of a path q with n numbers, all but the last of which are the first of p: the ancestor of
+-- p at level n, or p itself, or a sibling of that
+abbrev pub is_beside : Path → ℕ → Path → Bool
+is_beside p n q = nat_eq (length q) n && same_numbers (take (n - 1) p) (take (n - 1) q)
 
 -- whether a sibling at level n, or the ancestor of p there, comes before p
 abbrev pub has_sibling_before : List Path → Path → ℕ → Bool
-has_sibling_before paths p n = list_any (λ q. is_lt (path_cmp q p) && is_sibling p n q) paths
+has_sibling_before paths p n = list_any (λ q. is_lt (path_cmp q p) && is_beside p n q) paths
 
 -- whether the first n - 1 numbers of p are a path of the list
 abbrev pub has_parent : List Path → Path → ℕ → Bool
-has_parent paths p n = list_any (is_path (take (n - 1) p)) paths
+has_parent paths p n = list_any (same_numbers (take (n - 1) p)) paths
 
 -- whether something is above p at level n: an earlier path there, which may be the ancestor of p
 -- itself, the root at level 1, and the parent of p at the level of p
@@ -44,7 +40,7 @@ has_above paths p n =
 
 -- whether a sibling at level n comes after p
 abbrev pub has_below : List Path → Path → ℕ → Bool
-has_below paths p n = list_any (λ q. is_gt (path_cmp q p) && is_sibling p n q) paths
+has_below paths p n = list_any (λ q. is_gt (path_cmp q p) && is_beside p n q) paths
 
 -- the location of a path, from whether something is above and below it
 abbrev pub own_location : Bool → Bool → SiblingLocation
@@ -94,6 +90,10 @@ abbrev pub AncestorsOnBothSides : Adjacency → Path → Type 0
 AncestorsOnBothSides a p =
     (n : ℕ) → 0 < n → n < length p → n ≤ max_level
     → (location_at a n ≡ Some AboveAndBelow) ⊎ (location_at a n ≡ Some NotFound)
+
+-- the same of the path at an index
+abbrev pub AncestorsOnBothSidesAt : List Path → ℕ → Adjacency → Type 0
+AncestorsOnBothSidesAt paths i a = IfSome (slice_get paths i) (AncestorsOnBothSides a)
 
 -- the test of a location other than `NotFound`
 abbrev pub is_found : Option SiblingLocation → Bool

@@ -2,10 +2,15 @@
 use Rattle.std.specs.Prelude.{ℕ, ◌&&◌, Bool, true, false, List, [], ◌∷◌, ◌++◌, codes, Option, Some, None, if◌then◌else◌}
 use Rattle.prodash_base.specs.Quantities.{percentage_of}
 use Rattle.prodash_base.specs.Shown.{Shown}
+use Rattle.prodash_base.specs.declared.unit.display.Amount.{Amount}
 use Rattle.prodash_base.specs.declared.unit.display.Throughput.{Throughput}
 use Rattle.prodash_base.specs.declared.unit.display.Mode.{Mode}
 use Rattle.prodash_base.specs.declared.unit.display.Location.{Location}
 use Rattle.prodash_base.specs.declared.unit.display.Location.TheVariants.{BeforeValue, AfterUnit}
+
+-- a value, with its bound and its throughput if known
+abbrev pub amount : ℕ → Option ℕ → Option Throughput → Amount
+amount value bound throughput = record { value = value; bound = bound; throughput = throughput }
 
 -- the test of equal locations
 abbrev pub same_location : Location → Location → Bool
@@ -51,22 +56,22 @@ bound_text s value None = []
 bound_text s value (Some bound) = s.separator value (Some bound) ++ s.upper_bound bound value
 
 -- the value with its bound, and what is shown before it
-abbrev pub values_text : Shown → Option Mode → ℕ → Option ℕ → Option Throughput → List ℕ
-values_text s mode value bound throughput =
-    percentage_before s (percentage_at mode BeforeValue value bound)
-    ++ throughput_before s (throughput_at mode BeforeValue throughput)
-    ++ s.value value bound
-    ++ bound_text s value bound
+abbrev pub values_text : Shown → Option Mode → Amount → List ℕ
+values_text s mode a =
+    percentage_before s (percentage_at mode BeforeValue a.value a.bound)
+    ++ throughput_before s (throughput_at mode BeforeValue a.throughput)
+    ++ s.value a.value a.bound
+    ++ bound_text s a.value a.bound
 
 -- what is shown after the unit
-abbrev pub after_text : Shown → Option Mode → ℕ → Option ℕ → Option Throughput → List ℕ
-after_text s mode value bound throughput =
-    percentage_after s (percentage_at mode AfterUnit value bound)
-    ++ throughput_after s (throughput_at mode AfterUnit throughput)
+abbrev pub after_text : Shown → Option Mode → Amount → List ℕ
+after_text s mode a =
+    percentage_after s (percentage_at mode AfterUnit a.value a.bound)
+    ++ throughput_after s (throughput_at mode AfterUnit a.throughput)
 
 -- the unit, and what is shown after it
-abbrev pub unit_text : Shown → Option Mode → ℕ → Option ℕ → Option Throughput → List ℕ
-unit_text s mode value bound throughput = s.unit value ++ after_text s mode value bound throughput
+abbrev pub unit_text : Shown → Option Mode → Amount → List ℕ
+unit_text s mode a = s.unit a.value ++ after_text s mode a
 
 -- a space and a text; nothing if the text is empty
 abbrev pub spaced : List ℕ → List ℕ
@@ -74,8 +79,5 @@ spaced [] = []
 spaced (c ∷ cs) = 32 ∷ c ∷ cs
 
 -- the values, the unit, and what is shown after it
-abbrev pub all_text : Shown → Option Mode → ℕ → Option ℕ → Option Throughput → List ℕ
-all_text s mode value bound throughput =
-    values_text s mode value bound throughput
-    ++ spaced (s.unit value)
-    ++ after_text s mode value bound throughput
+abbrev pub all_text : Shown → Option Mode → Amount → List ℕ
+all_text s mode a = values_text s mode a ++ spaced (s.unit a.value) ++ after_text s mode a

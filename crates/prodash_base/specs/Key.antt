@@ -10,7 +10,7 @@ use Rattle.prodash_base.specs.Path.{Path, max_level, child_limit}
 abbrev pub path_of_key : Inside → Path
 path_of_key k = take k.level k.numbers
 
--- six numbers, each a `u16`, of which those past the level are 0
+-- six numbers, each a `u32`, of which those past the level are 0
 pub record IsKey (k : Inside) : Type 0 where
   pub six : length k.numbers ≡ max_level
   pub level : k.level ≤ max_level

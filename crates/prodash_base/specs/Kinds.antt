@@ -1,6 +1,6 @@
 -- The kinds of units, and what they show.
 use Rattle.std.specs.Prelude.{ℕ, List, Bool, true, false, ◌&&◌, nat_eq}
-use Rattle.std.specs.Cmp.Lexicographic.{pointwise}
+use Rattle.prodash_base.specs.Numbers.{same_numbers}
 use Rattle.prodash_base.specs.Shown.{Shown, label_shown, range_shown, bytes_shown, duration_shown, human_shown}
 use Rattle.prodash_base.specs.declared.unit.kind.Kind.{Kind}
 use Rattle.prodash_base.specs.declared.unit.kind.Kind.TheVariants as kinds
@@ -35,10 +35,10 @@ kind_shown kind = quantity_shown (quantity_of kind)
 
 -- the test of equal quantities, which is true exactly of equal values
 abbrev pub same_quantity : Quantity → Quantity → Bool
-same_quantity (Label name) (Label other) = pointwise nat_eq name other
+same_quantity (Label name) (Label other) = same_numbers name other
 same_quantity Bytes Bytes = true
 same_quantity Duration Duration = true
 same_quantity (Human decimals name) (Human places other) =
-    pointwise nat_eq name other && nat_eq decimals places
-same_quantity (Range name) (Range other) = pointwise nat_eq name other
+    same_numbers name other && nat_eq decimals places
+same_quantity (Range name) (Range other) = same_numbers name other
 same_quantity _ _ = false

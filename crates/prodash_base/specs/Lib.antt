@@ -1,3 +1,4 @@
+pub mod Numbers
 pub mod Path
 pub mod Key
 pub mod Rows

@@ -1,7 +1,7 @@
 -- Messages, and the tests of equal ones, which are true exactly of equal values.
 use Rattle.std.specs.Prelude.{ℕ, List, Bool, true, false, ◌&&◌, nat_eq}
 use Rattle.std.specs.Cmp.Lexicographic.{pointwise}
-use Rattle.prodash_base.specs.Rows.{same_text}
+use Rattle.prodash_base.specs.Numbers.{same_numbers}
 use Rattle.prodash_base.specs.declared.messages.MessageLevel.{MessageLevel}
 use Rattle.prodash_base.specs.declared.messages.MessageLevel.TheVariants.{Info, Failure, Success}
 use Rattle.prodash_base.specs.declared.messages.Message.{Message}
@@ -22,7 +22,7 @@ same_level _ _ = false
 abbrev pub same_message : Message → Message → Bool
 same_message m n =
     nat_eq m.time n.time
-    && (same_level m.level n.level && (same_text m.origin n.origin && same_text m.message n.message))
+    && (same_level m.level n.level && (same_numbers m.origin n.origin && same_numbers m.message n.message))
 
 -- the test of equal lists of messages
 abbrev pub same_messages : List Message → List Message → Bool

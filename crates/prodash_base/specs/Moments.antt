@@ -1,12 +1,13 @@
 -- Moments as dates and times of day in UTC. A moment is a number of nanoseconds since
 -- 1970-01-01T00:00:00.
-use Rattle.std.specs.Prelude.{◌≡◌, ℕ, zero, suc, ◌+◌, ◌-◌, ◌/◌, ◌%◌, ◌≤◌, nat_eq, Bool, not, ◌&&◌, ◌||◌, List, ◌++◌, codes, if◌then◌else◌}
+use Rattle.std.specs.Prelude.{◌≡◌, ℕ, zero, suc, ◌+◌, ◌-◌, ◌/◌, ◌%◌, ◌≤◌, nat_eq, Bool, not, ◌&&◌, ◌||◌, List, ◌++◌, codes, unsigned_abs, if◌then◌else◌}
 use Rattle.std.specs.Int.{IsInRange}
+use Rattle.jiff_core.specs.declared.civil.date.Date.{Date}
 use Rattle.prodash_base.specs.Numerals.{last_digits}
 
--- the whole seconds since 1970, rounded down
-abbrev pub second_of : ℕ → ℕ
-second_of at = at / 1000000000
+-- the whole seconds of a number of nanoseconds, rounded down
+abbrev pub seconds_of : ℕ → ℕ
+seconds_of ns = ns / 1000000000
 
 -- the whole days since 1970, rounded down
 abbrev pub day_of : ℕ → ℕ
@@ -47,6 +48,10 @@ pub record CalendarDate : Type 0 where
   pub month : ℕ
   pub day : ℕ
 
+-- a date of `jiff` that is not before year 0
+abbrev pub calendar_date : Date → CalendarDate
+calendar_date d = record { year = unsigned_abs d.year; month = d.month; day = d.day }
+
 -- the days from 1970-01-01 to a date
 abbrev pub day_number : CalendarDate → ℕ
 day_number d =
@@ -76,7 +81,7 @@ clock_text seconds =
 
 -- the time of day of a moment
 abbrev pub time_text : ℕ → List ℕ
-time_text at = clock_text (second_of at)
+time_text at = clock_text (seconds_of at)
 
 -- the date of a moment, `T`, and its time of day
 pub record IsDateTimeText (at : ℕ) (text : List ℕ) : Type 0 where

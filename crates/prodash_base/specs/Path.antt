@@ -1,5 +1,5 @@
 -- Paths: the places of tasks in the tree.
-use Rattle.std.specs.Prelude.{ℕ, ◌≡◌, ◌-◌, ◌<◌, ◌≤◌, nat_lt, List, [], ◌∷◌, ◌++◌, length, take, if◌then◌else◌}
+use Rattle.std.specs.Prelude.{ℕ, ◌≡◌, ◌+◌, ◌-◌, ◌%◌, ◌<◌, ◌≤◌, nat_lt, List, [], ◌∷◌, ◌++◌, length, take, if◌then◌else◌}
 use Rattle.std.specs.List.{All}
 use Rattle.std.specs.declared.cmp.Ordering.{Ordering}
 use Rattle.std.specs.Ordering.{nat_cmp}
@@ -13,9 +13,13 @@ Path = List ℕ
 abbrev pub max_level : ℕ
 max_level = 6
 
--- the bound of each number, which is a `u16`
+-- the bound of each number, which is a `u32`
 abbrev pub child_limit : ℕ
-child_limit = 65536
+child_limit = 4294967296
+
+-- the number after a child's: one more, and 0 after the greatest
+abbrev pub next_id : ℕ → ℕ
+next_id n = (n + 1) % child_limit
 
 -- a path that a key can have
 pub record IsPath (p : Path) : Type 0 where

@@ -1,6 +1,6 @@
 -- Rings of messages: the latest of all messages that were ever pushed.
-use Rattle.std.specs.Prelude.{◌≡◌, ℕ, Bool, nat_eq, ◌+◌, ◌-◌, ◌^◌, min, List, [], ◌∷◌, ◌++◌, length, Option, Some, None}
-use Rattle.circular_buffer.specs.Buffer.{keep_last}
+use Rattle.std.specs.Prelude.{◌≡◌, ℕ, Bool, nat_eq, ◌+◌, ◌-◌, ◌^◌, List, [], ◌∷◌, ◌++◌, length, Option, Some, None}
+pub use Rattle.circular_buffer.specs.Buffer.{keep_last}
 use Rattle.prodash_base.specs.declared.messages.Message.{Message}
 
 -- the greatest number of messages that a ring keeps, those it keeps, oldest first, and the count of all pushes
@@ -8,10 +8,6 @@ pub record Ring : Type 0 where
   pub capacity : ℕ
   pub messages : List Message
   pub pushed : ℕ
-
--- the count of all pushes can't rise any more
-abbrev pub IsCountFull : Ring → Type 0
-IsCountFull ring = ring.pushed ≡ 18446744073709551615
 
 -- a ring before its first push
 abbrev pub new_ring : ℕ → Ring
@@ -30,15 +26,7 @@ abbrev pub messages_since : Ring → Option ℕ → List Message
 messages_since r None = r.messages
 messages_since r (Some seen) = keep_last (r.pushed - seen) r.messages
 
--- the last messages of a list, at most `capacity`: what a ring keeps of all pushes
-abbrev pub latest_messages : ℕ → List Message → List Message
-latest_messages capacity all = keep_last capacity all
-
 -- the ring after the pushes of these messages
 abbrev pub ring_of : ℕ → List Message → Ring
 ring_of capacity all =
-    record { capacity = capacity; messages = latest_messages capacity all; pushed = length all }
-
--- the last messages of a list, at most `capacity`, and at most as many as follow the first `seen`
-abbrev pub new_since : ℕ → List Message → ℕ → List Message
-new_since capacity all seen = keep_last (min capacity (length all - seen)) all
+    record { capacity = capacity; messages = keep_last capacity all; pushed = length all }

@@ -1,7 +1,8 @@
 -- Entries of the tree, and rows: their contents, without their places in memory.
-use Rattle.std.specs.Prelude.{ℕ, List, map, Option, Bool, true, false, ◌&&◌, nat_eq}
+use Rattle.std.specs.Prelude.{ℕ, List, [], ◌∷◌, map, Option, Bool, true, false, ◌&&◌, nat_eq}
 use Rattle.std.specs.Cmp.Lexicographic.{pointwise}
 use Rattle.std.specs.Option.{option_map, option_eq}
+use Rattle.prodash_base.specs.Numbers.{same_numbers}
 use Rattle.prodash_base.specs.Path.{Path}
 use Rattle.prodash_base.specs.Units.{Measure, measure_of, same_measure}
 use Rattle.prodash_base.specs.declared.progress.State.{State}
@@ -35,6 +36,10 @@ pub record Entry (C U : Type 0) : Type 0 where
   pub id : List ℕ
   pub progress : Option (Progress C U)
 
+-- the identifier of a task that has none of its own
+abbrev pub unknown_id : List ℕ
+unknown_id = 0 ∷ 0 ∷ 0 ∷ 0 ∷ []
+
 -- the progress in a row
 abbrev pub RowProgress : Type 0
 RowProgress = Progress ℕ Measure
@@ -65,16 +70,12 @@ row_of r =
 abbrev pub rows_of : List Row → List PathRow
 rows_of = map row_of
 
--- the test of equal texts; this one and those below are true exactly of equal values
-abbrev pub same_text : List ℕ → List ℕ → Bool
-same_text = pointwise nat_eq
-
--- the test of equal phases
+-- the test of equal phases; this one and those below are true exactly of equal values
 abbrev pub same_phase : Phase → Phase → Bool
 same_phase (Blocked reason eta) (Blocked other when) =
-    same_text reason other && option_eq nat_eq eta when
+    same_numbers reason other && option_eq nat_eq eta when
 same_phase (Halted reason eta) (Halted other when) =
-    same_text reason other && option_eq nat_eq eta when
+    same_numbers reason other && option_eq nat_eq eta when
 same_phase Running Running = true
 same_phase _ _ = false
 
@@ -88,11 +89,11 @@ same_progress p q =
 -- the test of equal entries
 abbrev pub same_entry : RowEntry → RowEntry → Bool
 same_entry e f =
-    same_text e.name f.name && (same_text e.id f.id && option_eq same_progress e.progress f.progress)
+    same_numbers e.name f.name && (same_numbers e.id f.id && option_eq same_progress e.progress f.progress)
 
 -- the test of equal rows
 abbrev pub same_row : PathRow → PathRow → Bool
-same_row r s = same_text r.0 s.0 && same_entry r.1 s.1
+same_row r s = same_numbers r.0 s.0 && same_entry r.1 s.1
 
 -- the test of equal lists of rows
 abbrev pub same_rows : List PathRow → List PathRow → Bool

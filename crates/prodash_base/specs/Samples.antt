@@ -1,5 +1,5 @@
 -- The throughput of a value that is observed from time to time. Every list here has the latest first.
-use Rattle.std.specs.Prelude.{◌≡◌, ℕ, ◌+◌, ◌<◌, ◌≤◌, ◌++◌, length, take, ◌-◌, ◌*◌, ◌/◌, ◌^◌, Bool, true, false, ◌||◌, nat_lt, List, [], ◌∷◌, Option, Some, None, if◌then◌else◌, min}
+use Rattle.std.specs.Prelude.{◌≡◌, ℕ, ◌+◌, ◌<◌, ◌≤◌, ◌++◌, length, take, drop, ◌-◌, ◌*◌, ◌/◌, ◌^◌, nat_lt, List, [], ◌∷◌, Option, Some, None, if◌then◌else◌, min}
 use Rattle.prodash_base.specs.declared.throughput.sample.Observation.{Observation}
 use Rattle.prodash_base.specs.declared.throughput.sample.Sample.{Sample}
 
@@ -17,10 +17,6 @@ abbrev pub change : List Sample → ℕ
 change [] = 0
 change (s ∷ older) = s.change + change older
 
--- the test whether samples take more than a second
-abbrev pub exceeds_second : List Sample → Bool
-exceeds_second samples = nat_lt one_second (duration samples)
-
 -- the rise since the previous observation, 0 if the value fell; the value itself if there is none
 abbrev pub rise : ℕ → List Observation → ℕ
 rise value [] = value
@@ -35,31 +31,21 @@ abbrev pub samples_of : List Observation → List Sample
 samples_of [] = []
 samples_of (o ∷ older) = sample_of o older ∷ samples_of older
 
--- the test whether there are no samples
-abbrev pub is_empty : List Sample → Bool
-is_empty [] = true
-is_empty (s ∷ older) = false
+-- the samples of observations from an index on
+abbrev pub samples_from : ℕ → List Observation → List Sample
+samples_from index observations = drop index (samples_of observations)
 
--- The test whether a sample is a mark: the first sample is one, and a later one is one if the
--- samples after the previous mark, up to and with it, take more than a second. `older` are all the
--- samples before it, and `recent` those of them that are after the previous mark.
-abbrev pub marks : Sample → List Sample → List Sample → Bool
-marks s older recent = is_empty older || exceeds_second (s ∷ recent)
-
--- the samples after the last mark
+-- the samples after the last mark: the first sample is a mark, and so is each that takes more than a
+-- second together with those after the previous mark
 abbrev pub after_mark : List Sample → List Sample
 after_mark [] = []
+after_mark (s ∷ []) = []
 after_mark (s ∷ older) =
-    let recent = after_mark older in if marks s older recent then [] else s ∷ recent
-
--- the test whether a sample that follows these is a mark
-abbrev pub is_mark : Sample → List Sample → Bool
-is_mark s older = marks s older (after_mark older)
+    let recent = s ∷ after_mark older in if nat_lt one_second (duration recent) then [] else recent
 
 -- the samples up to and with the last mark
 abbrev pub to_mark : List Sample → List Sample
-to_mark [] = []
-to_mark (s ∷ older) = if is_mark s older then s ∷ older else to_mark older
+to_mark samples = drop (length (after_mark samples)) samples
 
 -- the fewest of the latest samples that take more than `span` nanoseconds, or all if none do
 abbrev pub latest_over : ℕ → List Sample → List Sample
@@ -71,11 +57,15 @@ latest_over span (s ∷ older) =
 abbrev pub per_second : List Sample → ℕ
 per_second samples = min (change samples * one_second / duration samples) (2 ^ 64 - 1)
 
+-- the rate of samples that take more than a second: over the fewest of the latest that do
+abbrev pub rate_over : List Sample → ℕ
+rate_over samples = per_second (latest_over one_second samples)
+
 -- the rate at a mark, of the samples up to and with it; none if it is the first sample
 abbrev pub rate_at : List Sample → Option ℕ
 rate_at [] = None
 rate_at (s ∷ []) = None
-rate_at (s ∷ older) = Some (per_second (latest_over one_second (s ∷ older)))
+rate_at (s ∷ older) = Some (rate_over (s ∷ older))
 
 -- the rate at the last mark
 abbrev pub rate : List Observation → Option ℕ

@@ -1,6 +1,7 @@
 -- What a kind of unit shows: the texts that its calls append.
 use Rattle.std.specs.Prelude.{ℕ, ◌+◌, ◌/◌, nat_eq, nat_lt, List, [], ◌++◌, codes, Option, Some, None, if◌then◌else◌}
 use Rattle.std.specs.Fmt.{decimal}
+use Rattle.prodash_base.specs.Moments.{seconds_of}
 use Rattle.prodash_base.specs.Numerals.{fraction_text}
 use Rattle.prodash_base.specs.Quantities.{bytes_text, human_text, duration_text}
 use Rattle.prodash_base.specs.declared.unit.display.Throughput.{Throughput}
@@ -27,10 +28,6 @@ by_time_unit seconds hours minutes whole less =
 -- a fraction, or none if it is one
 abbrev pub unless_one : ℕ → ℕ → Option (ℕ × ℕ)
 unless_one a b = if nat_eq a b then None else Some (a, b)
-
--- the whole seconds of a number of nanoseconds
-abbrev pub seconds_of : ℕ → ℕ
-seconds_of ns = ns / 1_000_000_000
 
 -- how many of its time unit a number of nanoseconds is; none if it is one
 abbrev pub label_fraction : ℕ → Option (ℕ × ℕ)
@@ -59,11 +56,21 @@ abbrev pub timespan_text : Option (ℕ × ℕ) → List ℕ → List ℕ
 timespan_text fraction time_unit =
     codes "/" ++ optional_fraction fraction ++ time_unit ++ codes "|"
 
--- a throughput as `|5/1.5m|`, with the change as the kind shows values
+-- a change and the timespan that it took, as `|5/1.5m|`
+abbrev pub change_text : List ℕ → Option (ℕ × ℕ) → List ℕ → List ℕ
+change_text change fraction time_unit = codes "|" ++ change ++ timespan_text fraction time_unit
+
+-- a throughput, with the change as the kind shows values
 abbrev pub throughput_text : Shown → Throughput → List ℕ
 throughput_text s t =
-    codes "|" ++ s.value t.value_change_in_timespan None
-    ++ timespan_text (s.fraction t.timespan) (s.time_unit t.timespan)
+    change_text (s.value t.value_change_in_timespan None) (s.fraction t.timespan)
+    (s.time_unit t.timespan)
+
+-- a throughput in plain numbers
+abbrev pub label_throughput : Throughput → List ℕ
+label_throughput t =
+    change_text (decimal t.value_change_in_timespan) (label_fraction t.timespan)
+    (label_time_unit t.timespan)
 
 -- s with throughputs in its own values, fractions and time units
 abbrev pub with_throughput : Shown → Shown
@@ -71,7 +78,7 @@ with_throughput s = record s { throughput = throughput_text s }
 
 -- plain numbers and a name, as `3/10 items`
 abbrev pub label_shown : List ℕ → Shown
-label_shown name = with_throughput (record {
+label_shown name = record {
   value = λ value _. decimal value;
   separator = λ _ _. codes "/";
   upper_bound = λ bound _. decimal bound;
@@ -79,8 +86,8 @@ label_shown name = with_throughput (record {
   percentage = label_percentage;
   fraction = label_fraction;
   time_unit = label_time_unit;
-  throughput = λ _. [];
-})
+  throughput = label_throughput;
+}
 
 -- values that count from zero, shown from one, and a name, as `2 of 5 steps`
 abbrev pub range_shown : List ℕ → Shown

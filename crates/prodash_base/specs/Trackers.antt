@@ -1,9 +1,10 @@
 -- Trackers of throughput: what is observed at each path, and what a call makes of it.
-use Rattle.std.specs.Prelude.{ℕ, ◌-◌, ◌∷◌, [], List, Bool, nat_eq, nat_lt, Option, Some, None, if◌then◌else◌, unwrap_or, map}
-use Rattle.std.specs.Cmp.Lexicographic.{pointwise}
+use Rattle.std.specs.Prelude.{◌≡◌, ℕ, ◌-◌, ◌∷◌, [], List, Bool, nat_eq, nat_lt, Option, Some, None, if◌then◌else◌, unwrap_or, Contains}
 use Rattle.std.specs.List.{list_any}
+use Rattle.std.specs.Map.{keys_of}
 use Rattle.std.specs.Option.{option_map}
 use Rattle.std.specs.FinMap as finite
+use Rattle.prodash_base.specs.Numbers.{same_numbers}
 use Rattle.prodash_base.specs.Path.{Path, path_cmp}
 use Rattle.prodash_base.specs.Rows.{PathRow}
 use Rattle.prodash_base.specs.Samples.{one_second, rate}
@@ -68,18 +69,19 @@ abbrev pub throughput_of : Tracker → Path → Option ℕ → Option Throughput
 throughput_of t path value =
     option_map in_one_second (rate_after t.observations path (observation_of t.elapsed value))
 
--- the paths of rows
-abbrev pub listed_paths : List PathRow → List Path
-listed_paths rows = map (λ row. row.0) rows
-
 -- the test whether one of the rows has this path
 abbrev pub is_listed : List PathRow → Path → Bool
-is_listed rows path = list_any (pointwise nat_eq path) (listed_paths rows)
+is_listed rows path = list_any (same_numbers path) (keys_of rows)
 
 -- the tracker with the observations of the listed paths alone
 abbrev pub reconcile : Tracker → List PathRow → Tracker
 reconcile t rows =
     record t { observations = finite.retain_keys t.observations (is_listed rows) }
+
+-- the observations after are those before of these paths, and of no other path
+pub record KeepsOnly (paths : List Path) (before after : Observations) : Type 0 where
+  pub listed : (path : Path) → Contains paths path → finite.get after path ≡ finite.get before path
+  pub others : (path : Path) → ¬ Contains paths path → finite.get after path ≡ None
 
 -- the step of a row, if the row has progress
 abbrev pub step_of : PathRow → Option ℕ

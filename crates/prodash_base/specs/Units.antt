@@ -2,12 +2,13 @@
 use Rattle.std.specs.Prelude.{List, ℕ, codes, Bool, ◌&&◌, Option, Some, None}
 use Rattle.std.specs.Bool.{beq}
 use Rattle.std.specs.Option.{option_eq}
+use Rattle.std.specs.declared.alloc.Global.{Global}
 use Rattle.prodash_base.specs.Shown.{Shown, label_shown}
 use Rattle.prodash_base.specs.Kinds.{Quantity, quantity_of, same_quantity, kind_shown}
 use Rattle.prodash_base.specs.Displays.{all_text, values_text, unit_text, same_location}
+use Rattle.prodash_base.specs.declared.unit.display.Amount.{Amount}
 use Rattle.prodash_base.specs.declared.unit.display.Mode.{Mode}
 use Rattle.prodash_base.specs.declared.unit.units.Unit.{Unit}
-use Rattle.prodash_base.specs.declared.unit.display.Throughput.{Throughput}
 use Rattle.prodash_base.specs.declared.unit.units.UnitDisplay.{UnitDisplay}
 use Rattle.prodash_base.specs.declared.unit.units.Part.{Part}
 use Rattle.prodash_base.specs.declared.unit.units.Part.TheVariants.{All, Values, UnitAlone}
@@ -37,23 +38,19 @@ unit_shown None = label_shown (codes "items")
 unit_shown (Some unit) = kind_shown unit.kind
 
 -- a value in a unit in full
-abbrev pub all_text_of : Unit → ℕ → Option ℕ → Option Throughput → List ℕ
+abbrev pub all_text_of : Unit → Amount → List ℕ
 all_text_of unit = all_text (kind_shown unit.kind) unit.mode
 
--- the values of a value in a unit
-abbrev pub values_text_of : Unit → ℕ → Option ℕ → Option Throughput → List ℕ
-values_text_of unit = values_text (kind_shown unit.kind) unit.mode
+-- the text of a part of a value in a unit
+abbrev pub part_text : Part → Unit → Amount → List ℕ
+part_text All unit = all_text_of unit
+part_text Values unit = values_text (kind_shown unit.kind) unit.mode
+part_text UnitAlone unit = unit_text (kind_shown unit.kind) unit.mode
 
--- the unit of a value in a unit
-abbrev pub unit_text_of : Unit → ℕ → Option ℕ → Option Throughput → List ℕ
-unit_text_of unit = unit_text (kind_shown unit.kind) unit.mode
-
--- the text of a part of a display
-abbrev pub part_text : Part → UnitDisplay → List ℕ
-part_text All d = all_text_of d.unit d.value d.bound d.throughput
-part_text Values d = values_text_of d.unit d.value d.bound d.throughput
-part_text UnitAlone d = unit_text_of d.unit d.value d.bound d.throughput
+-- the display of a value in a unit in full; the allocator serves `Display` alone
+abbrev pub display_of : Unit → Global → Amount → UnitDisplay
+display_of unit alloc a = record { unit = unit; amount = a; part = All; alloc = alloc }
 
 -- the text of a display
 abbrev pub display_text : UnitDisplay → List ℕ
-display_text d = part_text d.part d
+display_text d = part_text d.part d.unit d.amount

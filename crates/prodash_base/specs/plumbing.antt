@@ -1,8 +1,8 @@
 pub mod EqualityTests
 pub mod KeyHash
+pub mod KeyWords
 pub mod SameUnits
 pub mod SameRows
 pub mod SameMessages
 pub mod Branches
-pub mod Prefixes
 pub mod ObservedTables

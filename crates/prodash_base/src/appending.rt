@@ -3,10 +3,9 @@
 //! A call named `push_..` may have appended a part of its text if it is out of memory: what was in
 //! the string is a prefix of what is in it then. A call named `append_..` appends all or nothing.
 ghost use Rattle.std.specs.Prelude.{◌≡◌, ◌+◌, ◌*◌, ◌/◌, ◌%◌, ◌^◌, ◌<◌, ◌≤◌, ◌∷◌, [], max, min, OnOk, OnErr, string_bytes, take};
-ghost use Rattle.prodash_base.specs.Appending.{Appends};
+ghost use Rattle.prodash_base.specs.Appending.{Appends, Pushes};
 ghost use Rattle.std.specs.Fmt.{decimal};
 ghost use Rattle.std.specs.String.Boundary.{IsSplitPoint};
-ghost use Rattle.prodash_base.specs.plumbing.Prefixes.{IsPrefix};
 ghost use Rattle.prodash_base.specs.Numerals.{last_digits, without_zeros, after_point, cut, fraction_text};
 
 use itoa::Buffer;
@@ -32,8 +31,7 @@ pub(crate) fn undo_if_refused(
 
 /// Appends a text.
 pub(crate) fn push_text(out: &mut String, text: &str) -> Result<(), AllocError>
-    ensures ok { OnOk result (Appends out.old text.now out.new) }
-    ensures kept { IsPrefix (string_bytes out.old) (string_bytes out.new) }
+    ensures { Pushes result out.old text.now out.new }
 {
     out.push_str(text)
 }
@@ -41,16 +39,14 @@ pub(crate) fn push_text(out: &mut String, text: &str) -> Result<(), AllocError>
 /// Appends an ASCII character.
 pub(crate) fn push_ascii(out: &mut String, byte: u8) -> Result<(), AllocError>
     requires { byte < 128 }
-    ensures ok { OnOk result (Appends out.old (byte ∷ []) out.new) }
-    ensures kept { IsPrefix (string_bytes out.old) (string_bytes out.new) }
+    ensures { Pushes result out.old (byte ∷ []) out.new }
 {
     out.push(byte as char)
 }
 
 /// Appends a number in decimal digits.
 pub(crate) fn push_decimal(out: &mut String, n: u64) -> Result<(), AllocError>
-    ensures ok { OnOk result (Appends out.old (decimal n) out.new) }
-    ensures kept { IsPrefix (string_bytes out.old) (string_bytes out.new) }
+    ensures { Pushes result out.old (decimal n) out.new }
 {
     push_text(out, Buffer::new().format(n))
 }
@@ -65,8 +61,7 @@ pub(crate) fn append_decimal(out: &mut String, n: u128) -> Result<(), AllocError
 
 /// Appends the last digits of a number, with leading zeros if it has fewer than `places`.
 pub(crate) fn push_last_digits(out: &mut String, places: u8, n: u128) -> Result<(), AllocError>
-    ensures ok { OnOk result (Appends out.old (last_digits places n) out.new) }
-    ensures kept { IsPrefix (string_bytes out.old) (string_bytes out.new) }
+    ensures { Pushes result out.old (last_digits places n) out.new }
 {
     if places == 0 {
         return Ok(());
@@ -77,8 +72,7 @@ pub(crate) fn push_last_digits(out: &mut String, places: u8, n: u128) -> Result<
 
 /// Appends a decimal point and the last digits of a number, or nothing if `places` is 0.
 pub(crate) fn push_after_point(out: &mut String, places: u8, n: u128) -> Result<(), AllocError>
-    ensures ok { OnOk result (Appends out.old (after_point (last_digits places n)) out.new) }
-    ensures kept { IsPrefix (string_bytes out.old) (string_bytes out.new) }
+    ensures { Pushes result out.old (after_point (last_digits places n)) out.new }
 {
     if places == 0 {
         return Ok(());
@@ -89,9 +83,7 @@ pub(crate) fn push_after_point(out: &mut String, places: u8, n: u128) -> Result<
 
 /// Appends a decimal point and the last digits of a number, without the zeros at their end.
 pub(crate) fn push_without_zeros(out: &mut String, places: u8, n: u128) -> Result<(), AllocError>
-    ensures ok { OnOk result
-        (Appends out.old (after_point (without_zeros (last_digits places n))) out.new) }
-    ensures kept { IsPrefix (string_bytes out.old) (string_bytes out.new) }
+    ensures { Pushes result out.old (after_point (without_zeros (last_digits places n))) out.new }
 {
     if places > 0 && n % 10 == 0 {
         push_without_zeros(out, places - 1, n / 10)
@@ -104,8 +96,7 @@ pub(crate) fn push_without_zeros(out: &mut String, places: u8, n: u128) -> Resul
 pub(crate) fn push_cut(out: &mut String, places: u8, a: u64, b: u64) -> Result<(), AllocError>
     requires some { 0 < b }
     requires few { places ≤ 6 }
-    ensures ok { OnOk result (Appends out.old (cut places a b) out.new) }
-    ensures kept { IsPrefix (string_bytes out.old) (string_bytes out.new) }
+    ensures { Pushes result out.old (cut places a b) out.new }
 {
     push_decimal(out, a / b)?;
     let shifted = u128::from(a) * 10_u128.pow(u32::from(places));
@@ -115,8 +106,7 @@ pub(crate) fn push_cut(out: &mut String, places: u8, a: u64, b: u64) -> Result<(
 /// Appends a quotient with at most three decimals, rounded down, without zeros at the end. The
 /// divisor 0 counts as 1.
 pub(crate) fn push_fraction(out: &mut String, a: u64, b: u64) -> Result<(), AllocError>
-    ensures ok { OnOk result (Appends out.old (fraction_text a b) out.new) }
-    ensures kept { IsPrefix (string_bytes out.old) (string_bytes out.new) }
+    ensures { Pushes result out.old (fraction_text a b) out.new }
 {
     let b = b.max(1);
     push_decimal(out, a / b)?;

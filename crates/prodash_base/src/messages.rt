@@ -9,6 +9,7 @@ pub use ring::{
     MessageCopyState, MessageRingBuffer, copies_give_what_is_new, no_push_is_given_twice,
     rings_keep_the_last,
 };
+use std::fmt;
 
 /// How severe a message is.
 #[derive(Clone, Copy, Debug, PartialEq, Eq, PartialOrd, Ord)]
@@ -22,7 +23,7 @@ pub enum MessageLevel {
 }
 
 /// A message of a task.
-#[derive(Clone, Debug, PartialEq, Eq, Drop)]
+#[derive(Clone, PartialEq, Eq, Drop)]
 pub struct Message {
     /// The moment at which it was sent.
     pub time: Moment,
@@ -32,4 +33,16 @@ pub struct Message {
     pub origin: Text,
     /// The text of the message.
     pub message: Text,
+}
+
+impl fmt::Debug for Message {
+    /// Writes the moment, the severity, the origin and the text, as `Message 7 Info "task" "text"`.
+    fn fmt<W: fmt::Write>(&self, f: &mut fmt::Formatter<W>) -> fmt::Result {
+        let (time, level) = (self.time, self.level);
+        write!(
+            f,
+            "Message {time} {level:?} {:?} {:?}",
+            self.origin, self.message
+        )
+    }
 }

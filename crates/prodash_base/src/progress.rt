@@ -10,6 +10,7 @@ use crate::time::Moment;
 use crate::unit::Unit;
 pub use key::{Key, Level};
 pub use rows::Rows;
+use std::fmt;
 use std::sync::Arc;
 use std::sync::atomic::AtomicU64;
 
@@ -22,7 +23,7 @@ pub type AtomicStep = AtomicU64;
 /// An owner of a counter of steps. A counter has one or more.
 pub type StepShared = Arc<AtomicStep>;
 
-/// An identifier of an item, beside its name. It stays the same from run to run.
+/// An identifier of an item, independent of its name and the same in every run.
 pub type Id = [u8; 4];
 
 /// The identifier of an item that has none of its own.
@@ -63,10 +64,26 @@ impl Value {
     {
         self.done_at.map(|done_at| (self.step, done_at))
     }
+
+    /// Writes the value as it stands in a row's `Debug`: the step, the bound and the unit if they
+    /// are known, and the state unless the task is running.
+    fn write_in_row<W: fmt::Write>(&self, f: &mut fmt::Formatter<W>) -> fmt::Result {
+        write!(f, " {}", self.step)?;
+        if let Some(done_at) = self.done_at {
+            write!(f, "/{done_at}")?;
+        }
+        if let Some(unit) = &self.unit {
+            write!(f, " {unit:?}")?;
+        }
+        match self.state {
+            State::Running => Ok(()),
+            state => write!(f, " {state:?}"),
+        }
+    }
 }
 
 /// One item of the tree at one moment.
-#[derive(Clone, Debug, PartialEq, Eq, Drop)]
+#[derive(Clone, PartialEq, Eq, Drop)]
 pub struct Row {
     /// The place of the item in the tree.
     pub key: Key,
@@ -76,4 +93,19 @@ pub struct Row {
     pub id: Id,
     /// The progress of the item, if it has any.
     pub progress: Option<Value>,
+}
+
+impl fmt::Debug for Row {
+    /// Writes the key's numbers, the name, the identifier if it is known, and the progress if there
+    /// is any, as `Row [0] "task" 3/10`. A state follows unless the task is running.
+    fn fmt<W: fmt::Write>(&self, f: &mut fmt::Formatter<W>) -> fmt::Result {
+        write!(f, "Row {:?} {:?}", self.key.numbers(), self.name)?;
+        if self.id != UNKNOWN {
+            write!(f, " id {:?}", self.id)?;
+        }
+        match &self.progress {
+            Some(value) => value.write_in_row(f),
+            None => Ok(()),
+        }
+    }
 }

@@ -4,15 +4,16 @@ ghost use Rattle.std.specs.Cmp.Lexicographic.{pointwise, nat_list_eq_equiv};
 ghost use Rattle.std.specs.Cmp.{partial_equiv_from_equiv};
 
 use std::alloc::{AllocError, Global};
+use std::fmt;
 use std::marker::Model;
 
-/// A text that owns its bytes. Contracts see these bytes.
+/// An owned text. Contracts see its bytes.
 ///
 /// ```rust
 /// let name = Text::from_str(alloc, "task")?;
 /// assert_eq!(rt; name.as_str(), "task");
 /// ```
-#[derive(Debug, Drop)]
+#[derive(Drop)]
 pub struct Text {
     text: String,
 }
@@ -78,4 +79,11 @@ impl PartialEq for Text {
 
 impl Eq for Text {
     ghost laws = { nat_list_eq_equiv };
+}
+
+impl fmt::Debug for Text {
+    /// Writes the text in quotes, as `"task"`.
+    fn fmt<W: fmt::Write>(&self, f: &mut fmt::Formatter<W>) -> fmt::Result {
+        write!(f, "{:?}", self.text.as_str())
+    }
 }

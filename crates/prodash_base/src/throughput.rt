@@ -1,10 +1,11 @@
 //! The throughput of the tasks that a renderer draws.
-ghost use Rattle.std.specs.Prelude.{◌≡◌, ◌<◌, ◌∷◌, List, OnOk, OnErr, IfOk, IfErr, IsSome, None, Some, Contains};
+ghost use Rattle.std.specs.Prelude.{◌≡◌, ◌<◌, ◌∷◌, List, OnOk, OnErr, IfOk, IsSome, None, Some, Contains, IsOkUnless};
 ghost use Rattle.std.specs.FinMap as finite;
+ghost use Rattle.std.specs.Map.{keys_of};
 ghost use Rattle.prodash_base.specs.Path.{Path};
 ghost use Rattle.prodash_base.specs.Rows.{rows_of};
 ghost use Rattle.prodash_base.specs.Samples.{one_second, duration, latest_over, IsShortestOver};
-ghost use Rattle.prodash_base.specs.Trackers.{new_tracker, elapsed_since, update_elapsed, observation_of, with_observation, rate_after, observe, throughput_of, is_listed, listed_paths, reconcile};
+ghost use Rattle.prodash_base.specs.Trackers.{new_tracker, elapsed_since, update_elapsed, observation_of, with_observation, rate_after, observe, throughput_of, is_listed, reconcile, KeepsOnly};
 ghost use Rattle.prodash_base.specs.plumbing.ObservedTables.{observations_in};
 ghost use Rattle.prodash_base.specs.declared.throughput.sample.Sample.{Sample};
 
@@ -25,7 +26,7 @@ use std::marker::Model;
 type Observed = BTreeMap<Key, VecDeque<Observation>>;
 
 /// Measures the throughput of values, each under a key, which are observed at each frame. Contracts
-/// see the latest moment, the time elapsed, and a finite map from paths to all observations.
+/// see the latest moment, the elapsed time, and a finite map from paths to all observations.
 ///
 /// The first observation of a key is a mark, and so is each one that comes more than a second after
 /// the previous mark. The throughput changes at marks only: it is the rise over the fewest of the
@@ -76,14 +77,14 @@ impl Throughput {
         }
     }
 
-    /// Returns an equal tracker. `_rows` are those whose steps it is to observe next.
+    /// Returns an equal tracker. `_rows` are those whose steps the copy is to observe next.
     ///
     /// # Errors
     ///
     /// `Memory`, if out of memory.
     pub fn copy(&self, _alloc: Global, _rows: &[Row]) -> Result<Throughput, Refusal>
         ensures ok { IfOk result (λ copy. copy ≡ self.now) }
-        ensures err { IfErr result (λ e. e ≡ Refusal.Memory) }
+        ensures reason { IsOkUnless result Refusal.Memory }
     {
         Ok(Throughput {
             updated_at: self.updated_at,
@@ -92,8 +93,8 @@ impl Throughput {
         })
     }
 
-    /// Takes the moment of the values that follow. The time elapsed is that since the previous
-    /// moment. There is none at the first moment, or if the clock went back.
+    /// Sets the moment of the values that are observed next. The elapsed time is that since the
+    /// previous moment. There is none at the first moment, or if the clock went back.
     pub fn update_elapsed(&mut self, at: Moment)
         ensures { self.new ≡ update_elapsed self.old at }
     {
@@ -117,7 +118,7 @@ impl Throughput {
         ensures value { IfOk result (λ shown. shown ≡ throughput_of self.old key.now step) }
         ensures ok { OnOk result (self.new ≡ observe self.old key.now step) }
         ensures err { OnErr result (self.new ≡ self.old) }
-        ensures reason { IfErr result (λ e. e ≡ Refusal.Memory) }
+        ensures reason { IsOkUnless result Refusal.Memory }
         ensures recorded { OnErr result (IsSome (observation_of self.old.elapsed step)) }
     {
         let Some(observation) = observation_of(self.elapsed, step) else {
@@ -130,10 +131,8 @@ impl Throughput {
     /// Keeps the observations of the keys of `rows`, and of no others.
     pub fn reconcile(&mut self, rows: &[Row])
         ensures value { self.new ≡ reconcile self.old (rows_of rows.now) }
-        ensures listed { (path : Path) → Contains (listed_paths (rows_of rows.now)) path
-            → finite.get self.new.observations path ≡ finite.get self.old.observations path }
-        ensures others { (path : Path) → ¬ Contains (listed_paths (rows_of rows.now)) path
-            → finite.get self.new.observations path ≡ None }
+        ensures kept { KeepsOnly (keys_of (rows_of rows.now))
+            self.old.observations self.new.observations }
     {
         self.observed.retain(|key, _| is_listed(rows, key));
     }

@@ -1,9 +1,8 @@
 //! Moments, clocks, and moments as texts.
-ghost use Rattle.std.specs.Prelude.{◌≡◌, ℕ, ◌/◌, pos, length, unsigned_abs, OnOk, IfOk, IfErr, string_bytes};
-ghost use Rattle.prodash_base.specs.Appending.{Appends};
+ghost use Rattle.std.specs.Prelude.{◌≡◌, ℕ, ◌/◌, pos, length, unsigned_abs, OnOk, IfOk, string_bytes, IsOkUnless};
+ghost use Rattle.prodash_base.specs.Appending.{Pushes};
 ghost use Rattle.jiff.specs.Words.{epoch_day};
-ghost use Rattle.prodash_base.specs.plumbing.Prefixes.{IsPrefix};
-ghost use Rattle.prodash_base.specs.Moments.{HasOneDate, IsDateTimeText, second_of, day_of, date_text, clock_text, time_text};
+ghost use Rattle.prodash_base.specs.Moments.{HasOneDate, IsDateTimeText, calendar_date, seconds_of, day_of, date_text, clock_text, time_text};
 
 use crate::appending::{push_ascii, push_last_digits};
 use crate::refusal::Refusal;
@@ -18,7 +17,8 @@ pub type Moment = u64;
 /// The length of a time of day in hours, minutes and seconds, as `23:34:33`.
 pub const DATE_TIME_HMS: usize = 8;
 
-/// Tells the time, and waits. No contract says what moment a clock gives, or how long it waits.
+/// Tells the time and waits. Contracts say neither which moment a clock returns nor how long it
+/// waits.
 pub trait Clock {
     /// Returns the moment now.
     fn now(&self) -> Moment;
@@ -27,7 +27,7 @@ pub trait Clock {
     fn sleep(&self, nanoseconds: u64);
 }
 
-/// Returns the time of day of a moment in UTC, as `23:34:33`. Parts of a second are cut.
+/// Returns the time of day of a moment in UTC, as `23:34:33`. Fractions of a second are dropped.
 ///
 /// # Errors
 ///
@@ -35,22 +35,22 @@ pub trait Clock {
 pub fn format_time_for_messages(alloc: Global, at: Moment) -> Result<String, Refusal>
     ensures ok { IfOk result (λ text. string_bytes text ≡ time_text at) }
     ensures length { IfOk result (λ text. length (string_bytes text) ≡ DATE_TIME_HMS) }
-    ensures err { IfErr result (λ e. e ≡ Refusal.Memory) }
+    ensures reason { IsOkUnless result Refusal.Memory }
 {
     let mut time = String::new(alloc);
     push_clock(&mut time, at / NANOSECONDS_PER_SECOND)?;
     Ok(time)
 }
 
-/// Returns the date and the time of day of a moment in UTC, as `2554-07-21T23:34:33`. Parts of a
-/// second are cut.
+/// Returns the date and the time of day of a moment in UTC, as `2554-07-21T23:34:33`. Fractions of
+/// a second are dropped.
 ///
 /// # Errors
 ///
 /// `Memory`, if out of memory.
 pub fn format_now_datetime_seconds(alloc: Global, at: Moment) -> Result<String, Refusal>
     ensures ok { IfOk result (λ text. IsDateTimeText at (string_bytes text)) }
-    ensures err { IfErr result (λ e. e ≡ Refusal.Memory) }
+    ensures reason { IsOkUnless result Refusal.Memory }
 {
     let mut text = String::new(alloc);
     push_date(&mut text, date_of(at))?;
@@ -71,13 +71,7 @@ fn date_of(at: Moment) -> Date
 
 /// Appends a date, as `2554-07-21`.
 fn push_date(out: &mut String, date: Date) -> Result<(), AllocError>
-    ensures ok { OnOk result
-        (Appends out.old (date_text (record {
-          year = unsigned_abs date.year;
-          month = date.month;
-          day = date.day;
-        })) out.new) }
-    ensures kept { IsPrefix (string_bytes out.old) (string_bytes out.new) }
+    ensures { Pushes result out.old (date_text (calendar_date date)) out.new }
 {
     push_last_digits(out, 4, u128::from(date.year().unsigned_abs()))?;
     push_ascii(out, b'-')?;
@@ -88,8 +82,7 @@ fn push_date(out: &mut String, date: Date) -> Result<(), AllocError>
 
 /// Appends the time of day of a second since 1970, as `23:34:33`.
 fn push_clock(out: &mut String, seconds: u64) -> Result<(), AllocError>
-    ensures ok { OnOk result (Appends out.old (clock_text seconds) out.new) }
-    ensures kept { IsPrefix (string_bytes out.old) (string_bytes out.new) }
+    ensures { Pushes result out.old (clock_text seconds) out.new }
 {
     push_last_digits(out, 2, u128::from(seconds / 3600 % 24))?;
     push_ascii(out, b':')?;

@@ -9,14 +9,24 @@ use std::hash::Hash;
 use std::process::Abort;
 use std::test::Fail;
 
-/// Both are equal; `of` says at which row of a table. A call is proved in a tenth of the time that
-/// `assert_eq!` takes.
+/// Asserts that both are equal; `of` names the row of a table. A call is proved in a tenth of the
+/// time that `assert_eq!` takes.
 pub(crate) fn assert_same<T, N>(rt: &impl Abort, got: T, want: T, of: N)
 where
     T: PartialEq + Debug + Drop,
     N: Debug + Drop,
 {
     assert_eq!(rt; got, want, "of {of:?}");
+}
+
+/// Asserts that each value equals the copy at its index, and no other copy.
+pub(crate) fn assert_distinct<T: PartialEq>(rt: &impl Abort, values: &[T], copies: &[T]) {
+    assert_same(rt, values.len(), copies.len(), "lengths");
+    for (i, value) in values.iter().enumerate() {
+        for (j, copy) in copies.iter().enumerate() {
+            assert_same(rt, value == copy, i == j, (i, j));
+        }
+    }
 }
 
 /// The values ascend, and no two are equal.
@@ -44,14 +54,4 @@ pub(crate) fn assert_hashed<K: Hash + Eq + Copy + Drop>(
         assert_same(rt, places.get(value).copied(), Some(n), n);
     }
     Ok(())
-}
-
-/// Each value equals the one in its place among the copies, and no other of them.
-pub(crate) fn assert_distinct<T: PartialEq>(rt: &impl Abort, values: &[T], copies: &[T]) {
-    assert_same(rt, values.len(), copies.len(), "lengths");
-    for (i, value) in values.iter().enumerate() {
-        for (j, copy) in copies.iter().enumerate() {
-            assert_same(rt, value == copy, i == j, (i, j));
-        }
-    }
 }

@@ -1,20 +1,22 @@
 use crate::fixtures::{assert_ascending, assert_hashed, assert_same, key_at};
 use prodash_base::progress::Key;
+use prodash_base::progress::key::next_id;
 use std::process::Abort;
 use std::test::Fail;
 
 /// The numbers of the children on the way down, and the key's numbers.
 #[rattlefmt::skip]
-const CHILDREN: &[(&[u16], &[u16])] = &[
+const CHILDREN: &[(&[u32], &[u32])] = &[
     (&[], &[]),
     (&[7], &[7]),
     (&[1, 2, 3, 4, 5, 6], &[1, 2, 3, 4, 5, 6]),
     (&[1, 2, 3, 4, 5, 6, 7], &[1, 2, 3, 4, 5, 7]),
     (&[1, 2, 3, 4, 5, 6, 7, 8], &[1, 2, 3, 4, 5, 8]),
+    (&[65536, 4294967295], &[65536, 4294967295]),
 ];
 
 /// The key has these numbers from level 1 on.
-fn assert_numbers(rt: &impl Abort, key: Key, numbers: &[u16]) {
+fn assert_numbers(rt: &impl Abort, key: Key, numbers: &[u32]) {
     let mut level: u8 = 0;
     for number in numbers {
         level = level.saturating_add(1);
@@ -31,6 +33,56 @@ fn children_stay_within_six_levels(rt: HostRuntime) {
         assert_numbers(&rt, key, numbers);
     }
     assert_same(&rt, Key::max_level(), 6, "levels");
+}
+
+/// The number of a child, and the number of the next one.
+const NEXT: &[(u32, u32)] = &[
+    (0, 1),
+    (65535, 65536),
+    (4294967294, 4294967295),
+    (4294967295, 0),
+];
+
+#[test]
+fn child_numbers_rise_and_begin_again(rt: HostRuntime) {
+    for (number, next) in NEXT {
+        assert_same(&rt, next_id(*number), *next, *number);
+    }
+}
+
+/// Keys in their order.
+const ASCENDING: &[&[u32]] = &[
+    &[],
+    &[0],
+    &[0, 0],
+    &[0, 0, 0, 0, 0],
+    &[0, 0, 0, 0, 0, 0],
+    &[0, 0, 0, 0, 0, 1],
+    &[0, 0, 0, 0, 0, 4294967295],
+    &[0, 0, 0, 0, 1],
+    &[0, 0, 0, 0, 1, 0],
+    &[0, 0, 0, 1],
+    &[0, 0, 0, 65536, 7, 7],
+    &[0, 0, 1],
+    &[0, 0, 1, 0],
+    &[0, 4294967295, 9],
+    &[1],
+    &[65535, 9],
+    &[65536],
+    &[65536, 0],
+    &[
+        4294967295, 4294967295, 4294967295, 4294967295, 4294967295, 4294967295,
+    ],
+];
+
+#[test]
+fn wide_keys_are_ordered_by_their_numbers(rt: HostRuntime) -> Result<(), Fail> {
+    let mut keys = Vec::new(rt.alloc());
+    for numbers in ASCENDING {
+        keys.push(key_at(numbers))?;
+    }
+    assert_ascending(&rt, &keys);
+    assert_hashed(&rt, rt.alloc(), &keys)
 }
 
 #[test]

@@ -118,3 +118,31 @@ fn rings_keep_the_latest_messages(rt: HostRuntime) -> Result<(), Fail> {
     }
     Ok(())
 }
+
+/// The bytes of an origin and of a message, each of which a ring takes while there is memory.
+const LENGTHS: &[(usize, usize)] = &[(0, 0), (5, 1001), (1001, 5), (70_000, 70_000)];
+
+fn text_of_length(alloc: Global, length: usize) -> Result<String, AllocError> {
+    let mut text = String::new(alloc);
+    for _ in 0..length {
+        text.push('x')?;
+    }
+    Ok(text)
+}
+
+#[test]
+fn rings_take_long_messages(rt: HostRuntime) -> Result<(), Fail> {
+    let alloc = rt.alloc();
+    let mut ring = MessageRingBuffer::with_capacity(alloc, 1)?;
+    for (origin, text) in LENGTHS {
+        let origin = text_of_length(alloc, *origin)?;
+        let text = text_of_length(alloc, *text)?;
+        let (origin, text) = (origin.as_str(), text.as_str());
+        ring.push_overwrite(alloc, 7, MessageLevel::Info, origin, text)?;
+        let mut out = Vec::new(alloc);
+        ring.copy_all(alloc, &mut out)?;
+        let want = message(alloc, 7, MessageLevel::Info, origin, text)?;
+        assert!(rt; out.as_slice() == [want].as_slice());
+    }
+    Ok(())
+}

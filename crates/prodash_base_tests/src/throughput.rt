@@ -114,7 +114,7 @@ const TABLES: [&[Turn]; 9] = [
 ];
 
 /// The number of a key, its step if it has progress, and the change in one second that is returned.
-type Change = (u16, Option<u64>, Option<u64>);
+type Change = (u32, Option<u64>, Option<u64>);
 
 /// A moment, and the changes of keys at it.
 type Moment = (u64, &'static [Change]);

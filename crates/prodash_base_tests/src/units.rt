@@ -331,3 +331,18 @@ fn an_own_kind_is_appended(rt: HostRuntime) -> Result<(), Fail> {
     assert_same(&rt, text.as_str(), want, "text");
     Ok(())
 }
+
+#[test]
+fn displays_ignore_width_and_precision(rt: HostRuntime) -> Result<(), Fail> {
+    let alloc = rt.alloc();
+    let display = label("items").display(alloc, 3, Some(10), None);
+    let texts = [
+        format!(in alloc; "{display:>20}")?,
+        format!(in alloc; "{display:020}")?,
+        format!(in alloc; "{display:.2}")?,
+    ];
+    for text in &texts {
+        assert_same(&rt, text.as_str(), "3/10 items", "display");
+    }
+    Ok(())
+}

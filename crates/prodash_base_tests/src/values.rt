@@ -4,8 +4,11 @@ use crate::fixtures::{
 };
 use prodash_base::messages::{Message, MessageCopyState, MessageLevel};
 use prodash_base::progress::{Id, Row, State, UNKNOWN, Value};
+use prodash_base::unit::label;
 use prodash_base::{Refusal, Text};
 use std::alloc::{AllocError, Global};
+use std::fmt::Debug;
+use std::process::Abort;
 use std::test::Fail;
 
 const STATES: &[State] = &[
@@ -119,7 +122,7 @@ fn some_values(alloc: Global) -> Result<Vec<Value>, AllocError> {
     Ok(values)
 }
 
-const ROWS: &[(&[u16], &str, Id, Progress)] = &[
+const ROWS: &[(&[u32], &str, Id, Progress)] = &[
     (&[1, 2], "a", UNKNOWN, None),
     (&[1, 3], "a", UNKNOWN, None),
     (&[1, 2], "b", UNKNOWN, None),
@@ -210,5 +213,71 @@ fn messages_keep_their_list(rt: HostRuntime) -> Result<(), Fail> {
     };
     let texts = (a.message.as_str(), b.message.as_str());
     assert_same(&rt, texts, ("x", "y"), "texts");
+    Ok(())
+}
+
+fn assert_debug<T: Debug>(
+    rt: &impl Abort,
+    alloc: Global,
+    value: &T,
+    want: &str,
+) -> Result<(), AllocError> {
+    let text = format!(in alloc; "{value:?}")?;
+    assert_same(rt, text.as_str(), want, "Debug");
+    Ok(())
+}
+
+/// The numbers of a key, an identifier, a step with a bound and a state, and the row's `Debug`.
+#[rattlefmt::skip]
+const ROW_TEXTS: &[(&[u32], Id, Option<(u64, Option<u64>, State)>, &str)] = &[
+    (&[], UNKNOWN, None, r#"Row [] "task""#),
+    (&[0, 1], [1, 2, 3, 4], None, r#"Row [0, 1] "task" id [1, 2, 3, 4]"#),
+    (&[0], UNKNOWN, Some((3, None, State::Running)), r#"Row [0] "task" 3"#),
+    (&[0], UNKNOWN, Some((3, Some(10), State::Running)), r#"Row [0] "task" 3/10"#),
+    (&[0], UNKNOWN, Some((3, Some(10), State::Halted("a", None))),
+        r#"Row [0] "task" 3/10 Halted("a", None)"#),
+];
+
+#[test]
+fn rows_have_short_debug_texts(rt: HostRuntime) -> Result<(), Fail> {
+    let alloc = rt.alloc();
+    for (numbers, id, progress, want) in ROW_TEXTS {
+        let mut row = row(alloc, key_at(numbers), "task", None)?;
+        row.id = *id;
+        row.progress = progress.map(|(step, done_at, state)| Value {
+            step,
+            done_at,
+            unit: None,
+            state,
+        });
+        assert_debug(&rt, alloc, &row, want)?;
+    }
+    let mut measured = row(alloc, key_at(&[0]), "task", None)?;
+    measured.progress = Some(Value {
+        step: 3,
+        done_at: None,
+        unit: Some(label("items")),
+        state: State::Running,
+    });
+    let want = r#"Row [0] "task" 3 Unit { kind: Label("items"), mode: None }"#;
+    assert_debug(&rt, alloc, &measured, want)?;
+    Ok(())
+}
+
+#[test]
+fn lists_have_short_debug_texts(rt: HostRuntime) -> Result<(), Fail> {
+    let alloc = rt.alloc();
+    let rows = rows(alloc, LISTED)?;
+    let messages = messages(alloc, &[("a", "x"), ("b", "y")])?;
+    let lines = r#"Messages [Message 0 Info "a" "x", Message 0 Info "b" "y"]"#;
+    assert_debug(&rt, alloc, &rows, r#"Rows [Row [1] "a" 3/10, Row [2] "b"]"#)?;
+    assert_debug(&rt, alloc, &messages, lines)?;
+    assert_debug(&rt, alloc, &key_at(&[0, 1]), "Key [0, 1]")?;
+    assert_debug(
+        &rt,
+        alloc,
+        &Text::from_str(alloc, "a \"b\"")?,
+        r#""a \"b\"""#,
+    )?;
     Ok(())
 }

@@ -1,11 +1,11 @@
 ghost use Rattle.std.specs.Prelude.{◌≡◌, IfErr};
-ghost use Rattle.prodash_colors.specs.declared.fault.Fault.TheVariants.{Memory};
+ghost use Rattle.prodash_programs.specs.declared.fault.Fault.TheVariants.{Memory};
 
-use crate::fault::Fault;
 use crate::scene::events;
 use prodash::Refusal;
 use prodash::render::line::draw::{self, MemoryScreen};
 use prodash::tree::{Reply, RootOptions, SessionOptions, run};
+use prodash_programs::Fault;
 use std::alloc::Global;
 
 /// The columns and rows of the terminal.
@@ -18,13 +18,10 @@ pub fn frames(alloc: Global, colored: bool) -> Result<Vec<u8>, Fault>
     let options = SessionOptions {
         root: RootOptions::default(),
         draw: draw::Options {
-            level_filter: None,
             terminal_dimensions: DIMENSIONS,
-            keep_running_if_progress_is_empty: true,
-            output_is_terminal: true,
             colored,
             timestamp: true,
-            hide_cursor: false,
+            ..draw::Options::default()
         },
         throughput: true,
     };

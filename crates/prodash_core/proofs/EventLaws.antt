@@ -1,15 +1,15 @@
--- What each event does to the messages, and that its reply is no refusal.
-use Rattle.std.proofs.Common.{◌≡◌, ℕ, ◌∷◌, [], List, refl, Bool, true, false, cond, Result, Ok, Err, Option, Some, None}
-use Rattle.std.specs.Prelude.{fold, ⊤}
+-- What holds of each event: the messages that it pushes, that its reply is no refusal and owns memory only if it reads, and what the tree refuses.
+use Rattle.std.proofs.Common.{◌≡◌, ◌≢◌, ℕ, ◌∷◌, [], List, refl, Bool, true, false, cond, Ok, Err, Option, Some, None}
+use Rattle.std.specs.Prelude.{fold}
 use Rattle.prodash_base.specs.Rings.{push, is_push_limit_reached}
 use Rattle.prodash_base.specs.declared.unit.units.Unit.{Unit}
-use Rattle.prodash_base.specs.declared.refusal.Refusal.{Refusal}
 use Rattle.prodash_base.specs.declared.refusal.Refusal.TheVariants as refusals
 use Rattle.prodash_base.specs.declared.messages.Message.{Message as Said}
 use Rattle.prodash_base.specs.declared.messages.MessageLevel.{MessageLevel}
 use Rattle.prodash_core.specs.Tables.{TaskEntry}
 use Rattle.prodash_core.specs.declared.tree.slot.Slot.{Slot}
-use Rattle.prodash_core.specs.Trees.{Tree, Effect, OnTree, OnRenderer, effect, slot_at, item_at, for_slot, init_at, message_by, push_message}
+use Rattle.prodash_core.specs.Trees.{Tree, Played, Effect, OnTree, OnRenderer, play, slot_at, item_at, for_slot, init_at, message_by, push_message}
+use Rattle.prodash_core.specs.Replies.{owns_memory}
 use Rattle.prodash_core.specs.Sessions.{is_memory}
 use Rattle.prodash_core.specs.Runs.{is_done, said_for, said_by}
 use Rattle.prodash_core.specs.declared.tree.event.Event.{Event}
@@ -17,59 +17,62 @@ use Rattle.prodash_core.specs.declared.tree.event.Event.TheVariants as events
 use Rattle.prodash_core.specs.declared.tree.event.Reply.{Reply}
 use Rattle.prodash_core.specs.declared.tree.event.Reply.TheVariants as replies
 
--- an accepted change pushes what it says, if its reply is that it is done, and its reply isn't that there was no memory
-pub record Keeps (t : Tree) (said : List Said) (t' : Tree) (reply : Reply) : Type 0 where
+-- an accepted event pushes what it says, if its reply is that it is done; its reply isn't that there was no memory; and if the reply owns memory, the tree is as it was
+pub record Accepts (t : Tree) (said : List Said) (t' : Tree) (reply : Reply) : Type 0 where
   pub ring : t'.ring ≡ fold push t.ring (cond (is_done reply) said [])
-  pub accepted : is_memory reply ≡ false
+  pub replied : is_memory reply ≡ false
+  pub reads : owns_memory reply ≡ true → t' ≡ t
 
-abbrev pub ChangeKeeps : Tree → List Said → Result (Tree × Reply) Refusal → Type 0
-ChangeKeeps t said (Ok changed) = Keeps t said changed.0 changed.1
-ChangeKeeps t said (Err refusal) = ⊤
+-- the tree refuses no event because there are too many handles
+abbrev pub PlayedLaws : Tree → List Said → Played → Type 0
+PlayedLaws t said (Ok changed) = Accepts t said changed.0 changed.1
+PlayedLaws t said (Err refusal) = refusal ≢ refusals.TooManyHandles
 
 -- frames say nothing
-abbrev pub EffectKeeps : (Tree → List Said) → Effect → Type 0
-EffectKeeps said (OnTree memory change) = (t : Tree) → ChangeKeeps t (said t) (change t)
-EffectKeeps said (OnRenderer input) = (t : Tree) → said t ≡ []
+abbrev pub EffectLaws : Tree → List Said → Effect → Type 0
+EffectLaws t said (OnTree memory played) = PlayedLaws t said played
+EffectLaws t said (OnRenderer input) = said ≡ []
 
-for_each : (t : Tree) (said : List Said) (o : Option Slot) (f : Slot → Result (Tree × Reply) Refusal) → ((slot : Slot) → ChangeKeeps t said (f slot)) → ChangeKeeps t said (for_slot o f)
-for_each t said None f h = tt
+for_each : (t : Tree) (said : List Said) (o : Option Slot) (f : Slot → Played) → ((slot : Slot) → PlayedLaws t said (f slot)) → PlayedLaws t said (for_slot o f)
+for_each t said None f h = λ same. cc
 for_each t said (Some slot) f h = h slot
 
 init_keeps : (t : Tree) (n : ℕ) (slot : Slot) (max : Option ℕ) (unit : Option Unit) (o : Option (TaskEntry ℕ)) → (init_at t n slot max unit o).ring ≡ t.ring
 init_keeps t n slot max unit None = refl
 init_keeps t n slot max unit (Some e) = refl
 
-pushes : (t : Tree) (m : Said) (b : Bool) → ChangeKeeps t (m ∷ []) (cond b (Err refusals.TooManyMessages) (Ok (record t { ring = push t.ring m }, replies.Done)))
-pushes t m true = tt
-pushes t m false = record { ring = refl; accepted = refl }
+pushes : (t : Tree) (m : Said) (b : Bool) → PlayedLaws t (m ∷ []) (cond b (Err refusals.TooManyMessages) (Ok (record t { ring = push t.ring m }, replies.Done)))
+pushes t m true = λ same. cc
+pushes t m false = record { ring = refl; replied = refl; reads = λ h. cc }
 
-message_keeps : (t : Tree) (at : ℕ) (level : MessageLevel) (text : List ℕ) (o : Option Slot)
-    → ChangeKeeps t (said_for t o at level text) (for_slot o (λ slot. push_message t (message_by t slot at level text)))
-message_keeps t at level text None = tt
-message_keeps t at level text (Some slot) = pushes t (message_by t slot at level text) (is_push_limit_reached t.ring)
+message_laws : (t : Tree) (at : ℕ) (level : MessageLevel) (text : List ℕ) (o : Option Slot)
+    → PlayedLaws t (said_for t o at level text) (for_slot o (λ slot. push_message t (message_by t slot at level text)))
+message_laws t at level text None = λ same. cc
+message_laws t at level text (Some slot) = pushes t (message_by t slot at level text) (is_push_limit_reached t.ring)
 
-pub effect_keeps : (e : Event) → EffectKeeps (λ t. said_by t e) (effect e)
-effect_keeps (events.AddChild parent name id) = λ t. for_each t [] (slot_at t parent) _ (λ _. record { ring = refl; accepted = refl })
-effect_keeps (events.Drop n) = λ t. for_each t [] (item_at t n) _ (λ _. record { ring = refl; accepted = refl })
-effect_keeps (events.Init n max unit) = λ t. for_each t [] (item_at t n) _ (λ slot. record { ring = init_keeps t n slot max unit _; accepted = refl })
-effect_keeps (events.SetName n name) = λ t. for_each t [] (item_at t n) _ (λ _. record { ring = refl; accepted = refl })
-effect_keeps (events.SetMax n max) = λ t. for_each t [] (item_at t n) _ (λ _. record { ring = refl; accepted = refl })
-effect_keeps (events.Set n step) = λ t. for_each t [] (item_at t n) _ (λ _. record { ring = refl; accepted = refl })
-effect_keeps (events.IncBy n step) = λ t. for_each t [] (item_at t n) _ (λ _. record { ring = refl; accepted = refl })
-effect_keeps (events.Blocked n reason eta) = λ t. for_each t [] (item_at t n) _ (λ _. record { ring = refl; accepted = refl })
-effect_keeps (events.Halted n reason eta) = λ t. for_each t [] (item_at t n) _ (λ _. record { ring = refl; accepted = refl })
-effect_keeps (events.Running n) = λ t. for_each t [] (item_at t n) _ (λ _. record { ring = refl; accepted = refl })
-effect_keeps (events.Message n at level text) = λ t. message_keeps t at level text (item_at t n)
-effect_keeps (events.Name n) = λ t. for_each t [] (item_at t n) _ (λ _. record { ring = refl; accepted = refl })
-effect_keeps (events.Id n) = λ t. for_each t [] (item_at t n) _ (λ _. record { ring = refl; accepted = refl })
-effect_keeps (events.Step n) = λ t. for_each t [] (item_at t n) _ (λ _. record { ring = refl; accepted = refl })
-effect_keeps (events.Max n) = λ t. for_each t [] (item_at t n) _ (λ _. record { ring = refl; accepted = refl })
-effect_keeps (events.Unit n) = λ t. for_each t [] (item_at t n) _ (λ _. record { ring = refl; accepted = refl })
-effect_keeps events.NumTasks = λ t. for_each t [] (slot_at t 0) _ (λ _. record { ring = refl; accepted = refl })
-effect_keeps events.Snapshot = λ t. for_each t [] (slot_at t 0) _ (λ _. record { ring = refl; accepted = refl })
-effect_keeps events.CopyMessages = λ t. for_each t [] (slot_at t 0) _ (λ _. record { ring = refl; accepted = refl })
-effect_keeps (events.CopyNew previous) = λ t. for_each t [] (slot_at t 0) _ (λ _. record { ring = refl; accepted = refl })
-effect_keeps events.DropRoot = λ t. for_each t [] (slot_at t 0) _ (λ _. record { ring = refl; accepted = refl })
-effect_keeps (events.Tick at show) = λ t. refl
-effect_keeps (events.Resize at show columns rows) = λ t. refl
-effect_keeps (events.Quit at) = λ t. refl
+-- the laws of each event
+pub play_laws : (t : Tree) (e : Event) → EffectLaws t (said_by t e) (play t e)
+play_laws t (events.AddChild parent name id) = for_each t [] (slot_at t parent) _ (λ _. record { ring = refl; replied = refl; reads = λ h. cc })
+play_laws t (events.Drop n) = for_each t [] (item_at t n) _ (λ _. record { ring = refl; replied = refl; reads = λ h. cc })
+play_laws t (events.Init n max unit) = for_each t [] (item_at t n) _ (λ slot. record { ring = init_keeps t n slot max unit _; replied = refl; reads = λ h. cc })
+play_laws t (events.SetName n name) = for_each t [] (item_at t n) _ (λ _. record { ring = refl; replied = refl; reads = λ h. cc })
+play_laws t (events.SetMax n max) = for_each t [] (item_at t n) _ (λ _. record { ring = refl; replied = refl; reads = λ h. cc })
+play_laws t (events.Set n step) = for_each t [] (item_at t n) _ (λ _. record { ring = refl; replied = refl; reads = λ h. cc })
+play_laws t (events.IncBy n step) = for_each t [] (item_at t n) _ (λ _. record { ring = refl; replied = refl; reads = λ h. cc })
+play_laws t (events.Blocked n reason eta) = for_each t [] (item_at t n) _ (λ _. record { ring = refl; replied = refl; reads = λ h. cc })
+play_laws t (events.Halted n reason eta) = for_each t [] (item_at t n) _ (λ _. record { ring = refl; replied = refl; reads = λ h. cc })
+play_laws t (events.Running n) = for_each t [] (item_at t n) _ (λ _. record { ring = refl; replied = refl; reads = λ h. cc })
+play_laws t (events.Message n at level text) = message_laws t at level text (item_at t n)
+play_laws t (events.Name n) = for_each t [] (item_at t n) _ (λ _. record { ring = refl; replied = refl; reads = λ h. cc })
+play_laws t (events.Id n) = for_each t [] (item_at t n) _ (λ _. record { ring = refl; replied = refl; reads = λ h. cc })
+play_laws t (events.Step n) = for_each t [] (item_at t n) _ (λ _. record { ring = refl; replied = refl; reads = λ h. cc })
+play_laws t (events.Max n) = for_each t [] (item_at t n) _ (λ _. record { ring = refl; replied = refl; reads = λ h. cc })
+play_laws t (events.Unit n) = for_each t [] (item_at t n) _ (λ _. record { ring = refl; replied = refl; reads = λ h. cc })
+play_laws t events.NumTasks = for_each t [] (slot_at t 0) _ (λ _. record { ring = refl; replied = refl; reads = λ h. cc })
+play_laws t events.Snapshot = for_each t [] (slot_at t 0) _ (λ _. record { ring = refl; replied = refl; reads = λ h. cc })
+play_laws t events.CopyMessages = for_each t [] (slot_at t 0) _ (λ _. record { ring = refl; replied = refl; reads = λ h. cc })
+play_laws t (events.CopyNew previous) = for_each t [] (slot_at t 0) _ (λ _. record { ring = refl; replied = refl; reads = λ h. cc })
+play_laws t events.DropRoot = for_each t [] (slot_at t 0) _ (λ _. record { ring = refl; replied = refl; reads = λ h. cc })
+play_laws t (events.Tick at show) = refl
+play_laws t (events.Resize at show columns rows) = refl
+play_laws t (events.Quit at) = refl

@@ -15,4 +15,4 @@ pub mod WorkedRuns
 pub mod WorkedDashboard
 pub mod DashboardLaws
 pub mod WorkedPrefixes
-pub mod ReadingEvents
+pub mod PlayedEvents

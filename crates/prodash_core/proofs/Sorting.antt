@@ -14,7 +14,7 @@ use Rattle.prodash_base.specs.plumbing.KeyHash.{same_path}
 use Rattle.std.specs.declared.cmp.Ordering.TheVariants.{Less}
 use Rattle.prodash_base.specs.Rows.{PathRow, row_of, rows_of}
 use Rattle.prodash_base.specs.declared.progress.Row.{Row}
-use Rattle.prodash_core.specs.Tables.{TaskEntry, pair_of, RowShows, RowsShow, ListsEachOnce, paths_of}
+use Rattle.prodash_core.specs.Tables.{TaskEntry, pair_of, RowShows, RowsShow, ListsEachOnce}
 use Rattle.prodash_core.specs.declared.tree.table.Task.{Task}
 use Rattle.prodash_core.proofs.TableChanges.{table_of, sorted_list}
 use Rattle.prodash_core.proofs.AscendingRows.{paths-rows_of}
@@ -143,7 +143,7 @@ keys-pairs [] = refl
 keys-pairs (e ∷ es) = ap (λ ks. e.0 ∷ ks) (keys-pairs es)
 
 -- rows have the paths of the entries that they show
-shown_paths : {C : Type 0} (shows : C → ℕ → Type 0) (es : List (Path × TaskEntry C)) (rows : List PathRow) → AllZip (RowShows shows) es rows → paths_of rows ≡ keys_of es
+shown_paths : {C : Type 0} (shows : C → ℕ → Type 0) (es : List (Path × TaskEntry C)) (rows : List PathRow) → AllZip (RowShows shows) es rows → keys_of rows ≡ keys_of es
 shown_paths shows [] [] h = refl
 shown_paths shows [] (r ∷ rows) h = absurd h
 shown_paths shows (e ∷ es) [] h = absurd h
@@ -180,7 +180,7 @@ rows_sorted shows es old new h d p s =
     let listed = sorted_entries es moved.0 moved.1 d (sorted_list moved.0 rising) in (
       subst (λ fs. AllZip (RowShows shows) fs (rows_of new)) (sym listed) moved.2,
       record {
-        ascending = ascending (paths_of (rows_of new)) (subst (IsStrictlySortedBy path_cmp) (sym paths) rising);
+        ascending = ascending (keys_of (rows_of new)) (subst (IsStrictlySortedBy path_cmp) (sym paths) rising);
         each = λ q. subst (λ ks. IsSome (get (table_of es) q) ↔ Contains ks q) (sym paths) (lists_each es moved.0 moved.1 d q);
       },
     )

@@ -10,6 +10,7 @@ use Rattle.std.proofs.lemmas.Cmp.{nat_list_cmp_total}
 use Rattle.unicode_width.specs.Width.{str_width, char_width, step, past_emoji}
 use Rattle.prodash_base.specs.Path.{Path, path_cmp}
 use Rattle.prodash_base.specs.Messages.{message_of}
+use Rattle.prodash_base.specs.Rows.{unknown_id}
 use Rattle.prodash_base.specs.declared.messages.MessageLevel.TheVariants.{Info}
 use Rattle.prodash_line.specs.declared.render.line.page.sign.Sign.TheVariants.{Char}
 use Rattle.prodash_line.specs.declared.render.line.draw.input.Input.TheVariants as inputs
@@ -19,27 +20,27 @@ use Rattle.prodash_line.specs.Lines.{piece, width_of}
 use Rattle.prodash_line.specs.Frames.{signs_of}
 use Rattle.prodash_line.specs.Page.{Canvas, blank, blank_page, page_after}
 use Rattle.prodash_line.specs.Fits.{IsPlainPiece}
-use Rattle.prodash_line.specs.Renderer.{Renderer, new_renderer}
+use Rattle.prodash_line.specs.Renderer.{Renderer, default_options, new_renderer}
 use Rattle.prodash_line.specs.Renderings.{Rendering, FitsPage, drawn_frames}
 use Rattle.prodash_core.specs.declared.tree.options.SessionOptions.{SessionOptions}
 use Rattle.prodash_core.specs.declared.tree.event.Event.{Event}
 use Rattle.prodash_core.specs.declared.tree.event.Event.TheVariants.{AddChild, Message, Tick, Quit}
 use Rattle.prodash_core.specs.declared.tree.event.Reply.{Reply}
 use Rattle.prodash_core.specs.declared.tree.event.Reply.TheVariants.{Made, Done, Drawn, Ended}
-use Rattle.prodash_core.specs.Tables.{TaskEntry, Table, frozen}
+use Rattle.prodash_core.specs.Tables.{new_entry, TaskEntry, Table, frozen}
 use Rattle.prodash_core.specs.declared.tree.slot.Slot.{Slot}
-use Rattle.prodash_core.specs.Trees.{new_slot, with_child, counter_at, new_entry, name_of}
+use Rattle.prodash_core.specs.Trees.{new_slot, with_child, counter_at, name_of}
 use Rattle.prodash_core.specs.Runs.{renderings_of}
 
 abbrev options : SessionOptions
 options = record {
   root = record { initial_capacity = 100; message_buffer_capacity = 20 };
-  draw = record { level_filter = None; terminal_dimensions = (40, 4); keep_running_if_progress_is_empty = true; output_is_terminal = true; colored = false; timestamp = false; hide_cursor = false };
+  draw = record default_options { terminal_dimensions = (40, 4); colored = false };
   throughput = false;
 }
 
 abbrev id : List ℕ
-id = 0 ∷ 0 ∷ 0 ∷ 0 ∷ []
+id = unknown_id
 
 abbrev events : List Event
 events = AddChild 0 (codes "a") id ∷ Tick 0 true ∷ Message 1 1 Info (codes "x") ∷ AddChild 0 (codes "b") id ∷ Tick 1 true ∷ Quit 2 ∷ []

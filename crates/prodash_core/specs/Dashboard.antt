@@ -1,6 +1,7 @@
 -- The dashboard: what an event leaves of its state, and the answer to it.
 use Prim.Native.Char.{Char, code}
-use Rattle.std.specs.Prelude.{ℕ, ◌+◌, ◌-◌, min, Bool, true, false, not, ◌&&◌, ◌||◌, ◌==◌, if◌then◌else◌, List, [], ◌∷◌, Option, Some, None, find, fold, String}
+use Rattle.std.specs.Prelude.{◌≡◌, ℕ, ◌+◌, ◌-◌, min, Bool, true, false, not, ◌&&◌, ◌||◌, ◌==◌, if◌then◌else◌, List, [], ◌∷◌, Option, Some, None, find, fold, String}
+use Rattle.std.specs.List.{list_any}
 use Rattle.std.specs.Option.{option_map, option_map_or}
 use Rattle.std.specs.Global.{Global, Vec}
 use Rattle.prodash_core.specs.declared.render.tui.event.Answer.{Answer}
@@ -152,3 +153,21 @@ is_request _ = false
 abbrev pub sets_instantly : Event → Bool
 sets_instantly (SetInterruptMode interrupts.Instantly) = true
 sets_instantly _ = false
+
+-- whether a request waits after events, if one waited before them
+abbrev pub waits_after : Bool → List Event → Bool
+waits_after requested events = requested || list_any is_request events
+
+-- If requests are deferred, with a note whether one waits, and no event sets the mode to be
+-- instantly, they still are after the events, and the note says whether there was one.
+abbrev pub NotesRequests : State → Bool → List Event → Type 0
+NotesRequests s requested events = s.interrupt_mode ≡ Deferred requested
+    → list_any sets_instantly events ≡ false
+    → (state_after s events).interrupt_mode ≡ Deferred (waits_after requested events)
+
+-- If the mode is then set to be instantly, the dashboard stops exactly if there was one.
+abbrev pub StopsIfRequested : State → Bool → List Event → Type 0
+StopsIfRequested s requested events = s.interrupt_mode ≡ Deferred requested
+    → list_any sets_instantly events ≡ false
+    → (handle (state_after s events) (SetInterruptMode interrupts.Instantly)).1
+    ≡ (if waits_after requested events then Stop else Redraw)

@@ -1,6 +1,6 @@
 -- The prefix of a row, which draws the branches of the tree that lead to it.
 use Prim.Native.Char.{code}
-use Rattle.std.specs.Prelude.{ℕ, Bool, true, false, not, ◌==◌, List, [], ◌∷◌, take, length, slice_get, Option}
+use Rattle.std.specs.Prelude.{◌≡◌, ℕ, Bool, true, false, not, ◌==◌, List, [], ◌∷◌, take, length, slice_get, Option, Some, encode_utf8_all}
 use Rattle.std.specs.Option.{option_map}
 use Rattle.prodash_base.specs.Path.{Path}
 use Rattle.prodash_base.specs.Adjacency.{adjacency, locations, level_of}
@@ -49,3 +49,7 @@ prefix_of a level = branches true (is_orphan a level) (take level (locations a))
 -- the prefix of the path at an index
 abbrev pub prefix_at : List Path → ℕ → Option (List ℕ)
 prefix_at paths i = option_map (λ p. prefix_of (adjacency paths p) (length p)) (slice_get paths i)
+
+-- the bytes of the prefix of the path at an index
+abbrev pub IsPrefixAt : List Path → ℕ → List ℕ → Type 0
+IsPrefixAt paths i bytes = option_map encode_utf8_all (prefix_at paths i) ≡ Some bytes

@@ -1,18 +1,24 @@
 -- What the tree refuses, however much memory there is.
-use Rattle.std.specs.Prelude.{Option, Some, None, Result, Ok, Err}
+use Rattle.std.specs.Prelude.{◌≡◌, ℕ, List, Option, Some, None, Ok, Err}
+use Rattle.prodash_base.specs.declared.messages.MessageLevel.{MessageLevel}
 use Rattle.prodash_base.specs.declared.refusal.Refusal.{Refusal}
-use Rattle.prodash_core.specs.Trees.{Tree, Effect, OnTree, OnRenderer, effect}
+use Rattle.prodash_core.specs.Trees.{Tree, Played, Effect, OnTree, OnRenderer, play}
 use Rattle.prodash_core.specs.declared.tree.event.Event.{Event}
-use Rattle.prodash_core.specs.declared.tree.event.Reply.{Reply}
+use Rattle.prodash_core.specs.declared.tree.event.Event.TheVariants.{Message}
 
-abbrev pub refusal_in : Result (Tree × Reply) Refusal → Option Refusal
+abbrev pub refusal_in : Played → Option Refusal
 refusal_in (Ok changed) = None
 refusal_in (Err refusal) = Some refusal
 
-abbrev pub refusal_by : Effect → Tree → Option Refusal
-refusal_by (OnTree memory change) t = refusal_in (change t)
-refusal_by (OnRenderer input) t = None
+abbrev pub refusal_by : Effect → Option Refusal
+refusal_by (OnTree memory played) = refusal_in played
+refusal_by (OnRenderer input) = None
 
 -- the refusal of an event by the tree, however much memory there is; it refuses no frame
 abbrev pub refusal_of : Tree → Event → Option Refusal
-refusal_of t e = refusal_by (effect e) t
+refusal_of t e = refusal_by (play t e)
+
+-- the refusal of a message of an item, whatever its moment, severity and text
+abbrev pub IsRefusalOfMessage : Tree → ℕ → Option Refusal → Type 0
+IsRefusalOfMessage t item refusal = (at : ℕ) (level : MessageLevel) (text : List ℕ)
+    → refusal ≡ refusal_of t (Message item at level text)

@@ -1,5 +1,5 @@
 -- Replies that own memory.
-use Rattle.std.specs.Prelude.{Bool, true, false, Option, Some}
+use Rattle.std.specs.Prelude.{Bool, true, false, Some}
 use Rattle.prodash_core.specs.declared.tree.event.Reply.{Reply}
 use Rattle.prodash_core.specs.declared.tree.event.Reply.TheVariants.{Name, Rows, Messages, New}
 

@@ -1,5 +1,6 @@
 -- Whole runs: the replies to a list of events, and what they write.
-use Rattle.std.specs.Prelude.{◌≡◌, ℕ, suc, Bool, true, false, ◌<◌, List, [], ◌∷◌, ◌++◌, length, take, drop, slice_get, Option, Some, None, if◌then◌else◌, Result, Ok, Err}
+use Rattle.std.specs.Prelude.{◌≡◌, ℕ, suc, Bool, true, false, ◌<◌, List, [], ◌∷◌, ◌++◌, length, take, drop, slice_get, Option, Some, None, if◌then◌else◌, Result, Ok, Err, IfOk}
+use Rattle.std.specs.Global.{Vec}
 use Rattle.prodash_base.specs.declared.refusal.Refusal.{Refusal}
 use Rattle.prodash_base.specs.declared.refusal.Refusal.TheVariants as refusals
 use Rattle.prodash_base.specs.declared.messages.Message.{Message as Said}
@@ -11,8 +12,8 @@ use Rattle.prodash_line.specs.Renderings.{Rendering, after_result, RendersEach, 
 use Rattle.prodash_line.specs.Screens.{ScreenState}
 use Rattle.prodash_line.specs.Page.{Canvas}
 use Rattle.prodash_core.specs.declared.tree.slot.Slot.{Slot}
-use Rattle.prodash_core.specs.Trees.{Tree, Effect, OnTree, OnRenderer, effect, item_at, message_by}
-use Rattle.prodash_core.specs.Sessions.{SessionState, new_session, changed_tree, is_memory, Steps}
+use Rattle.prodash_core.specs.Trees.{Tree, Effect, OnTree, OnRenderer, play, item_at, message_by}
+use Rattle.prodash_core.specs.Sessions.{SessionState, new_session, tree_after, is_memory, Steps}
 use Rattle.prodash_core.specs.declared.tree.options.SessionOptions.{SessionOptions}
 use Rattle.prodash_core.specs.declared.tree.event.Event.{Event}
 use Rattle.prodash_core.specs.declared.tree.event.Event.TheVariants.{Message}
@@ -27,14 +28,14 @@ result_of (replies.Refused refusal) = Err refusal
 result_of _ = Err refusals.Memory
 
 abbrev pub next_by : Effect → SessionState → Reply → SessionState
-next_by (OnTree memory change) w reply =
-    if is_memory reply then w else record w { tree = changed_tree w.tree (change w.tree) }
+next_by (OnTree memory played) w reply =
+    if is_memory reply then w else record w { tree = tree_after w.tree played }
 next_by (OnRenderer input) w reply =
-    record w { renderer = after_result w.renderer (input w.tree w.renderer.seen) (result_of reply) }
+    record w { renderer = after_result w.renderer (input w.renderer.seen) (result_of reply) }
 
 -- the session after an event with this reply
 abbrev pub next_session : SessionState → Event → Reply → SessionState
-next_session w e reply = next_by (effect e) w reply
+next_session w e reply = next_by (play w.tree e) w reply
 
 -- the session after a list of events with these replies
 abbrev pub session_after : SessionState → List Event → List Reply → SessionState
@@ -50,11 +51,6 @@ Run w s (e ∷ es) (r ∷ rs) s' =
     × Run (next_session w e r) s₁ es rs s'
 Run w s [] (r ∷ rs) s' = ⊥
 Run w s (e ∷ es) [] s' = ⊥
-
--- the replies to a run from a new session
-abbrev pub RunsFromNew : SessionOptions → List Event → List Reply → ScreenState → ScreenState
-    → Type 0
-RunsFromNew options es rs s s' = Run (new_session options) s es rs s'
 
 -- The step of the event at an index, with its reply: it leads from the session after the events
 -- before it to the session after it too, and from the screen before it to the screen after it.
@@ -125,16 +121,16 @@ KeepsMessages options es rs =
     (all_said (new_session options) (take j es) (take j rs))
 
 abbrev pub rendering_by : Effect → SessionState → Reply → List Rendering
-rendering_by (OnTree memory change) w reply = []
+rendering_by (OnTree memory played) w reply = []
 rendering_by (OnRenderer input) w reply =
-    record { input = input w.tree w.renderer.seen; result = result_of reply } ∷ []
+    record { input = input w.renderer.seen; result = result_of reply } ∷ []
 
 -- the inputs of the frames among the events, each with what the renderer returned
 abbrev pub renderings_from : SessionState → List Event → List Reply → List Rendering
 renderings_from w [] rs = []
 renderings_from w (e ∷ es) [] = []
 renderings_from w (e ∷ es) (r ∷ rs) =
-    rendering_by (effect e) w r ++ renderings_from (next_session w e r) es rs
+    rendering_by (play w.tree e) w r ++ renderings_from (next_session w e r) es rs
 
 abbrev pub renderings_of : SessionOptions → List Event → List Reply → List Rendering
 renderings_of options es rs = renderings_from (new_session options) es rs
@@ -172,3 +168,31 @@ ShowsOnPages options es rs s s' =
 -- a screen that isn't broken has flushed all that it took, if it had before
 abbrev pub StaysFlushed : ScreenState → ScreenState → Type 0
 StaysFlushed s s' = s.flushed ≡ s.bytes → s'.broken ≡ false → s'.flushed ≡ s'.bytes
+
+-- A run of a new session, from its first screen to its last.
+pub record Ran (options : SessionOptions) (es : List Event) (rs : List Reply) (s s' : ScreenState)
+    : Type 0 where
+  -- each reply is that of a step from the session and the screen that those before it leave
+  pub steps : Run (new_session options) s es rs s'
+  -- the same, for the event at any place of the list
+  pub each : StepsAtEach options es rs s s'
+  -- the events that didn't run out of memory, by themselves, have the same run
+  pub with_memory : RunsWithMemory options es rs s s'
+  -- after each prefix of the events, the messages that are kept are the latest of all so far
+  pub messages : KeepsMessages options es rs
+  -- `Broken` is the reply to a frame exactly if the screen breaks, then or before
+  pub breaks : EachBreaksExactly options es rs s s'
+  -- each accepted frame with bytes is flushed
+  pub flushes : EachFlushes options es rs s s'
+  -- the bytes are those of the frames, whole up to the first that breaks the screen
+  pub bytes : WritesFrames options es rs s s'
+  -- a page that everything fits shows after each frame the rows above as they were, then the
+  -- messages printed so far, then the lines on screen, then blank rows
+  pub page : ShowsOnPages options es rs s s'
+  -- a screen that isn't broken afterwards has flushed all that it took, if it had before
+  pub flushed : StaysFlushed s s'
+
+-- what a run did, if it returned the replies
+abbrev pub IfRan : SessionOptions → List Event → Result (Vec Reply) Refusal → ScreenState
+    → ScreenState → Type 0
+IfRan options es result s s' = IfOk result (λ replies. Ran options es replies.items s s')

@@ -7,7 +7,7 @@ use Rattle.prodash_line.specs.declared.render.line.draw.input.Answer.{Answer}
 use Rattle.prodash_line.specs.declared.render.line.draw.input.Answer.TheVariants as answers
 use Rattle.prodash_line.specs.Renderer.{Renderer, Renders, new_renderer}
 use Rattle.prodash_line.specs.Screens.{ScreenState}
-use Rattle.prodash_core.specs.Trees.{Tree, new_tree, Change, Effect, OnTree, OnRenderer, effect}
+use Rattle.prodash_core.specs.Trees.{Tree, new_tree, Played, Effect, OnTree, OnRenderer, play}
 use Rattle.prodash_core.specs.declared.tree.options.SessionOptions.{SessionOptions}
 use Rattle.prodash_core.specs.declared.tree.event.Event.{Event}
 use Rattle.prodash_core.specs.declared.tree.event.Reply.{Reply}
@@ -25,12 +25,12 @@ new_session options = record {
 }
 
 abbrev pub input_by : SessionState → Effect → Option Input
-input_by w (OnTree memory change) = None
-input_by w (OnRenderer input) = Some (input w.tree w.renderer.seen)
+input_by w (OnTree memory played) = None
+input_by w (OnRenderer input) = Some (input w.renderer.seen)
 
 -- the input for the renderer, if the event is a frame
 abbrev pub input_at : SessionState → Event → Option Input
-input_at w e = input_by w (effect e)
+input_at w e = input_by w (play w.tree e)
 
 -- the reply with what the renderer returned
 abbrev pub frame_reply : Result Answer Refusal → Reply
@@ -38,14 +38,14 @@ frame_reply (Ok answers.Drawn) = replies.Drawn
 frame_reply (Ok answers.Ended) = replies.Ended
 frame_reply (Err refusal) = replies.Refused refusal
 
--- the reply and the tree of a change
-abbrev pub changed_reply : Result (Tree × Reply) Refusal → Reply
-changed_reply (Ok changed) = changed.1
-changed_reply (Err refusal) = replies.Refused refusal
+-- the reply to what was played, and the tree after it
+abbrev pub reply_of : Played → Reply
+reply_of (Ok changed) = changed.1
+reply_of (Err refusal) = replies.Refused refusal
 
-abbrev pub changed_tree : Tree → Result (Tree × Reply) Refusal → Tree
-changed_tree t (Ok changed) = changed.0
-changed_tree t (Err refusal) = t
+abbrev pub tree_after : Tree → Played → Tree
+tree_after t (Ok changed) = changed.0
+tree_after t (Err refusal) = t
 
 -- a frame: the renderer renders the input, and the tree stays
 pub record RendersFrame (w : SessionState) (input : Input) (s : ScreenState) (reply : Reply)
@@ -55,20 +55,20 @@ pub record RendersFrame (w : SessionState) (input : Input) (s : ScreenState) (re
   pub tree : w'.tree ≡ w.tree
   pub renders : Renders w.renderer input s result w'.renderer s'
 
--- another event: the tree changes, and renderer and screen stay
-pub record AppliesChange (w : SessionState) (s : ScreenState) (change : Change) (reply : Reply)
+-- another event: it is played on the tree, and renderer and screen stay
+pub record PlaysOnTree (w : SessionState) (s : ScreenState) (played : Played) (reply : Reply)
     (w' : SessionState) (s' : ScreenState) : Type 0 where
-  pub replied : reply ≡ changed_reply (change w.tree)
-  pub tree : w'.tree ≡ changed_tree w.tree (change w.tree)
+  pub replied : reply ≡ reply_of played
+  pub tree : w'.tree ≡ tree_after w.tree played
   pub renderer : w'.renderer ≡ w.renderer
   pub screen : s' ≡ s
 
 -- another event runs out of memory: only if it may, and if the tree doesn't refuse it. Nothing has
 -- changed.
-pub record RunsOutOfMemory (w : SessionState) (s : ScreenState) (memory : Bool) (change : Change)
+pub record RunsOutOfMemory (w : SessionState) (s : ScreenState) (memory : Bool) (played : Played)
     (w' : SessionState) (s' : ScreenState) : Type 0 where
   pub may : IsTrue memory
-  pub accepted : IsOk (change w.tree)
+  pub accepted : IsOk played
   pub session : w' ≡ w
   pub screen : s' ≡ s
 
@@ -77,18 +77,18 @@ abbrev pub is_memory : Reply → Bool
 is_memory (replies.Refused refusals.Memory) = true
 is_memory _ = false
 
-abbrev pub StepsOnTree : SessionState → ScreenState → Bool → Change → Reply → SessionState
+abbrev pub StepsOnTree : SessionState → ScreenState → Bool → Played → Reply → SessionState
     → ScreenState → Type 0
-StepsOnTree w s memory change reply w' s' =
-    MatchBool (is_memory reply) (RunsOutOfMemory w s memory change w' s')
-    (AppliesChange w s change reply w' s')
+StepsOnTree w s memory played reply w' s' =
+    MatchBool (is_memory reply) (RunsOutOfMemory w s memory played w' s')
+    (PlaysOnTree w s played reply w' s')
 
 abbrev pub StepsBy : Effect → SessionState → ScreenState → Reply → SessionState → ScreenState
     → Type 0
-StepsBy (OnTree memory change) w s reply w' s' = StepsOnTree w s memory change reply w' s'
+StepsBy (OnTree memory played) w s reply w' s' = StepsOnTree w s memory played reply w' s'
 StepsBy (OnRenderer input) w s reply w' s' =
-    RendersFrame w (input w.tree w.renderer.seen) s reply w' s'
+    RendersFrame w (input w.renderer.seen) s reply w' s'
 
 -- one event: its reply, and what it leaves of the session and the screen
 abbrev pub Steps : SessionState → ScreenState → Event → Reply → SessionState → ScreenState → Type 0
-Steps w s e reply w' s' = StepsBy (effect e) w s reply w' s'
+Steps w s e reply w' s' = StepsBy (play w.tree e) w s reply w' s'

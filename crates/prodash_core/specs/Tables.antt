@@ -1,13 +1,17 @@
 -- The table of tasks: a map from paths to entries, and its rows.
-use Rattle.std.specs.Prelude.{◌≡◌, ◌↔◌, ℕ, List, [], ◌∷◌, map, Option, Some, None, Contains, IsSome}
+use Rattle.std.specs.Prelude.{◌≡◌, ◌↔◌, ℕ, List, map, Option, Some, None, Contains, IsSome}
 use Rattle.std.specs.List.{AllZip}
+use Rattle.std.specs.Map.{keys_of}
 use Rattle.std.specs.Option.{option_map, option_and_then, option_map_or}
 use Rattle.std.specs.FinMap as finite
 use Rattle.prodash_base.specs.Path.{Path, path_cmp}
 use Rattle.prodash_base.specs.Adjacency.{IsAscending}
-use Rattle.prodash_base.specs.Rows.{Entry, Progress, Phase, RowProgress, PathRow, phase_of}
+use Rattle.prodash_base.specs.Rows.{Entry, Progress, Phase, RowProgress, PathRow, phase_of, progress_of, rows_of, unknown_id}
+use Rattle.prodash_base.specs.Rows as phases
 use Rattle.prodash_base.specs.Units.{measure_of}
 use Rattle.prodash_base.specs.declared.unit.units.Unit.{Unit}
+use Rattle.prodash_base.specs.declared.progress.Row.{Row}
+use Rattle.prodash_base.specs.declared.progress.Value.{Value}
 use Rattle.prodash_core.specs.declared.tree.table.Task.{Task}
 use Rattle.prodash_core.specs.declared.tree.table.Counted.{Counted}
 
@@ -22,6 +26,16 @@ TaskEntry C = Entry C Unit
 -- the entries of tasks by their paths
 abbrev pub Table : Type 0 → Type 0
 Table C = finite.FinMap path_cmp (TaskEntry C)
+
+-- the entry of a task without progress
+abbrev pub new_entry : {C : Type 0} → List ℕ → List ℕ → TaskEntry C
+new_entry name id = record { name = name; id = id; progress = None }
+
+-- the progress with which a task begins: none without a bound and a unit
+abbrev pub new_progress : {C : Type 0} → C → Option ℕ → Option Unit → Option (TaskProgress C)
+new_progress counter None None = None
+new_progress counter max unit =
+    Some (record { counter = counter; bound = max; unit = unit; phase = phases.Running })
 
 abbrev pub counted_of : {C : Type 0} → Counted C → TaskProgress C
 counted_of p =
@@ -64,9 +78,9 @@ with_phase {C} phase e =
 abbrev pub name_at : {C : Type 0} → Option (TaskEntry C) → Option (List ℕ)
 name_at = option_map (λ e. e.name)
 
--- the identifier of an entry; four zeros if there is none
+-- the identifier of an entry; the unknown one if there is none
 abbrev pub id_of : {C : Type 0} → Option (TaskEntry C) → List ℕ
-id_of e = option_map_or (λ e. e.id) e (0 ∷ 0 ∷ 0 ∷ 0 ∷ [])
+id_of e = option_map_or (λ e. e.id) e unknown_id
 
 -- the bound of an entry, if there is an entry, and it has progress and a bound
 abbrev pub bound_of : {C : Type 0} → Option (TaskEntry C) → Option ℕ
@@ -89,6 +103,11 @@ ProgressShows shows None shown = shown ≡ None
 ProgressShows shows (Some p) shown =
     (number : ℕ) × shows p.counter number × (shown ≡ Some (progress_at number p))
 
+-- the value that a row shows is that of the task's progress
+abbrev pub ValueShows : {C : Type 0} → (C → ℕ → Type 0) → Option (Counted C) → Option Value → Type 0
+ValueShows shows progress value =
+    ProgressShows shows (option_map counted_of progress) (option_map progress_of value)
+
 -- a row shows a path and its entry
 pub record RowShows {C : Type 0} (shows : C → ℕ → Type 0) (e : Path × TaskEntry C) (row : PathRow)
     : Type 0 where
@@ -97,18 +116,19 @@ pub record RowShows {C : Type 0} (shows : C → ℕ → Type 0) (e : Path × Tas
   pub id : row.1.id ≡ e.1.id
   pub progress : ProgressShows shows e.1.progress row.1.progress
 
+-- the rows show these tasks, in their order
+abbrev pub RowsShowTasks : {C : Type 0} → (C → ℕ → Type 0) → List (Path × Task C) → List Row → Type 0
+RowsShowTasks shows tasks rows = AllZip (RowShows shows) (map pair_of tasks) (rows_of rows)
+
 -- the rows show the entries, in the order of their paths
 abbrev pub RowsShow : {C : Type 0} → (C → ℕ → Type 0) → Table C → List PathRow → Type 0
 RowsShow shows m rows = AllZip (RowShows shows) (finite.entries m) rows
 
-abbrev pub paths_of : List PathRow → List Path
-paths_of rows = map (λ row. row.0) rows
-
 -- the rows are strictly ascending by path, so that no path has two, and a path has a row if and
 -- only if it has an entry
 pub record ListsEachOnce {C : Type 0} (m : Table C) (rows : List PathRow) : Type 0 where
-  pub ascending : IsAscending (paths_of rows)
-  pub each : (path : Path) → IsSome (finite.get m path) ↔ Contains (paths_of rows) path
+  pub ascending : IsAscending (keys_of rows)
+  pub each : (path : Path) → IsSome (finite.get m path) ↔ Contains (keys_of rows) path
 
 -- a pair with each counter's number in its place
 abbrev pub frozen : {C : Type 0} → (C → ℕ) → Path × TaskEntry C → PathRow

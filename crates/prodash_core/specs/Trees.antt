@@ -1,7 +1,7 @@
 -- The tree of tasks, and what an event does to it.
 use Rattle.std.specs.Prelude.{◌≡◌, ℕ, ◌+◌, ◌%◌, ◌^◌, Bool, true, false, nat_eq, List, [], ◌∷◌, ◌++◌, length, Option, Some, None, slice_get, slice_set, if◌then◌else◌, Result, Ok, Err, IsTrue, IsOk}
 use Rattle.std.specs.FinMap as finite
-use Rattle.prodash_base.specs.Path.{Path, child, child_limit}
+use Rattle.prodash_base.specs.Path.{Path, child, next_id}
 use Rattle.prodash_base.specs.Rows.{Phase, PathRow}
 use Rattle.prodash_base.specs.declared.unit.units.Unit.{Unit}
 use Rattle.prodash_base.specs.Rows as phases
@@ -14,7 +14,7 @@ use Rattle.prodash_base.specs.declared.refusal.Refusal.TheVariants as refusals
 use Rattle.prodash_line.specs.Renderer.{Seen}
 use Rattle.prodash_line.specs.declared.render.line.draw.input.Input.{Input}
 use Rattle.prodash_line.specs.declared.render.line.draw.input.Input.TheVariants as inputs
-use Rattle.prodash_core.specs.Tables.{Table, TaskEntry, TaskProgress, change_at, with_name, with_bound, with_phase, name_at, id_of, bound_of, unit_of, rows_at}
+use Rattle.prodash_core.specs.Tables.{Table, TaskEntry, new_entry, new_progress, change_at, with_name, with_bound, with_phase, name_at, id_of, bound_of, unit_of, rows_at}
 use Rattle.prodash_core.specs.declared.tree.slot.Slot.{Slot}
 use Rattle.prodash_core.specs.declared.tree.event.Event.{Event}
 use Rattle.prodash_core.specs.declared.tree.event.Event.TheVariants as events
@@ -63,13 +63,9 @@ counter_at slots n = counter_of (slice_get slots n)
 abbrev pub tree_rows : Tree → List PathRow
 tree_rows t = rows_at (counter_at t.slots) t.table
 
--- an entry without progress
-abbrev pub new_entry : List ℕ → List ℕ → TaskEntry ℕ
-new_entry name id = record { name = name; id = id; progress = None }
-
--- the slot after it got a child: the next child's number is one more, and 0 after the greatest
+-- the slot after it got a child
 abbrev pub with_child : Slot → Slot
-with_child slot = record slot { next_child = (slot.next_child + 1) % child_limit }
+with_child slot = record slot { next_child = next_id slot.next_child }
 
 -- a child of the handle n, which has this slot
 abbrev pub add_child : Tree → ℕ → Slot → List ℕ → List ℕ → Tree
@@ -98,12 +94,6 @@ abbrev pub set_counter : Tree → ℕ → Slot → ℕ → Tree
 set_counter t n slot step =
     record t { slots = slice_set t.slots n (record slot { counter = step }) }
 
--- the progress with which a handle begins: none without a bound and a unit
-abbrev pub new_progress : ℕ → Option ℕ → Option Unit → Option (TaskProgress ℕ)
-new_progress n None None = None
-new_progress n max unit =
-    Some (record { counter = n; bound = max; unit = unit; phase = phases.Running })
-
 abbrev pub init_at : Tree → ℕ → Slot → Option ℕ → Option Unit → Option (TaskEntry ℕ) → Tree
 init_at t n slot max unit None = t
 init_at t n slot max unit (Some e) = record (set_counter t n slot 0) {
@@ -127,8 +117,12 @@ message_by t slot at level text = message_of at level (name_of (entry_at t slot)
 abbrev pub inc_counter : Tree → ℕ → Slot → ℕ → Tree
 inc_counter t n slot step = set_counter t n slot ((slot.counter + step) % 2 ^ 64)
 
+-- the tree after an event and the reply to it, or the refusal
+abbrev pub Played : Type 0
+Played = Result (Tree × Reply) Refusal
+
 -- the message is pushed, unless no more can be counted
-abbrev pub push_message : Tree → Said → Result (Tree × Reply) Refusal
+abbrev pub push_message : Tree → Said → Played
 push_message t m =
     if is_push_limit_reached t.ring then Err refusals.TooManyMessages
     else Ok (record t { ring = push t.ring m }, replies.Done)
@@ -147,104 +141,106 @@ snapshot_by (Some root) t previous =
 abbrev pub snapshot_of : Tree → Option ℕ → Seen
 snapshot_of t previous = snapshot_by (slot_at t 0) t previous
 
--- a change of the tree with its reply, or a refusal
-abbrev pub Change : Type 0
-Change = Tree → Result (Tree × Reply) Refusal
-
 -- the slot, or the refusal if there is none
 abbrev pub or_gone : Option Slot → Result Slot Refusal
 or_gone None = Err refusals.Gone
 or_gone (Some slot) = Ok slot
 
-abbrev pub for_slot : Option Slot → (Slot → Result (Tree × Reply) Refusal)
-    → Result (Tree × Reply) Refusal
+abbrev pub for_slot : Option Slot → (Slot → Played) → Played
 for_slot None f = Err refusals.Gone
 for_slot (Some slot) f = f slot
 
--- a change that needs a valid handle, and one that needs a valid item; refused without it
-abbrev pub with_handle : ℕ → (Tree → Slot → Result (Tree × Reply) Refusal) → Change
-with_handle n f = λ t. for_slot (slot_at t n) (f t)
+-- an event on a handle, and one on an item: refused if the handle isn't valid
+abbrev pub with_handle : Tree → ℕ → (Slot → Played) → Played
+with_handle t n f = for_slot (slot_at t n) f
 
-abbrev pub with_item : ℕ → (Tree → Slot → Result (Tree × Reply) Refusal) → Change
-with_item n f = λ t. for_slot (item_at t n) (f t)
+abbrev pub with_item : Tree → ℕ → (Slot → Played) → Played
+with_item t n f = for_slot (item_at t n) f
 
 -- the progress of the item's entry, if it has one, has this phase
-abbrev pub set_phase : ℕ → Phase → Change
-set_phase n phase =
-    with_item n (λ t slot. Ok (change_entry t slot (with_phase phase), replies.Done))
+abbrev pub set_phase : Tree → ℕ → Phase → Played
+set_phase t n phase =
+    with_item t n (λ slot. Ok (change_entry t slot (with_phase phase), replies.Done))
 
--- a reply that is read from the tree and an item's slot
-abbrev pub read_item : ℕ → (Tree → Slot → Reply) → Change
-read_item n f = with_item n (λ t slot. Ok (t, f t slot))
+-- a reply that is read from an item's slot
+abbrev pub read_item : Tree → ℕ → (Slot → Reply) → Played
+read_item t n f = with_item t n (λ slot. Ok (t, f slot))
 
 -- a reply that is read from the tree; it needs the root
-abbrev pub read_tree : (Tree → Reply) → Change
-read_tree f = with_handle 0 (λ t root. Ok (t, f t))
+abbrev pub read_tree : Tree → Reply → Played
+read_tree t reply = with_handle t 0 (λ root. Ok (t, reply))
 
--- What an event does: it changes the tree, with a mark whether it may run out of memory; or it is a
--- frame, which gives the renderer an input that is made of the tree and of how many messages the
--- renderer has seen.
+-- What an event does: it is played on the tree, with a mark whether it may run out of memory; or it
+-- is a frame, which gives the renderer an input that is made of the tree and of how many messages
+-- the renderer has seen.
 pub data Effect : Type 0 where
-  OnTree : Bool → Change → Effect
-  OnRenderer : (Tree → Option ℕ → Input) → Effect
+  OnTree : Bool → Played → Effect
+  OnRenderer : (Option ℕ → Input) → Effect
 
--- the effect of each event
-abbrev pub effect : Event → Effect
-effect (AddChild parent name id) =
-    OnTree true (with_handle parent (λ t slot.
+-- an event that never runs out of memory, and one that may
+abbrev pub plays : Played → Effect
+plays played = OnTree false played
+
+abbrev pub plays_with_memory : Played → Effect
+plays_with_memory played = OnTree true played
+
+-- what each event does to a tree
+abbrev pub play : Tree → Event → Effect
+play t (AddChild parent name id) =
+    plays_with_memory (with_handle t parent (λ slot.
     Ok (add_child t parent slot name id, replies.Made (length t.slots))))
-effect (Drop n) = OnTree false (with_item n (λ t slot. Ok (drop_item t n slot, replies.Done)))
-effect (Init n max unit) =
-    OnTree false (with_item n (λ t slot. Ok (init t n slot max unit, replies.Done)))
-effect (SetName n name) =
-    OnTree true (with_item n (λ t slot. Ok (change_entry t slot (with_name name), replies.Done)))
-effect (SetMax n max) =
-    OnTree false (with_item n (λ t slot.
+play t (Drop n) = plays (with_item t n (λ slot. Ok (drop_item t n slot, replies.Done)))
+play t (Init n max unit) =
+    plays (with_item t n (λ slot. Ok (init t n slot max unit, replies.Done)))
+play t (SetName n name) =
+    plays_with_memory (with_item t n (λ slot.
+    Ok (change_entry t slot (with_name name), replies.Done)))
+play t (SetMax n max) =
+    plays (with_item t n (λ slot.
     Ok (change_entry t slot (with_bound max), replies.Bound (bound_of (entry_at t slot)))))
-effect (Set n step) =
-    OnTree false (with_item n (λ t slot. Ok (set_counter t n slot step, replies.Done)))
-effect (IncBy n step) =
-    OnTree false (with_item n (λ t slot. Ok (inc_counter t n slot step, replies.Done)))
-effect (Blocked n reason eta) = OnTree false (set_phase n (phases.Blocked reason.now eta))
-effect (Halted n reason eta) = OnTree false (set_phase n (phases.Halted reason.now eta))
-effect (Running n) = OnTree false (set_phase n phases.Running)
-effect (Message n at level text) =
-    OnTree true (with_item n (λ t slot. push_message t (message_by t slot at level text)))
-effect (Name n) = OnTree true (read_item n (λ t slot. replies.Name (name_at (entry_at t slot))))
-effect (Id n) = OnTree false (read_item n (λ t slot. replies.Id (id_of (entry_at t slot))))
-effect (Step n) = OnTree false (read_item n (λ t slot. replies.Step slot.counter))
-effect (Max n) = OnTree false (read_item n (λ t slot. replies.Bound (bound_of (entry_at t slot))))
-effect (events.Unit n) =
-    OnTree false (read_item n (λ t slot. replies.Unit (unit_of (entry_at t slot))))
-effect NumTasks = OnTree false (read_tree (λ t. replies.Count (finite.len t.table)))
-effect Snapshot = OnTree true (read_tree (λ t. replies.Rows (tree_rows t)))
-effect CopyMessages = OnTree true (read_tree (λ t. replies.Messages t.ring.messages))
-effect (CopyNew previous) =
-    OnTree true (read_tree (λ t. replies.New (messages_since t.ring previous) t.ring.pushed))
-effect DropRoot = OnTree false (with_handle 0 (λ t root. Ok (drop_root t root, replies.Done)))
-effect (Tick at show) = OnRenderer (λ t seen. inputs.Tick at show (snapshot_of t seen))
-effect (Resize at show columns rows) = OnRenderer (λ t seen. inputs.Resize at show columns rows)
-effect (Quit at) = OnRenderer (λ t seen. inputs.Quit at)
-
-abbrev pub draws : Effect → Bool
-draws (OnTree memory change) = false
-draws (OnRenderer input) = true
+play t (Set n step) = plays (with_item t n (λ slot. Ok (set_counter t n slot step, replies.Done)))
+play t (IncBy n step) =
+    plays (with_item t n (λ slot. Ok (inc_counter t n slot step, replies.Done)))
+play t (Blocked n reason eta) = plays (set_phase t n (phases.Blocked reason.now eta))
+play t (Halted n reason eta) = plays (set_phase t n (phases.Halted reason.now eta))
+play t (Running n) = plays (set_phase t n phases.Running)
+play t (Message n at level text) =
+    plays_with_memory (with_item t n (λ slot. push_message t (message_by t slot at level text)))
+play t (Name n) =
+    plays_with_memory (read_item t n (λ slot. replies.Name (name_at (entry_at t slot))))
+play t (Id n) = plays (read_item t n (λ slot. replies.Id (id_of (entry_at t slot))))
+play t (Step n) = plays (read_item t n (λ slot. replies.Step slot.counter))
+play t (Max n) = plays (read_item t n (λ slot. replies.Bound (bound_of (entry_at t slot))))
+play t (events.Unit n) = plays (read_item t n (λ slot. replies.Unit (unit_of (entry_at t slot))))
+play t NumTasks = plays (read_tree t (replies.Count (finite.len t.table)))
+play t Snapshot = plays_with_memory (read_tree t (replies.Rows (tree_rows t)))
+play t CopyMessages = plays_with_memory (read_tree t (replies.Messages t.ring.messages))
+play t (CopyNew previous) =
+    plays_with_memory (read_tree t (replies.New (messages_since t.ring previous) t.ring.pushed))
+play t DropRoot = plays (with_handle t 0 (λ root. Ok (drop_root t root, replies.Done)))
+play t (Tick at show) = OnRenderer (λ seen. inputs.Tick at show (snapshot_of t seen))
+play t (Resize at show columns rows) = OnRenderer (λ seen. inputs.Resize at show columns rows)
+play t (Quit at) = OnRenderer (λ seen. inputs.Quit at)
 
 -- is it a frame?
 abbrev pub is_frame : Event → Bool
-is_frame e = draws (effect e)
+is_frame (Tick at show) = true
+is_frame (Resize at show columns rows) = true
+is_frame (Quit at) = true
+is_frame _ = false
 
--- What a change returns, and the tree that it leaves. A refusal leaves the tree as it was. It runs
--- out of memory only if it may, and if the tree doesn't refuse it.
-abbrev pub Changes : Tree → Bool → Change → Result Reply Refusal → Tree → Type 0
-Changes t memory change (Ok reply) t' = change t ≡ Ok (t', reply)
-Changes t memory change (Err refusals.Memory) t' = IsTrue memory × IsOk (change t) × (t' ≡ t)
-Changes t memory change (Err refusal) t' = (change t ≡ Err refusal) × (t' ≡ t)
+-- What is returned of what was played, and the tree that is left: that result, whose refusal leaves
+-- the tree as it was; or `Memory`, if the event may run out of it and the tree accepts the event,
+-- and the tree is left as it was.
+abbrev pub Returns : Tree → Bool → Played → Result Reply Refusal → Tree → Type 0
+Returns t memory played (Ok reply) t' = played ≡ Ok (t', reply)
+Returns t memory played (Err refusals.Memory) t' = IsTrue memory × IsOk played × (t' ≡ t)
+Returns t memory played (Err refusal) t' = (played ≡ Err refusal) × (t' ≡ t)
 
 abbrev pub PlaysBy : Effect → Tree → Result Reply Refusal → Tree → Type 0
-PlaysBy (OnTree memory change) t result t' = Changes t memory change result t'
+PlaysBy (OnTree memory played) t result t' = Returns t memory played result t'
 PlaysBy (OnRenderer input) t result t' = ⊥
 
 -- what an event that is no frame returns, and the tree that it leaves
 abbrev pub Plays : Tree → Event → Result Reply Refusal → Tree → Type 0
-Plays t e result t' = PlaysBy (effect e) t result t'
+Plays t e result t' = PlaysBy (play t e) t result t'

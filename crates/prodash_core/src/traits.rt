@@ -1,5 +1,4 @@
-//! What can be done with the progress of a task, with the root of a tree of tasks, and with a
-//! handle that finds the root again.
+//! The traits of the progress of a task, of the root of a tree of tasks, and of its weak handle.
 mod boxed;
 mod count;
 mod progress;

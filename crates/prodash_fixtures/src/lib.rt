@@ -32,13 +32,13 @@ pub const TERMINAL: Options = Options {
 pub type Progress = Option<(u64, Option<u64>)>;
 
 /// The numbers of a key, a name, and a progress.
-pub type ShortRow = (&'static [u16], &'static str, Progress);
+pub type ShortRow = (&'static [u32], &'static str, Progress);
 
 /// The origin of a message, and its text.
 pub type ShortMessage = (&'static str, &'static str);
 
 /// The key with these numbers.
-pub fn key_at(numbers: &[u16]) -> Key {
+pub fn key_at(numbers: &[u32]) -> Key {
     let mut key = Key::default();
     for n in numbers {
         key = key.add_child(*n);

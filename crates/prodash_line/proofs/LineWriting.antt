@@ -4,10 +4,10 @@ use Rattle.std.specs.Str.{IsUtf8}
 use Rattle.std.proofs.lemmas.List.{length-replicate}
 use Rattle.std.proofs.lemmas.List.Sums.{sum_by-cons}
 use Rattle.unicode_width.specs.Width.{str_width}
-use Rattle.prodash_line.specs.declared.render.line.draw.line.LineWriter.{LineWriter}
+use Rattle.prodash_line.specs.declared.render.line.draw.line_writer.LineWriter.{LineWriter}
 use Rattle.prodash_line.specs.declared.render.line.page.style.Style.{Style}
 use Rattle.prodash_line.specs.Lines.{Piece, Line, piece, styled, capped, width_of, columns_of}
-use Rattle.prodash_line.specs.plumbing.Writing.{is_printable, line_bytes, style_of_length, open_bytes, reset_bytes, Appends, Begun}
+use Rattle.prodash_line.specs.Writing.{is_printable, line_bytes, style_of_length, open_bytes, reset_bytes, Appends, Begun}
 use Rattle.prodash_line.proofs.Written.{line_bytes-nil, line_bytes-append, line_bytes-text, line_bytes-printable, line_bytes-joined, styled_bytes}
 use Rattle.prodash_line.proofs.Columns.{columns_of-append, printable-append, printable-repeated, printable-spaces, width-printable, width-repeated, width-indented}
 

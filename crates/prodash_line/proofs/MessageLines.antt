@@ -7,6 +7,7 @@ use Rattle.prodash_base.specs.declared.messages.MessageLevel.TheVariants.{Info}
 use Rattle.prodash_base.specs.Messages.{message_of}
 use Rattle.prodash_line.specs.declared.render.line.draw.input.Options.{Options}
 use Rattle.prodash_line.specs.Lines.{line_text}
+use Rattle.prodash_line.specs.Renderer.{default_options}
 use Rattle.prodash_line.specs.MessageLines.{greatest_width, message_lines, latest_origin_widths}
 
 pub greatest_width-append : (widths : List ℕ) (width : ℕ) → greatest_width (widths ++ width ∷ []) ≡ max (greatest_width widths) width
@@ -15,15 +16,7 @@ greatest_width-append (w ∷ widths) width = ap (max w) (greatest_width-append w
 
 -- neither colours nor times
 abbrev plain : Options
-plain = record {
-  level_filter = None;
-  terminal_dimensions = (40, 4);
-  keep_running_if_progress_is_empty = true;
-  output_is_terminal = true;
-  colored = false;
-  timestamp = false;
-  hide_cursor = false;
-}
+plain = record default_options { colored = false }
 
 -- three messages: of `ab`, of `task`, of `c`
 abbrev three : List Message

@@ -4,10 +4,10 @@ use Rattle.std.specs.Prelude.{zero, nat_lt, reverse}
 use Rattle.std.specs.List.{range_with_len}
 use Rattle.std.proofs.lemmas.List.{map-append}
 use Rattle.std.proofs.lemmas.Grind.{reverse_onto}
-use Rattle.prodash_line.specs.declared.render.line.draw.line.LineWriter.{LineWriter}
+use Rattle.prodash_line.specs.declared.render.line.draw.line_writer.LineWriter.{LineWriter}
 use Rattle.prodash_line.specs.Lines.{piece}
 use Rattle.prodash_line.specs.ProgressRows.{numbered_cell, numbered_cells}
-use Rattle.prodash_line.specs.plumbing.Writing.{is_printable, Appends}
+use Rattle.prodash_line.specs.Writing.{is_printable, Appends}
 use Rattle.prodash_line.proofs.Columns.{printable-append}
 use Rattle.prodash_line.proofs.LineWriting.{appends_as, appends_joined, appends_nothing}
 

@@ -12,7 +12,9 @@ use Rattle.prodash_line.specs.declared.render.line.page.sign.Sign.{Sign}
 use Rattle.prodash_line.specs.declared.render.line.page.sign.Sign.TheVariants.{CarriageReturn, EraseLine, HideCursor, ShowCursor}
 use Rattle.prodash_line.specs.Lines.{Line}
 use Rattle.prodash_line.specs.Frames.{Body, Unchanged, Draws, Closes, Frame}
-use Rattle.prodash_line.specs.Renderer.{Renderer, hides_cursor, is_cursor_hidden, ending_of, is_drawn, closes_at, drawn_rows, drawn_lines, latest_rows, resized, closing_frame, frame_at}
+use Rattle.prodash_line.specs.declared.render.line.draw.action.Action.{Action}
+use Rattle.prodash_line.specs.declared.render.line.draw.action.Action.TheVariants.{Leave, Redraw, Close}
+use Rattle.prodash_line.specs.Renderer.{Renderer, Drawing, hides_cursor, is_cursor_hidden, ending_of, drawn_rows, drawn_lines, latest_rows, remember, moment_of, drawing_at, action_at, printed_at, body_of, frame_at}
 use Rattle.prodash_line.specs.Renderings.{Rendering, renderer_after, Attempt, attempt_of, attempts_of, frames_of, drawn_frames}
 use Rattle.prodash_line.proofs.StyledLines.{HaveCodes, rows_have, messages_have}
 use Rattle.prodash_line.proofs.UnseenSigns.{IsUnseen}
@@ -49,36 +51,30 @@ ends false false = tt
 closes : (r : Renderer) → AllByRecursion IsEnding (ending_of r)
 closes r = ends (is_cursor_hidden r) r.options.output_is_terminal
 
--- lines that are drawn or not
-drawn_or_not : (drawn : Bool) (lines : List Line) → HaveCodes lines → EndsOrderly (cond drawn (Draws lines) Unchanged)
-drawn_or_not true lines h = h
-drawn_or_not false lines h = tt
-
-closed_or_not : (r : Renderer) (closed drawn : Bool) (lines : List Line) → HaveCodes lines → EndsOrderly (cond closed (Closes (ending_of r)) (cond drawn (Draws lines) Unchanged))
-closed_or_not r true drawn lines h = closes r
-closed_or_not r false drawn lines h = drawn_or_not drawn lines h
-
 lines_have : (r : Renderer) (at : ℕ) (rows : List PathRow) → HaveCodes (drawn_lines r at rows)
 lines_have r at rows = rows_have r.options r.midpoint (drawn_rows r at rows)
 
-closes_orderly : (r : Renderer) → IsOrderly (closing_frame r)
-closes_orderly r = record { opening = opens (hides_cursor r); messages = tt; body = closes r }
+-- whatever a frame does after its messages
+body_ends : (action : Action) (drawing : Drawing) (r : Renderer) → HaveCodes drawing.lines → EndsOrderly (body_of action drawing (ending_of r))
+body_ends Leave drawing r h = tt
+body_ends Redraw drawing r h = h
+body_ends Close drawing r h = closes r
+
+printed_have : (r : Renderer) (input : Input) → HaveCodes (printed_at r input)
+printed_have r (Tick at show (Some seen)) = messages_have r.options r.origin_widths seen.1
+printed_have r (Tick at show None) = tt
+printed_have r (Resize at show columns height) = tt
+printed_have r (Quit at) = tt
 
 -- each frame of a renderer
 pub orderly_at : (r : Renderer) (input : Input) → IsOrderly (frame_at r input)
-orderly_at r (Tick at show (Some seen)) =
+orderly_at r input =
+    let r' = remember r input in
     record {
       opening = opens (hides_cursor r);
-      messages = messages_have r.options r.origin_widths seen.1;
-      body = closed_or_not r (closes_at r seen.0) (is_drawn r show seen.0) (drawn_lines r at seen.0) (lines_have r at seen.0);
+      messages = printed_have r input;
+      body = body_ends (action_at r input) (drawing_at r input) r (lines_have r' (moment_of input) (latest_rows r'.last_rows));
     }
-orderly_at r (Tick at show None) = closes_orderly r
-orderly_at r (Resize at show columns height) = record {
-  opening = opens (hides_cursor r);
-  messages = tt;
-  body = drawn_or_not (show && r.options.output_is_terminal) (drawn_lines (resized r columns height) at (latest_rows r.last_rows)) (lines_have (resized r columns height) at (latest_rows r.last_rows));
-}
-orderly_at r (Quit at) = closes_orderly r
 
 -- with the frames after it
 then_orderly : (frame : Frame) (result : Result Answer Refusal) (attempts : List Attempt) → IsOrderly frame

@@ -10,8 +10,8 @@ use Rattle.prodash_line.specs.Lines.{Line, spaces, columns_of}
 use Rattle.prodash_line.specs.Frames.{Frame, line_signs, piece_signs, overwrite_line, first_width, overwrite, cursor_up, redraw, body_signs, frame_signs}
 use Rattle.prodash_line.specs.declared.render.line.draw.input.Options.{Options}
 use Rattle.prodash_line.specs.MessageLines.{drawn_message_line, message_lines, origin_width, widths_of_origins, greatest_width}
-use Rattle.prodash_line.specs.plumbing.Writing.{line_bytes}
-use Rattle.prodash_line.specs.plumbing.OverwriteBytes.{row_end, overwrite_line_bytes, overwrite_bytes, blank_bytes}
+use Rattle.prodash_line.specs.Writing.{line_bytes}
+use Rattle.prodash_line.specs.OverwriteBytes.{row_end, overwrite_line_bytes, overwrite_bytes, blank_bytes}
 use Rattle.prodash_line.proofs.Columns.{printable-spaces}
 use Rattle.prodash_line.proofs.MessageLines.{greatest_width-append}
 use Rattle.prodash_line.proofs.Written.{spelling-append, line_bytes-printable}

@@ -11,7 +11,9 @@ use Rattle.prodash_line.specs.Signs.{spelling_of, spelling}
 use Rattle.prodash_line.specs.Lines.{Line}
 use Rattle.prodash_line.specs.Frames.{Body, Unchanged, Draws, Closes, Frame, frame_signs, lines_after, widths_of, signs_of, all_lines_after}
 use Rattle.prodash_line.specs.Page.{Canvas}
-use Rattle.prodash_line.specs.Renderer.{Renderer, Renders, frame_at, ended_after}
+use Rattle.prodash_line.specs.declared.render.line.draw.action.Action.{Action}
+use Rattle.prodash_line.specs.declared.render.line.draw.action.Action.TheVariants.{Leave, Redraw, Close}
+use Rattle.prodash_line.specs.Renderer.{Renderer, Renders, frame_at, action_at, ended_after}
 use Rattle.prodash_line.specs.Screens.{ScreenState}
 use Rattle.prodash_line.specs.Renderings.{Rendering, after_result, renderer_after, RendersAll, Attempt, attempt_of, attempts_of, frames_of, drawn_frames, bytes_over, WritesAttempts, FitsPage, ShowsFrames}
 use Rattle.prodash_line.proofs.OrderlyFrames.{orderly_frames}
@@ -30,15 +32,15 @@ running_not_broken : (ended : Option Refusal) → ended ≡ None → NotBroken e
 running_not_broken ended running broken = let clash : None ≡ Some refusals.Broken = sym running ∙ broken in cc
 
 -- neither a frame nor a closing one ends a renderer as broken
-not_broken_after : (body : Body) (ended : Option Refusal) → NotBroken ended → NotBroken (ended_after body ended)
-not_broken_after Unchanged ended n = n
-not_broken_after (Draws lines) ended n = n
-not_broken_after (Closes ending) ended n = λ broken. subst IsBroken (sym broken) tt
+not_broken_after : (action : Action) (ended : Option Refusal) → NotBroken ended → NotBroken (ended_after action ended)
+not_broken_after Leave ended n = n
+not_broken_after Redraw ended n = n
+not_broken_after Close ended n = λ broken. subst IsBroken (sym broken) tt
 
 all_written_step : (r : Renderer) (s : ScreenState) (input : Input) (result : Result Answer Refusal) (s₁ : ScreenState) (attempts : List Attempt) → NotBroken r.ended
     → Renders r input s result (after_result r input result) s₁ → s₁.broken ≡ false → (NotBroken (after_result r input result).ended → AllWritten attempts)
     → AllWritten (attempt_of (frame_at r input) result ++ attempts)
-all_written_step r s input (Ok answer) s₁ attempts n h whole more = (refl, more (not_broken_after (frame_at r input).body r.ended n))
+all_written_step r s input (Ok answer) s₁ attempts n h whole more = (refl, more (not_broken_after (action_at r input) r.ended n))
 all_written_step r s input (Err refusals.Memory) s₁ attempts n h whole more = more n
 all_written_step r s input (Err refusals.Closed) s₁ attempts n h whole more = more n
 all_written_step r s input (Err refusals.Broken) s₁ attempts n h whole more = absurd (⊎_elim (λ refuses. n refuses.ended) (λ breaks. true_is_not_false s₁.broken breaks.screen.broken whole) h)

@@ -10,8 +10,11 @@ use Rattle.prodash_line.specs.declared.render.line.draw.input.Input.{Input}
 use Rattle.prodash_line.specs.declared.render.line.draw.input.Answer.{Answer}
 use Rattle.prodash_line.specs.Signs.{spelling}
 use Rattle.prodash_line.specs.Lines.{Line, columns_of}
-use Rattle.prodash_line.specs.Frames.{Body, Unchanged, Draws, Closes, Frame, frame_signs, lines_after, body_lines, widths_after, body_widths, widths_of}
-use Rattle.prodash_line.specs.Renderer.{Renderer, Renders, frame_at, frame_bytes}
+use Rattle.prodash_line.specs.Frames.{Body, Unchanged, Draws, Closes, Frame, frame_signs, lines_after, body_lines, widths_of}
+use Rattle.prodash_line.specs.declared.render.line.page.sign.Sign.{Sign}
+use Rattle.prodash_line.specs.declared.render.line.draw.action.Action.{Action}
+use Rattle.prodash_line.specs.declared.render.line.draw.action.Action.TheVariants.{Leave, Redraw, Close}
+use Rattle.prodash_line.specs.Renderer.{Renderer, Renders, Drawing, frame_at, frame_bytes, next, action_at, drawing_at, printed_at, ending_of, body_of, state_after}
 use Rattle.prodash_line.specs.Screens.{ScreenState, WritesFrame, has_bytes}
 use Rattle.prodash_line.specs.Renderings.{Rendering, after_result, renderer_after, RendersEach, RendersAll, BreaksExactly, FlushesFrame, attempt_of, attempts_of, bytes_over, AllBroken, WritesAttempts}
 
@@ -51,26 +54,24 @@ IsOkResult (Err refusal) = ⊥
 
 breaks_exactly_once : (r : Renderer) (s : ScreenState) (input : Input) (result : Result Answer Refusal) (s' : ScreenState)
     → Renders r input s result (after_result r input result) s' → BreaksExactly r s (record { input = input; result = result }) s'
-breaks_exactly_once r s input (Ok answer) s' h = record {
-  only = λ e. absurd (subst IsBrokenResult (sym e) tt);
-  still = λ ended. absurd (ended_not_running r.ended refusals.Broken h.running ended);
-  every = λ running memory some broken. absurd (true_is_not_false s'.broken broken (h.screen.broken ∙ h.screen.healthy some));
-}
-breaks_exactly_once r s input (Err refusals.Memory) s' h = record {
-  only = λ e. absurd (subst IsBrokenResult (sym e) tt);
-  still = λ ended. absurd (ended_not_running r.ended refusals.Broken h.running ended);
-  every = λ running memory some broken. absurd (memory refl);
-}
-breaks_exactly_once r s input (Err refusals.Closed) s' h = record {
-  only = λ e. absurd (subst IsBrokenResult (sym e) tt);
-  still = λ ended. absurd (closed_not_broken r.ended h.ended ended);
-  every = λ running memory some broken. absurd (ended_not_running r.ended refusals.Closed running h.ended);
-}
-breaks_exactly_once r s input (Err refusals.Broken) s' h = record {
-  only = λ e. ⊎_elim (λ refuses. inl refuses.ended) (λ breaks. inr (breaks.screen.some, breaks.screen.broken)) h;
-  still = λ ended. refl;
-  every = λ running memory some broken. refl;
-}
+breaks_exactly_once r s input (Ok answer) s' h = (
+  λ e. absurd (subst IsBrokenResult (sym e) tt),
+  ⊎_elim (λ ended. absurd (ended_not_running r.ended refusals.Broken h.running ended))
+      (λ now. absurd (true_is_not_false s'.broken now.broken (h.screen.broken ∙ h.screen.healthy now.some))),
+)
+breaks_exactly_once r s input (Err refusals.Memory) s' h = (
+  λ e. absurd (subst IsBrokenResult (sym e) tt),
+  ⊎_elim (λ ended. absurd (ended_not_running r.ended refusals.Broken h.running ended)) (λ now. absurd (now.memory refl)),
+)
+breaks_exactly_once r s input (Err refusals.Closed) s' h = (
+  λ e. absurd (subst IsBrokenResult (sym e) tt),
+  ⊎_elim (λ ended. absurd (closed_not_broken r.ended h.ended ended)) (λ now. absurd (ended_not_running r.ended refusals.Closed now.running h.ended)),
+)
+breaks_exactly_once r s input (Err refusals.Broken) s' h = (
+  λ e. ⊎_elim (λ refuses. inl refuses.ended)
+      (λ breaks. inr (record { running = breaks.running; memory = λ e. subst IsBrokenResult e tt; some = breaks.screen.some; broken = breaks.screen.broken })) h,
+  λ before. refl,
+)
 breaks_exactly_once r s input (Err refusals.Gone) s' h = absurd h
 breaks_exactly_once r s input (Err refusals.TooManyMessages) s' h = absurd h
 breaks_exactly_once r s input (Err refusals.TooManyHandles) s' h = absurd h
@@ -164,15 +165,19 @@ refuses_all r s (x ∷ xs) s' b h =
       others.1 ∙ one.1,
     )
 
--- the widths after a frame are those of the lines after it
-body_widths-widths_of : (lines : List Line) (b : Body) → body_widths (widths_of lines) b ≡ widths_of (body_lines lines b)
-body_widths-widths_of lines Unchanged = refl
-body_widths-widths_of lines (Draws drawn) = refl
-body_widths-widths_of lines (Closes ending) = refl
+-- the widths that a frame leaves are those of the lines after it
+state_widths : (action : Action) (r : Renderer) (drawing : Drawing) (ending : List Sign) (lines : List Line)
+    → (state_after action r drawing (widths_of lines)).widths ≡ widths_of (body_lines lines (body_of action drawing ending))
+state_widths Leave r drawing ending lines = refl
+state_widths Redraw r drawing ending lines = refl
+state_widths Close r drawing ending lines = refl
 
-widths_after-widths_of : (lines : List Line) (f : Frame) → widths_after (widths_of lines) f ≡ widths_of (lines_after lines f)
-widths_after-widths_of lines f =
-    ap (λ widths. body_widths widths f.body) (drop-map columns_of (length f.messages) lines) ∙ body_widths-widths_of (drop (length f.messages) lines) f.body
+-- so the lines after it are those on screen
+pub next_widths : (r : Renderer) (input : Input) (lines : List Line) → r.widths ≡ widths_of lines → (next r input).widths ≡ widths_of (lines_after lines (frame_at r input))
+next_widths r input lines same =
+    let count = length (printed_at r input) in
+    ap (λ widths. (state_after (action_at r input) r (drawing_at r input) widths).widths) (ap (λ widths. drop count widths) same ∙ drop-map columns_of count lines)
+    ∙ state_widths (action_at r input) r (drawing_at r input) (ending_of r) (drop count lines)
 
 -- what is written over these lines
 abbrev Writes : Renderer → ScreenState → List Line → List Rendering → ScreenState → Type 0
@@ -193,7 +198,7 @@ writes_step : (r : Renderer) (s : ScreenState) (input : Input) (result : Result 
     → Writes r s lines (record { input = input; result = result } ∷ xs) s'
 writes_step r s input (Ok answer) s₁ xs s' lines same h hs more =
     let frame = frame_at r input in
-    let others = more (lines_after lines frame) (ap (λ widths. widths_after widths frame) same ∙ widths_after-widths_of lines frame) in
+    let others = more (lines_after lines frame) (next_widths r input lines same) in
     let whole : frame_bytes r input ≡ bytes_over lines frame = ap (λ widths. spelling (frame_signs widths frame)) same in (
       frame_bytes r input ++ others.0,
       others.1 ∙ ap (λ bytes. bytes ++ others.0) h.screen.bytes ∙ append_assoc s.bytes (frame_bytes r input) others.0,

@@ -4,7 +4,7 @@ use Rattle.std.specs.Prelude.{codes}
 use Rattle.std.specs.Str.{chars}
 use Rattle.std.specs.Fmt.{digits}
 use Rattle.unicode_width.specs.Width.{str_width, char_width, step, past_emoji}
-use Rattle.prodash_base.specs.Rows.{PathRow, Phase, Running, Halted, Blocked}
+use Rattle.prodash_base.specs.Rows.{PathRow, Phase, Running, Halted, Blocked, unknown_id}
 use Rattle.prodash_base.specs.Numerals.{last_digits}
 use Rattle.prodash_base.specs.Messages.{message_of}
 use Rattle.prodash_base.specs.declared.messages.Message.{Message}
@@ -16,7 +16,7 @@ use Rattle.prodash_line.specs.declared.render.line.draw.input.Input.{Input}
 use Rattle.prodash_line.specs.declared.render.line.draw.input.Input.TheVariants.{Tick, Resize, Quit}
 use Rattle.prodash_base.specs.declared.refusal.Refusal.TheVariants.{Closed}
 use Rattle.prodash_line.specs.Frames.{frame_signs}
-use Rattle.prodash_line.specs.Renderer.{Renderer, new_renderer, frame_at, next}
+use Rattle.prodash_line.specs.Renderer.{Renderer, default_options, new_renderer, frame_at, next}
 use Rattle.prodash_line.specs.Fits.{FrameFits}
 use Rattle.prodash_line.specs.Lines.{line_text}
 use Rattle.prodash_line.specs.TextStyles.{of_color, dimmed, row_style}
@@ -27,7 +27,7 @@ use Rattle.prodash_line.specs.ProgressRows.{bar}
 
 -- a task below the root, without progress
 abbrev row : List ℕ → PathRow
-row name = (0 ∷ [], record { name = name; id = 0 ∷ 0 ∷ 0 ∷ 0 ∷ []; progress = None })
+row name = (0 ∷ [], record { name = name; id = unknown_id; progress = None })
 
 -- a tick that sees these rows and messages
 abbrev tick : ℕ → Bool → List PathRow → List Message → Input
@@ -37,8 +37,7 @@ abbrev signs_at : Renderer → Input → List Sign
 signs_at r input = frame_signs r.widths (frame_at r input)
 
 abbrev options : Options
-options =
-    record { level_filter = None; terminal_dimensions = (40, 4); keep_running_if_progress_is_empty = true; output_is_terminal = true; colored = false; timestamp = false; hide_cursor = false }
+options = record default_options { terminal_dimensions = (40, 4); colored = false }
 
 abbrev terminal : Renderer
 terminal = new_renderer options false
@@ -113,7 +112,7 @@ hidden_and_shown = refl
 
 -- a row of the second level alone
 abbrev below : List ℕ → PathRow
-below name = (0 ∷ 0 ∷ [], record { name = name; id = 0 ∷ 0 ∷ 0 ∷ 0 ∷ []; progress = None })
+below name = (0 ∷ 0 ∷ [], record { name = name; id = unknown_id; progress = None })
 
 pub second_level : signs_at (new_renderer (record options { level_filter = Some (2, 2) }) false) (tick 0 true (row (codes "a") ∷ below (codes "b") ∷ []) [])
     ≡ map Char (codes "  b") ++ LineFeed ∷ Up 1 ∷ []
@@ -139,6 +138,10 @@ resized_plain = refl
 -- it keeps as many of the latest origin widths as the terminal has rows by then
 pub resized_origins : (next (record terminal { origin_widths = 4 ∷ 1 ∷ 2 ∷ [] }) (Resize 1 true 30 2)).origin_widths ≡ 1 ∷ 2 ∷ []
 resized_origins = refl
+
+-- a higher terminal brings no width back
+pub raised_origins : (next (next (record terminal { origin_widths = 4 ∷ 1 ∷ 2 ∷ [] }) (Resize 1 true 30 2)) (Resize 2 true 30 4)).origin_widths ≡ 1 ∷ 2 ∷ []
+raised_origins = refl
 
 -- what a page of that size takes
 pub fits : FrameFits 40 4 (frame_at terminal (tick 0 true (row (codes "a") ∷ []) []))
@@ -208,7 +211,7 @@ abbrev style : Bool → Bool → Option Color → Bool → Style
 style bold dim color on_yellow = record { bold = bold; dim = dim; color = color; on_yellow = on_yellow }
 
 abbrev task : Phase → Option ℕ → PathRow
-task phase bound = (0 ∷ [], record { name = codes "task"; id = 0 ∷ 0 ∷ 0 ∷ 0 ∷ []; progress = Some (record { counter = 3; bound = bound; unit = None; phase = phase }) })
+task phase bound = (0 ∷ [], record { name = codes "task"; id = unknown_id; progress = Some (record { counter = 3; bound = bound; unit = None; phase = phase }) })
 
 -- three tenths: the bar in yellow, what is left of it dimmed
 pub colored_row : signs_at colored (tick 0 true (task Running (Some 10) ∷ []) [])

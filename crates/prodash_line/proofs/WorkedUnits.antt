@@ -6,7 +6,7 @@ use Rattle.std.specs.Str.{chars}
 use Rattle.unicode_width.specs.Width.{str_width, step, past_emoji}
 use Rattle.prodash_base.specs.Kinds.{Label, Bytes}
 use Rattle.prodash_base.specs.Numerals.{last_digits}
-use Rattle.prodash_base.specs.Rows.{PathRow, Running}
+use Rattle.prodash_base.specs.Rows.{PathRow, Running, unknown_id}
 use Rattle.prodash_base.specs.Units.{Measure}
 use Rattle.prodash_base.specs.declared.unit.display.Mode.{Mode}
 use Rattle.prodash_base.specs.declared.unit.display.Throughput.{Throughput}
@@ -20,7 +20,7 @@ row counter bound unit = (
   0 ∷ [],
   record {
     name = codes "t";
-    id = 0 ∷ 0 ∷ 0 ∷ 0 ∷ [];
+    id = unknown_id;
     progress = Some (record { counter = counter; bound = bound; unit = Some unit; phase = Running });
   },
 )

@@ -78,15 +78,6 @@ lines_after lines f = body_lines (drop (length f.messages) lines) f.body
 abbrev pub widths_of : List Line → List ℕ
 widths_of lines = map columns_of lines
 
-abbrev pub body_widths : List ℕ → Body → List ℕ
-body_widths widths Unchanged = widths
-body_widths widths (Draws drawn) = widths_of drawn
-body_widths widths (Closes ending) = []
-
--- the widths of the lines on screen after a frame
-abbrev pub widths_after : List ℕ → Frame → List ℕ
-widths_after widths f = body_widths (drop (length f.messages) widths) f.body
-
 -- the signs of a list of frames
 abbrev pub signs_of : List Line → List Frame → List Sign
 signs_of lines [] = []

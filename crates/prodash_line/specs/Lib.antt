@@ -5,6 +5,11 @@ pub mod TextStyles
 pub mod Frames
 pub mod ProgressRows
 pub mod MessageLines
+pub mod Writing
+pub mod Padding
+pub mod OverwriteBytes
+pub mod Observing
+pub mod FrameWriting
 pub mod Screens
 pub mod Writers
 pub mod Renderer

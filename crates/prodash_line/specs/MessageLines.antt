@@ -1,6 +1,7 @@
 -- The line of a message: its time, its origin, aligned with those of other messages, and its text.
-use Rattle.std.specs.Prelude.{ℕ, ◌-◌, max, List, [], ◌∷◌, ◌++◌, length, drop, map, replicate, chars, Bool, Some, if◌then◌else◌}
+use Rattle.std.specs.Prelude.{ℕ, ◌-◌, max, List, [], ◌∷◌, ◌++◌, map, replicate, chars, Bool, Some, if◌then◌else◌}
 use Rattle.prodash_base.specs.Moments.{time_text}
+use Rattle.prodash_base.specs.Rings.{keep_last}
 use Rattle.prodash_base.specs.declared.messages.Message.{Message}
 use Rattle.prodash_line.specs.declared.render.line.draw.input.Options.{Options}
 use Rattle.prodash_line.specs.Lines.{Line, piece, styled, spaces, columns_of, in_color}
@@ -26,6 +27,10 @@ text_of width m = styled (Some origin_style) (aligned_origin width m.origin) ∷
 abbrev pub message_line : Bool → ℕ → Message → Line
 message_line timestamp width m = spaces 1 ∷ time_of timestamp m ++ text_of width m
 
+-- its time as it is drawn
+abbrev pub drawn_time : Options → Message → Line
+drawn_time options m = in_color options.colored (time_of options.timestamp m)
+
 -- the line of a message as it is drawn
 abbrev pub drawn_message_line : Options → ℕ → Message → Line
 drawn_message_line options width m = in_color options.colored (message_line options.timestamp width m)
@@ -45,10 +50,6 @@ message_lines options widths (m ∷ messages) =
 abbrev pub widths_of_origins : List Message → List ℕ
 widths_of_origins messages = map (λ m. origin_width m.origin) messages
 
--- the last n of a list
-abbrev pub last_of : ℕ → List ℕ → List ℕ
-last_of n xs = drop (length xs - n) xs
-
 -- the origin widths that are kept after a frame's messages: the latest, as many as the terminal has rows
 abbrev pub latest_origin_widths : ℕ → List ℕ → List Message → List ℕ
-latest_origin_widths height widths messages = last_of height (widths ++ widths_of_origins messages)
+latest_origin_widths height widths messages = keep_last height (widths ++ widths_of_origins messages)

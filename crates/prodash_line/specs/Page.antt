@@ -1,5 +1,5 @@
 -- A page: all rows ever, of which the last are the window, and a cursor.
-use Rattle.std.specs.Prelude.{Bool, false, ◌&&◌, nat_le, ℕ, ◌+◌, ◌-◌, max, List, [], ◌∷◌, ◌++◌, length, replicate, slice_index_or, slice_set, nat_lt, if◌then◌else◌}
+use Rattle.std.specs.Prelude.{◌≡◌, ◌<◌, Bool, false, ◌&&◌, nat_le, ℕ, ◌+◌, ◌-◌, max, List, [], ◌∷◌, ◌++◌, length, replicate, slice_index_or, slice_set, nat_lt, if◌then◌else◌}
 use Rattle.prodash_line.specs.declared.render.line.page.sign.Sign.{Sign}
 use Rattle.prodash_line.specs.declared.render.line.page.sign.Sign.TheVariants.{Char, LineFeed, CarriageReturn, Up, EraseLine, HideCursor, ShowCursor, Open, Reset}
 
@@ -14,6 +14,10 @@ pub record Canvas : Type 0 where
 -- a row of spaces
 abbrev pub blank : ℕ → List ℕ
 blank columns = replicate columns 32
+
+-- row n of all rows is this one
+abbrev pub IsRow : List (List ℕ) → ℕ → List ℕ → Type 0
+IsRow rows n row = (n < length rows) × (row ≡ slice_index_or rows n [])
 
 -- a page of blank rows, with the cursor at its beginning
 abbrev pub blank_page : ℕ → ℕ → Canvas

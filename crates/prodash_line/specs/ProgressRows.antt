@@ -1,9 +1,9 @@
 -- The line of a row: its name, and with progress its values and a bar.
-use Rattle.std.specs.Prelude.{ℕ, ◌-◌, ◌*◌, ◌/◌, ◌%◌, ◌^◌, min, max, List, [], ◌∷◌, ◌++◌, length, map, zip, replicate, reverse, codes, chars, if◌then◌else◌, ◌==◌, nat_lt, nat_le, Bool, true, ◌&&◌, Option, Some, None}
+use Rattle.std.specs.Prelude.{◌≡◌, ℕ, ◌-◌, ◌*◌, ◌/◌, ◌%◌, ◌^◌, min, max, List, [], ◌∷◌, ◌++◌, length, map, zip, replicate, reverse, codes, chars, if◌then◌else◌, ◌==◌, nat_lt, nat_le, Bool, true, ◌&&◌, Option, Some, None}
 use Rattle.std.specs.List.{range_with_len, filter}
 use Rattle.std.specs.Fmt.{decimal}
 use Rattle.prodash_base.specs.Kinds.{quantity_shown}
-use Rattle.prodash_base.specs.Displays.{values_text, unit_text}
+use Rattle.prodash_base.specs.Displays.{amount, values_text, unit_text}
 use Rattle.prodash_base.specs.Units.{Measure}
 use Rattle.prodash_base.specs.Rows.{RowProgress, PathRow}
 use Rattle.prodash_base.specs.Trackers.{Tracker, frame_throughputs}
@@ -18,6 +18,10 @@ abbrev pub fraction_of : ℕ → Option ℕ → List ℕ
 fraction_of step None = decimal step
 fraction_of step (Some bound) = decimal step ++ (codes "/" ++ decimal bound)
 
+-- this text follows the digits of any step in its fraction of a bound
+abbrev pub FollowsStep : Option ℕ → List ℕ → Type 0
+FollowsStep bound text = (step : ℕ) → fraction_of step bound ≡ decimal step ++ text
+
 -- a row that is drawn, with the throughput that is shown in it, if there is one
 abbrev pub DrawnRow : Type 0
 DrawnRow = PathRow × Option Throughput
@@ -26,13 +30,17 @@ DrawnRow = PathRow × Option Throughput
 abbrev pub values_in : Measure → RowProgress → Option Throughput → Line
 values_in unit p throughput =
     let shown = quantity_shown unit.quantity in
-    styled (Some values_style) (chars (values_text shown unit.mode p.counter p.bound throughput))
+    styled (Some values_style) (chars (values_text shown unit.mode (amount p.counter p.bound throughput)))
     ∷ spaces 1
-    ∷ piece (chars (unit_text shown unit.mode p.counter p.bound throughput))
+    ∷ piece (chars (unit_text shown unit.mode (amount p.counter p.bound throughput)))
     ∷ []
 
+-- the values of a progress without a unit
+abbrev pub fraction_values : ℕ → Option ℕ → Line
+fraction_values step bound = styled (Some values_style) (fraction_of step bound) ∷ []
+
 abbrev pub values_by : Option Measure → RowProgress → Option Throughput → Line
-values_by None p throughput = styled (Some values_style) (fraction_of p.counter p.bound) ∷ []
+values_by None p throughput = fraction_values p.counter p.bound
 values_by (Some unit) p throughput = values_in unit p throughput
 
 -- the values of a progress, in its unit if it has one

@@ -1,6 +1,7 @@
 -- The renderer: what it keeps, the frame that it draws for an input, and what that frame leaves.
-use Rattle.std.specs.Prelude.{◌≡◌, ℕ, nat_eq, List, [], ◌∷◌, ◌++◌, length, Bool, true, false, ◌&&◌, ◌||◌, not, Option, Some, None, if◌then◌else◌, Result, Ok, Err, ◌⊎◌}
+use Rattle.std.specs.Prelude.{◌≡◌, ℕ, nat_eq, List, [], ◌∷◌, ◌++◌, length, drop, Bool, true, false, ◌&&◌, ◌||◌, not, Option, Some, None, if◌then◌else◌, Result, Ok, Err, ◌⊎◌}
 use Rattle.std.specs.Option.{option_map}
+use Rattle.prodash_base.specs.Rings.{keep_last}
 use Rattle.prodash_base.specs.Rows.{PathRow, same_rows}
 use Rattle.prodash_base.specs.Trackers as trackers
 use Rattle.prodash_base.specs.Trackers.{Tracker, new_tracker}
@@ -16,9 +17,11 @@ use Rattle.prodash_line.specs.declared.render.line.page.sign.Sign.{Sign}
 use Rattle.prodash_line.specs.declared.render.line.page.sign.Sign.TheVariants.{CarriageReturn, EraseLine, HideCursor, ShowCursor}
 use Rattle.prodash_line.specs.Signs.{spelling}
 use Rattle.prodash_line.specs.Lines.{Line}
-use Rattle.prodash_line.specs.Frames.{Body, Unchanged, Draws, Closes, Frame, frame_signs, widths_after}
+use Rattle.prodash_line.specs.declared.render.line.draw.action.Action.{Action}
+use Rattle.prodash_line.specs.declared.render.line.draw.action.Action.TheVariants.{Leave, Redraw, Close}
+use Rattle.prodash_line.specs.Frames.{Body, Unchanged, Draws, Closes, Frame, body_signs, frame_signs, widths_of}
 use Rattle.prodash_line.specs.ProgressRows.{DrawnRow, filtered, with_throughputs, row_lines, greatest_midpoint}
-use Rattle.prodash_line.specs.MessageLines.{message_lines, last_of, latest_origin_widths}
+use Rattle.prodash_line.specs.MessageLines.{message_lines, latest_origin_widths}
 use Rattle.prodash_line.specs.Screens.{ScreenState, WritesFrame, BreaksDuring}
 
 pub record Renderer : Type 0 where
@@ -39,6 +42,22 @@ pub record Renderer : Type 0 where
   pub cursor_hidden : Bool
   -- the refusal of every further frame, if there is one
   pub ended : Option Refusal
+
+-- a coloured terminal of 80 columns and 20 rows; no filter, no timestamps, a visible cursor, and it keeps running
+abbrev pub default_options : Options
+default_options = record {
+  level_filter = None;
+  terminal_dimensions = (80, 20);
+  keep_running_if_progress_is_empty = true;
+  output_is_terminal = true;
+  colored = true;
+  timestamp = false;
+  hide_cursor = false;
+}
+
+-- the refusal of an ended renderer
+abbrev pub IsEndRefusal : Refusal → Type 0
+IsEndRefusal refusal = (refusal ≡ refusals.Closed) ⊎ (refusal ≡ refusals.Broken)
 
 -- what a tick sees of a tree: its rows, the new messages, and how many messages have been pushed; nothing without a root
 abbrev pub Seen : Type 0
@@ -74,6 +93,10 @@ opening_of r = if hides_cursor r then HideCursor ∷ [] else []
 abbrev pub ending_of : Renderer → List Sign
 ending_of r = (if is_cursor_hidden r then ShowCursor ∷ [] else []) ++ (if r.options.output_is_terminal then EraseLine ∷ CarriageReturn ∷ [] else [])
 
+-- a closing frame after its messages: spaces over these lines on screen, and its end
+abbrev pub closing_signs : Renderer → List ℕ → List Sign
+closing_signs r widths = body_signs widths (Closes (ending_of r))
+
 -- no tick with a root was accepted before, or the latest saw other rows
 abbrev pub rows_changed : Option (List PathRow) → List PathRow → Bool
 rows_changed None rows = true
@@ -105,46 +128,23 @@ abbrev pub tracker_after : Renderer → ℕ → List PathRow → Option Tracker
 tracker_after r at rows =
     option_map (λ t. trackers.after_frame t at (filtered r.options.level_filter rows) rows) r.tracker
 
--- what a tick with a root does after its messages: it closes the renderer, or draws the rows, or leaves the lines on screen
-abbrev pub tick_body : Renderer → ℕ → Bool → List PathRow → Body
-tick_body r at show rows =
-    if closes_at r rows then Closes (ending_of r)
-    else if is_drawn r show rows then Draws (drawn_lines r at rows)
-    else Unchanged
+-- rows as they are drawn: their lines, the greatest of their midpoints, and the tracker that has observed them
+pub record Drawing : Type 0 where
+  pub lines : List Line
+  pub midpoint : ℕ
+  pub tracker : Option Tracker
 
--- the frame of a tick with a root: the new messages, then the rows if they are drawn
-abbrev pub tick_frame : Renderer → ℕ → Bool → List PathRow → List Message → Frame
-tick_frame r at show rows messages =
-    record { opening = opening_of r; messages = message_lines r.options r.origin_widths messages; body = tick_body r at show rows }
-
--- the closing frame without messages: it blanks the lines on screen
-abbrev pub closing_frame : Renderer → Frame
-closing_frame r = record { opening = opening_of r; messages = []; body = Closes (ending_of r) }
+-- the drawing of rows at a moment
+abbrev pub drawing_of : Renderer → ℕ → List PathRow → Drawing
+drawing_of r at rows =
+    record { lines = drawn_lines r at rows; midpoint = greatest_midpoint (drawn_rows r at rows); tracker = tracker_after r at rows }
 
 -- the renderer on a terminal of this size
 abbrev pub resized : Renderer → ℕ → ℕ → Renderer
 resized r columns height = record r {
   options = record r.options { terminal_dimensions = (columns, height) };
-  origin_widths = last_of height r.origin_widths;
+  origin_widths = keep_last height r.origin_widths;
 }
-
--- what a resize does: it draws the remembered rows if they are shown on a terminal
-abbrev pub resized_body : Renderer → ℕ → Bool → Body
-resized_body r at show =
-    if show && r.options.output_is_terminal then Draws (drawn_lines r at (latest_rows r.last_rows))
-    else Unchanged
-
--- the frame of a resize: the remembered rows at the new size, if they are shown on a terminal
-abbrev pub resize_frame : Renderer → ℕ → Bool → ℕ → ℕ → Frame
-resize_frame r at show columns height =
-    record { opening = opening_of r; messages = []; body = resized_body (resized r columns height) at show }
-
--- the frame of an input
-abbrev pub frame_at : Renderer → Input → Frame
-frame_at r (Tick at show (Some seen)) = tick_frame r at show seen.0 seen.1
-frame_at r (Tick at show None) = closing_frame r
-frame_at r (Resize at show columns height) = resize_frame r at show columns height
-frame_at r (Quit at) = closing_frame r
 
 -- the renderer with what it remembers of an input: of a tick the rows, the origins of the messages, and how many were pushed; of a resize the
 -- size
@@ -158,44 +158,102 @@ remember r (Tick at show None) = r
 remember r (Resize at show columns height) = resized r columns height
 remember r (Quit at) = r
 
--- the midpoint after a frame: that of the rows if they were drawn
-abbrev pub midpoint_after : Body → Renderer → ℕ → ℕ
-midpoint_after (Draws lines) r at = greatest_midpoint (drawn_rows r at (latest_rows r.last_rows))
-midpoint_after _ r at = r.midpoint
-
--- the tracker after a frame: it has observed the rows if they were drawn
-abbrev pub observed_after : Body → Renderer → ℕ → Option Tracker
-observed_after (Draws lines) r at = tracker_after r at (latest_rows r.last_rows)
-observed_after _ r at = r.tracker
-
 -- the moment of an input
 abbrev pub moment_of : Input → ℕ
 moment_of (Tick at show seen) = at
 moment_of (Resize at show columns height) = at
 moment_of (Quit at) = at
 
--- a closing frame is the last
-abbrev pub ended_after : Body → Option Refusal → Option Refusal
-ended_after (Closes ending) ended = Some refusals.Closed
-ended_after _ ended = ended
+-- what the frame of an input draws, if it draws rows: those that are remembered then
+abbrev pub drawing_at : Renderer → Input → Drawing
+drawing_at r input = let r' = remember r input in drawing_of r' (moment_of input) (latest_rows r'.last_rows)
 
-abbrev pub answer_of : Body → Answer
-answer_of (Closes ending) = answers.Ended
-answer_of _ = answers.Drawn
+-- what a tick with a root does after its messages: it closes the renderer, or draws the rows, or leaves the lines on screen
+abbrev pub tick_action : Renderer → Bool → List PathRow → Action
+tick_action r show rows = if closes_at r rows then Close else if is_drawn r show rows then Redraw else Leave
 
--- the renderer after the frame of an input
-abbrev pub after_frame : Renderer → Input → Frame → Renderer
-after_frame r input f = record (remember r input) {
-  widths = widths_after r.widths f;
-  midpoint = midpoint_after f.body (remember r input) (moment_of input);
-  tracker = observed_after f.body (remember r input) (moment_of input);
-  cursor_hidden = is_cursor_hidden r;
-  ended = ended_after f.body r.ended;
+-- what a resize does: it draws the remembered rows if they are shown on a terminal
+abbrev pub resize_action : Renderer → Bool → Action
+resize_action r show = if show && r.options.output_is_terminal then Redraw else Leave
+
+-- what the frame of an input does after its messages
+abbrev pub action_at : Renderer → Input → Action
+action_at r (Tick at show (Some seen)) = tick_action r show seen.0
+action_at r (Tick at show None) = Close
+action_at r (Resize at show columns height) = resize_action r show
+action_at r (Quit at) = Close
+
+-- the lines of the messages that an input prints
+abbrev pub printed_at : Renderer → Input → List Line
+printed_at r (Tick at show (Some seen)) = message_lines r.options r.origin_widths seen.1
+printed_at r (Tick at show None) = []
+printed_at r (Resize at show columns height) = []
+printed_at r (Quit at) = []
+
+-- the body of a frame that does this, with what it draws, if it draws rows, and what it ends with, if it closes the renderer
+abbrev pub body_of : Action → Drawing → List Sign → Body
+body_of Leave drawing ending = Unchanged
+body_of Redraw drawing ending = Draws drawing.lines
+body_of Close drawing ending = Closes ending
+
+-- the frame of an input
+abbrev pub frame_at : Renderer → Input → Frame
+frame_at r input = record {
+  opening = opening_of r;
+  messages = printed_at r input;
+  body = body_of (action_at r input) (drawing_at r input) (ending_of r);
 }
 
--- the renderer after an input
+-- the closing frame without messages
+abbrev pub closing_frame : Renderer → Frame
+closing_frame r = record { opening = opening_of r; messages = []; body = Closes (ending_of r) }
+
+-- what a frame leaves to the next one: the width of each line on screen, the greatest midpoint, and the tracker
+pub record FrameState : Type 0 where
+  pub widths : List ℕ
+  pub midpoint : ℕ
+  pub tracker : Option Tracker
+
+-- what a frame leaves that does this, over lines on screen of these widths
+abbrev pub state_after : Action → Renderer → Drawing → List ℕ → FrameState
+state_after Leave r drawing widths = record { widths = widths; midpoint = r.midpoint; tracker = r.tracker }
+state_after Redraw r drawing widths = record { widths = widths_of drawing.lines; midpoint = drawing.midpoint; tracker = drawing.tracker }
+state_after Close r drawing widths = record { widths = []; midpoint = r.midpoint; tracker = r.tracker }
+
+-- what the frame of an input leaves: its messages are over as many of the lines on screen, from the first on
+abbrev pub state_at : Renderer → Input → FrameState
+state_at r input = state_after (action_at r input) r (drawing_at r input) (drop (length (printed_at r input)) r.widths)
+
+-- a closing frame is the last
+abbrev pub ended_after : Action → Option Refusal → Option Refusal
+ended_after Close ended = Some refusals.Closed
+ended_after _ ended = ended
+
+abbrev pub answer_of : Action → Answer
+answer_of Close = answers.Ended
+answer_of _ = answers.Drawn
+
+-- the renderer after an input: what it remembers of it, and what its frame leaves
 abbrev pub next : Renderer → Input → Renderer
-next r input = after_frame r input (frame_at r input)
+next r input = record (remember r input) {
+  widths = (state_at r input).widths;
+  midpoint = (state_at r input).midpoint;
+  tracker = (state_at r input).tracker;
+  cursor_hidden = is_cursor_hidden r;
+  ended = ended_after (action_at r input) r.ended;
+}
+
+-- the renderer after a frame has begun
+abbrev pub begun : Renderer → Renderer
+begun r = record r { cursor_hidden = is_cursor_hidden r }
+
+-- the renderer after the screen broke
+abbrev pub broken : Renderer → Renderer
+broken r = record r { ended = Some refusals.Broken }
+
+-- the bytes of the closing frame without messages
+abbrev pub closing_bytes : Renderer → List ℕ
+closing_bytes r = spelling (frame_signs r.widths (closing_frame r))
 
 -- the bytes of the frame
 abbrev pub frame_bytes : Renderer → Input → List ℕ
@@ -204,7 +262,7 @@ frame_bytes r input = spelling (frame_signs r.widths (frame_at r input))
 -- the whole frame is written
 pub record Accepts (r : Renderer) (input : Input) (s : ScreenState) (answer : Answer) (r' : Renderer) (s' : ScreenState) : Type 0 where
   pub running : r.ended ≡ None
-  pub returned : answer ≡ answer_of (frame_at r input).body
+  pub returned : answer ≡ answer_of (action_at r input)
   pub renderer : r' ≡ next r input
   pub screen : WritesFrame (frame_bytes r input) s s'
 

@@ -1,5 +1,5 @@
 -- A list of inputs to one renderer: what they write, and what a page shows of them.
-use Rattle.std.specs.Prelude.{◌≡◌, ℕ, Bool, true, false, ⊤, List, [], ◌∷◌, ◌++◌, map, take, Some, None, IsTrue, MatchBool, Result, Ok, Err, ◌⊎◌}
+use Rattle.std.specs.Prelude.{◌≡◌, ℕ, Bool, true, false, ⊤, List, [], ◌∷◌, ◌++◌, map, take, Some, None, IsTrue, MatchBool, Result, Ok, Err, ◌⊎◌, ◌↔◌}
 use Rattle.std.specs.List.{AllByRecursion}
 use Rattle.prodash_base.specs.declared.refusal.Refusal.{Refusal}
 use Rattle.prodash_base.specs.declared.refusal.Refusal.TheVariants as refusals
@@ -42,12 +42,16 @@ RendersEach P r s (x ∷ xs) s' =
 abbrev pub RendersAll : Renderer → ScreenState → List Rendering → ScreenState → Type 0
 RendersAll = RendersEach (λ _ _ _ _. ⊤)
 
--- `Broken` is returned exactly if it was returned for an input before, or if the frame has bytes and the screen is broken after it; but a closed
--- renderer and one that is out of memory never get as far as the screen
-pub record BreaksExactly (r : Renderer) (s : ScreenState) (x : Rendering) (s' : ScreenState) : Type 0 where
-  pub only : x.result ≡ Err refusals.Broken → (r.ended ≡ Some refusals.Broken) ⊎ (IsTrue (has_bytes (frame_bytes r x.input)) × (s'.broken ≡ true))
-  pub still : r.ended ≡ Some refusals.Broken → x.result ≡ Err refusals.Broken
-  pub every : r.ended ≡ None → (x.result ≡ Err refusals.Memory → ⊥) → IsTrue (has_bytes (frame_bytes r x.input)) → s'.broken ≡ true → x.result ≡ Err refusals.Broken
+-- the screen breaks now: it is broken after a frame that has bytes, and the renderer had not ended and was not out of memory
+pub record BreaksNow (r : Renderer) (x : Rendering) (s' : ScreenState) : Type 0 where
+  pub running : r.ended ≡ None
+  pub memory : x.result ≡ Err refusals.Memory → ⊥
+  pub some : IsTrue (has_bytes (frame_bytes r x.input))
+  pub broken : s'.broken ≡ true
+
+-- `Broken` is returned exactly if it was returned for an input before, or the screen breaks now
+abbrev pub BreaksExactly : Renderer → ScreenState → Rendering → ScreenState → Type 0
+BreaksExactly r s x s' = (x.result ≡ Err refusals.Broken) ↔ ((r.ended ≡ Some refusals.Broken) ⊎ BreaksNow r x s')
 
 -- an accepted frame with bytes is flushed, with all that the screen took before
 pub record FlushesFrame (r : Renderer) (s : ScreenState) (x : Rendering) (s' : ScreenState) : Type 0 where

@@ -1,5 +1,5 @@
 -- The state of a screen, and what a frame does to it.
-use Rattle.std.specs.Prelude.{◌≡◌, ℕ, Bool, true, false, ◌≤◌, nat_lt, List, ◌++◌, length, take, if◌then◌else◌, IsTrue}
+use Rattle.std.specs.Prelude.{◌≡◌, ℕ, ◌+◌, Bool, true, false, ◌≤◌, nat_lt, List, ◌++◌, length, take, if◌then◌else◌, IsTrue}
 
 -- the bytes taken so far, those flushed so far, and whether the screen is broken
 pub record ScreenState : Type 0 where
@@ -10,6 +10,18 @@ pub record ScreenState : Type 0 where
 -- new is old and a prefix of the bytes
 abbrev pub TakesPrefix : List ℕ → List ℕ → List ℕ → Type 0
 TakesPrefix bytes old new = (n : ℕ) × (n ≤ length bytes) × (new ≡ old ++ take n bytes)
+
+-- the first n of the bytes are taken
+abbrev pub Takes : List ℕ → ScreenState → ScreenState → ℕ → Type 0
+Takes bytes s s' n = (n ≤ length bytes) × (s'.bytes ≡ s.bytes ++ take n bytes)
+
+-- if the screen was broken, it is still, and has taken nothing
+abbrev pub StaysBroken : ScreenState → ScreenState → Type 0
+StaysBroken s s' = IsTrue s.broken → IsTrue s'.broken × (s'.bytes ≡ s.bytes)
+
+-- all bytes taken are flushed
+abbrev pub IsFlushed : ScreenState → Type 0
+IsFlushed s = s.flushed ≡ s.bytes
 
 abbrev pub has_bytes : List ℕ → Bool
 has_bytes bytes = nat_lt 0 (length bytes)
@@ -34,3 +46,11 @@ pub record MemoryScreenState : Type 0 where
   pub bytes : List ℕ
   pub room : ℕ
   pub broken : Bool
+
+-- the screen that it is: all bytes taken are flushed
+abbrev pub memory_state : MemoryScreenState → ScreenState
+memory_state s = record { bytes = s.bytes; flushed = s.bytes; broken = s.broken }
+
+-- these bytes fit besides those taken
+abbrev pub FitsRoom : List ℕ → MemoryScreenState → Type 0
+FitsRoom bytes s = length s.bytes + length bytes ≤ s.room

@@ -12,8 +12,8 @@ use std::fmt::Debug;
 use std::process::Abort;
 use std::test::Fail;
 
-/// Both are equal; `of` says at which row of a table. A call is proved in a tenth of the time that
-/// `assert_eq!` takes.
+/// Asserts that both are equal; `of` names the row of a table. A call is proved in a tenth of the
+/// time that `assert_eq!` takes.
 pub(crate) fn assert_same<T, N>(rt: &impl Abort, got: T, want: T, of: N)
 where
     T: PartialEq + Debug + Drop,
@@ -22,7 +22,7 @@ where
     assert_eq!(rt; got, want, "of {of:?}");
 }
 
-/// Each value equals the one in its place among the copies, and no other of them.
+/// Asserts that each value equals the copy at its index, and no other copy.
 pub(crate) fn assert_distinct<T: PartialEq>(rt: &impl Abort, values: &[T], copies: &[T]) {
     assert_same(rt, values.len(), copies.len(), "lengths");
     for (i, value) in values.iter().enumerate() {
@@ -48,13 +48,15 @@ pub(crate) enum Ask {
     Measure(Kind, u64, Option<u64>),
     /// A tick without a root, and whether it shows rows.
     Rootless(bool),
+    /// The columns and rows of a resize that shows rows.
+    Resize(u16, u16),
     Quit,
 }
 
 /// The rows of these tasks.
 fn rows(alloc: Global, tasks: &[Task]) -> Result<Vec<Row>, AllocError> {
     let mut rows = Vec::new(alloc);
-    let mut number: u16 = 0;
+    let mut number: u32 = 0;
     for (name, progress) in tasks {
         rows.push(row(alloc, key_at(&[number]), name, *progress)?)?;
         number = number.saturating_add(1);
@@ -109,6 +111,12 @@ fn input(alloc: Global, ask: Ask) -> Result<Input, AllocError> {
             at: 0,
             show,
             seen: None,
+        }),
+        Ask::Resize(columns, rows) => Ok(Input::Resize {
+            at: 0,
+            show: true,
+            columns,
+            rows,
         }),
         Ask::Quit => Ok(Input::Quit { at: 0 }),
     }

@@ -1,4 +1,4 @@
-use crate::fixtures::Ask::{Print, Show};
+use crate::fixtures::Ask::{Print, Resize, Show};
 use crate::fixtures::{Drawing, assert_draws};
 use std::test::Fail;
 
@@ -18,6 +18,18 @@ const LINES: &[Drawing] = &[
     Drawing((40, 0), &[
         (Print(&[("task", "x")], &[]), Ok(" task x\n")),
         (Print(&[("ab", "y")], &[]), Ok(" ab y\n")),
+    ]),
+    // a higher terminal brings no width back: they are cut as a tick is accepted, and at a resize
+    Drawing((40, 1), &[
+        (Print(&[("task", "x"), ("ab", "y")], &[]), Ok(" task x\n   ab y\n")),
+        (Resize(40, 20), Ok("")),
+        (Print(&[("c", "z")], &[]), Ok("  c z\n")),
+    ]),
+    Drawing((40, 20), &[
+        (Print(&[("task", "x"), ("ab", "y")], &[]), Ok(" task x\n   ab y\n")),
+        (Resize(40, 1), Ok("")),
+        (Resize(40, 20), Ok("")),
+        (Print(&[("c", "z")], &[]), Ok("  c z\n")),
     ]),
     // an origin two columns wide, and a text that begins with a combining accent: six columns, and
     // four spaces over the row of ten columns

@@ -67,6 +67,20 @@ impl Write for FakeWriter {
     }
 }
 
+/// A writer whose every call returns an error.
+#[derive(Debug, Drop)]
+struct BadWriter;
+
+impl Write for BadWriter {
+    fn write(&mut self, _buf: &[u8]) -> io::Result<usize> {
+        Err(Error::from(ErrorKind::Interrupted))
+    }
+
+    fn flush(&mut self) -> io::Result<()> {
+        Err(Error::from(ErrorKind::Interrupted))
+    }
+}
+
 /// What a writer does, whether it flushes, what is returned of puts of `abcd` until one is refused
 /// or the list ends, then of a flush; the bytes that the writer has in the end, and its calls.
 #[derive(Clone, Copy)]
@@ -100,7 +114,7 @@ const ROWS: &[Row] = &[
 ];
 
 /// A put of `abcd` returns this, and breaks the screen if it is refused.
-fn assert_put(rt: &impl Abort, screen: &mut OverWrite<FakeWriter>, want: Result<usize, Refusal>) {
+fn assert_put<W: Write>(rt: &impl Abort, screen: &mut OverWrite<W>, want: Result<usize, Refusal>) {
     assert_same(rt, screen.put(b"abcd"), want, "put");
     assert_same(rt, screen.is_broken(), want.is_err(), "broken by a put");
 }
@@ -180,6 +194,42 @@ fn over_write_has_the_bytes_of_a_memory_screen(rt: HostRuntime) -> Result<(), Fa
     let calls = (memory.bytes().len(), FRAMES.len());
     assert_same(&rt, slow.calls, calls, "calls");
     Ok(())
+}
+
+#[test]
+fn over_write_says_whether_it_is_broken(rt: HostRuntime) -> Result<(), Fail> {
+    let alloc = rt.alloc();
+    let mut screen = OverWrite::new(BadWriter);
+    let whole = format!(in alloc; "{screen:?}")?;
+    assert_same(
+        &rt,
+        whole.as_str(),
+        "OverWrite { writer: BadWriter, broken: false }",
+        "whole",
+    );
+    assert_put(&rt, &mut screen, BROKEN);
+    let broken = format!(in alloc; "{screen:?}")?;
+    assert_same(
+        &rt,
+        broken.as_str(),
+        "OverWrite { writer: BadWriter, broken: true }",
+        "broken",
+    );
+    Ok(())
+}
+
+/// A line of 5000 columns, a line feed, and up by one row.
+const LONG_FRAME: usize = 5000 + 1 + 4;
+
+#[test]
+fn long_frame_is_one_put(rt: HostRuntime) {
+    let mut screen = OverWrite::new(FakeWriter::new(rt.alloc(), &[Takes(usize::MAX)], true));
+    let mut state = renderer(rt.alloc(), (5000, 24));
+    let got = draw(rt.alloc(), &mut screen, &mut state, Show(&[TASK]));
+    assert_same(&rt, got, Ok(Answer::Drawn), "long frame");
+    let writer = screen.into_inner();
+    assert_same(&rt, writer.bytes.len(), LONG_FRAME, "bytes");
+    assert_same(&rt, writer.calls, (1, 1), "calls");
 }
 
 const BREAKS: &[Outcome] = &[Takes(5), Fails(ErrorKind::Interrupted)];

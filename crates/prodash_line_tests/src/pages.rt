@@ -97,6 +97,19 @@ fn pages_show_what_is_written(rt: HostRuntime) -> Result<(), Fail> {
 }
 
 #[test]
+fn pages_have_thousands_of_rows(rt: HostRuntime) -> Result<(), Fail> {
+    let high = Page::new(rt.alloc(), 1, 2000)?;
+    assert_same(&rt, (high.rows(), high.top()), (2000, 0), "high page");
+    let mut page = Page::new(rt.alloc(), 1, 1)?;
+    for _ in 0..2000 {
+        page.apply(rt.alloc(), &Sign::LineFeed)?;
+    }
+    assert_same(&rt, (page.rows(), page.top()), (2001, 2000), "long page");
+    assert_same(&rt, page.cursor(), (2000, 0), "long page");
+    Ok(())
+}
+
+#[test]
 fn reads_what_signs_spell(rt: HostRuntime) -> Result<(), Fail> {
     let signs = [
         Sign::Char('a'),

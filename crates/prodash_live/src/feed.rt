@@ -1,20 +1,21 @@
 //! The lines of an input, applied as they come.
-use crate::fault::Fault;
 use crate::items::Items;
 use prodash::Refusal;
 use prodash::time::Clock;
-use prodash_lines::{Lines, Next, Request, request_of};
+use prodash_programs::Fault;
+use prodash_script::{Lines, Next, Request, request_of};
 use std::alloc::Global;
 use std::io::Read;
 use std::sync::Wait;
 use std::sync::atomic::{AtomicBool, Ordering};
 
-/// Applies each line of an input. A faulty line is said in a message, or ends it if it is to be
-/// strict. Returns how many lines were faulty.
+/// Applies each line of an input. A faulty line is reported in a message, or ends the program if it
+/// is strict. Returns the number of faulty lines.
 ///
 /// # Errors
 ///
-/// The fault that ended it: a faulty line if it is strict, the input, the output, or memory.
+/// The fault that ended it: a faulty line if the program is strict, the input, the output, or
+/// memory.
 pub fn feed_lines<R: Wait + Clone + Drop, I: Read + Drop, K: Clock>(
     alloc: Global,
     input: I,

@@ -3,7 +3,7 @@ use prodash::messages::MessageLevel;
 use prodash::time::Moment;
 use prodash::tree::{Event, Handle, Item, Root};
 use prodash::{Refusal, Text};
-use prodash_lines::{Names, Request};
+use prodash_script::{Names, Request};
 use std::alloc::Global;
 use std::collections::BTreeMap;
 use std::sync::Wait;
@@ -47,41 +47,63 @@ impl<R: Wait + Clone + Drop> Items<R> {
     /// `Gone`, if the handle that it names is not valid. `Memory`, if there is no memory for it.
     pub fn serve(&mut self, alloc: Global, request: Request) -> Result<(), Refusal> {
         match request {
-            Request::Apply(event) => self.apply(alloc, event),
-            Request::Name(name, event) => match event {
-                Event::AddChild {
-                    parent,
-                    name: text,
-                    ..
-                } => {
-                    let handle = self.add(alloc, parent, &text)?;
-                    self.set_name(alloc, name, handle)
-                }
-                _ => Ok(()),
+            Request::Apply(event) => {
+                self.apply(alloc, event)?;
+                Ok(())
+            }
+            Request::Name(name, event) => match self.apply(alloc, event)? {
+                Some(handle) => self.set_name(alloc, name, handle),
+                None => Ok(()),
             },
             Request::Fault => Ok(()),
         }
     }
 
-    /// Applies an event.
-    fn apply(&mut self, alloc: Global, event: Event) -> Result<(), Refusal> {
+    /// Applies an event. Returns the handle of the new item if the event adds one.
+    fn apply(&mut self, alloc: Global, event: Event) -> Result<Option<Handle>, Refusal> {
         match event {
             Event::AddChild { parent, name, .. } => {
-                self.add(alloc, parent, &name)?;
-                Ok(())
+                return Ok(Some(self.add(alloc, parent, &name)?));
             }
-            Event::Drop { item } => self.remove(item),
-            Event::DropRoot => self.root.take().map(|_| ()).ok_or(Refusal::Gone),
-            event => {
-                let Some(handle) = handle_of(&event) else {
-                    return Err(Refusal::Gone);
-                };
-                match self.items.get(&handle) {
-                    Some(named) => change(alloc, &named.item, &event),
-                    None => Err(Refusal::Gone),
-                }
+            Event::Drop { item } => self.remove(item)?,
+            Event::DropRoot => self.drop_root()?,
+            Event::Init { item, max, unit } => self.item(item)?.init(max, unit),
+            Event::SetName { item, name } => self.item(item)?.set_name(alloc, name.as_str())?,
+            Event::SetMax { item, max } => {
+                self.item(item)?.set_max(max);
             }
+            Event::Set { item, step } => self.item(item)?.set(step),
+            Event::IncBy { item, step } => self.item(item)?.inc_by(step),
+            Event::Blocked { item, reason, eta } => self.item(item)?.blocked(reason, eta),
+            Event::Halted { item, reason, eta } => self.item(item)?.halted(reason, eta),
+            Event::Running { item } => self.item(item)?.running(),
+            Event::Message {
+                item,
+                at,
+                level,
+                text,
+            } => self.item(item)?.message(alloc, at, level, text.as_str())?,
+            // A script neither queries the tree nor draws frames.
+            Event::Name { .. } | Event::Id { .. } | Event::Step { .. } => return Err(Refusal::Gone),
+            Event::Max { .. } | Event::Unit { .. } | Event::NumTasks => return Err(Refusal::Gone),
+            Event::Snapshot | Event::CopyMessages => return Err(Refusal::Gone),
+            Event::CopyNew { .. } | Event::Tick { .. } => return Err(Refusal::Gone),
+            Event::Resize { .. } | Event::Quit { .. } => return Err(Refusal::Gone),
         }
+        Ok(None)
+    }
+
+    /// Returns an item by its handle.
+    fn item(&self, handle: Handle) -> Result<&Item<R>, Refusal> {
+        match self.items.get(&handle) {
+            Some(named) => Ok(&named.item),
+            None => Err(Refusal::Gone),
+        }
+    }
+
+    /// Drops the root.
+    fn drop_root(&mut self) -> Result<(), Refusal> {
+        self.root.take().map(|_| ()).ok_or(Refusal::Gone)
     }
 
     /// Adds an item, and returns its handle.
@@ -138,50 +160,4 @@ impl<R: Wait + Clone + Drop> Items<R> {
             None => Ok(()),
         }
     }
-}
-
-/// The handle of the item that an event changes.
-fn handle_of(event: &Event) -> Option<Handle> {
-    match event {
-        Event::Init { item, .. }
-        | Event::SetName { item, .. }
-        | Event::SetMax { item, .. }
-        | Event::Set { item, .. }
-        | Event::IncBy { item, .. }
-        | Event::Blocked { item, .. }
-        | Event::Halted { item, .. }
-        | Event::Running { item }
-        | Event::Message { item, .. } => Some(*item),
-        _ => None,
-    }
-}
-
-/// Applies an event on an item to the item.
-fn change<R: Wait + Clone + Drop>(
-    alloc: Global,
-    item: &Item<R>,
-    event: &Event,
-) -> Result<(), Refusal> {
-    match event {
-        Event::Init { max, unit, .. } => item.init(*max, *unit),
-        Event::SetName { name, .. } => return item.set_name(alloc, name.as_str()),
-        Event::SetMax { max, .. } => {
-            item.set_max(*max);
-        }
-        Event::Set { step, .. } => item.set(*step),
-        Event::IncBy { step, .. } => item.inc_by(*step),
-        Event::Blocked { reason, eta, .. } => item.blocked(reason, *eta),
-        Event::Halted { reason, eta, .. } => item.halted(reason, *eta),
-        Event::Running { .. } => item.running(),
-        Event::Message {
-            at,
-            level,
-            text,
-            ..
-        } => {
-            return item.message(alloc, *at, *level, text.as_str());
-        }
-        _ => {}
-    }
-    Ok(())
 }

@@ -1,4 +1,6 @@
 //! The command line.
+ghost use Rattle.std.specs.Prelude.{◌≡◌, ◌&&◌};
+
 use clap::builder::ValueParser;
 use clap::{Arg, ArgAction, ArgMatches, Command, Error};
 use prodash::render::line;
@@ -11,7 +13,7 @@ pub struct Environment {
     pub columns: Option<u16>,
     /// The rows of the terminal.
     pub rows: Option<u16>,
-    /// Whether colours are not wanted.
+    /// Whether colours are disabled.
     pub no_color: bool,
 }
 
@@ -31,7 +33,7 @@ pub enum Terminal {
 pub struct Options {
     /// The columns and the rows of the terminal.
     pub dimensions: (u16, u16),
-    /// The frames in a second, from 1.
+    /// The frames per second, at least 1.
     pub frames: u64,
     /// The milliseconds until rows are drawn.
     pub delay: u64,
@@ -57,7 +59,7 @@ impl Options {
     ///
     /// # Errors
     ///
-    /// What clap says of it: also the help and the version, if they are asked for.
+    /// The error of `clap`, which is also the help or the version, if the command line asks for it.
     pub fn parse(alloc: Global, words: &[String], env: Environment) -> Result<Options, Error> {
         let matches = command(alloc)?.try_get_matches_from(words)?;
         let columns = number(&matches, "columns");
@@ -83,7 +85,10 @@ impl Options {
     }
 
     /// The options of the renderer. `is_terminal` says whether the output is one by the system.
-    pub fn render(&self, is_terminal: bool) -> line::Options {
+    pub fn render(&self, is_terminal: bool) -> line::Options
+        ensures colors { result.colored ≡ (self.now.is_colored && result.output_is_terminal) }
+        ensures size { result.terminal_dimensions ≡ self.now.dimensions }
+    {
         let output_is_terminal = match self.terminal {
             Terminal::Auto => is_terminal,
             Terminal::Always => true,
@@ -94,12 +99,10 @@ impl Options {
             colored: self.is_colored && output_is_terminal,
             timestamp: self.has_timestamps,
             terminal_dimensions: self.dimensions,
-            hide_cursor: false,
             throughput: self.has_throughput,
-            level_filter: None,
             initial_delay: Some(self.delay.saturating_mul(1_000_000)),
             nanoseconds_per_frame: 1_000_000_000 / self.frames.max(1),
-            keep_running_if_progress_is_empty: true,
+            ..line::Options::default()
         }
     }
 }

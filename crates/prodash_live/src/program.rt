@@ -1,5 +1,4 @@
 //! The whole program over a reader, a writer and a clock.
-use crate::fault::Fault;
 use crate::feed::feed_lines;
 use crate::items::Items;
 use crate::options::Options;
@@ -7,16 +6,18 @@ use crate::watched::Watched;
 use prodash::render::line::render;
 use prodash::time::Clock;
 use prodash::tree::root;
+use prodash_programs::Fault;
 use std::alloc::Global;
 use std::io::{Read, Write};
 use std::sync::atomic::{AtomicBool, Ordering};
 use std::sync::{Arc, Wait};
 use std::thread::Threads;
 
-/// The greatest number of messages that are kept between two frames.
+/// The maximum number of messages that are kept between two frames.
 const MESSAGES: usize = 4096;
 
-/// Shows the events of `input` on `out` until the input ends. Returns how many lines were faulty.
+/// Shows the events of `input` on `out` until the input ends. Returns the number of faulty
+/// lines.
 ///
 /// # Errors
 ///

@@ -1,10 +1,10 @@
-//! A writer that tells whether it is broken.
+//! A writer that reports whether it is broken.
 use std::io;
 use std::io::Write;
 use std::sync::Arc;
 use std::sync::atomic::{AtomicBool, Ordering};
 
-/// Hands all calls on to a writer, and keeps whether one of them failed or took nothing.
+/// Forwards all calls to a writer, and records whether one failed or wrote nothing.
 #[derive(Drop)]
 pub struct Watched<O: Write + Drop> {
     out: O,

@@ -1,13 +1,16 @@
-ghost use Rattle.std.specs.Prelude.{◌<◌, IfOk};
+ghost use Rattle.std.specs.Prelude.{◌<◌};
 
-use crate::fault::Fault;
 use prodash_base::Refusal;
 use prodash_core::tree::{Event, Reply, RootOptions, SessionOptions, run};
 use prodash_line::render::line::draw::{self, MemoryScreen};
 use prodash_line::render::line::page::{Page, read};
-use prodash_lines::{number, parse};
+use prodash_programs::{Fault, dimension, report, write_all};
+use prodash_script::parse;
 use std::alloc::{AllocError, Global};
 use std::io::{Read, Write};
+
+/// The fault of arguments that are not a command and two dimensions.
+pub const USAGE: Fault = Fault::Usage("prodash-replay bytes|page COLUMNS ROWS");
 
 /// What the program writes of the frames.
 #[derive(Clone, Copy, Debug, PartialEq, Eq)]
@@ -28,21 +31,21 @@ struct Request {
     ghost high: { 0 < rows },
 }
 
-/// Runs the program: replays the events of `input`, one per line, with the command-line arguments
-/// `bytes COLUMNS ROWS` or `page COLUMNS ROWS`. `bytes` writes the bytes of all frames to `out`;
-/// `page` plays them on a page of that size and writes each row that it ever had, without trailing
-/// blanks. Returns the exit status.
+/// Runs the program: replays the events of `input`, one per line. `words` are the program's name,
+/// and then `bytes COLUMNS ROWS` or `page COLUMNS ROWS`. `bytes` writes the bytes of all frames to
+/// `out`; `page` plays them on a page of that size and writes each row that it ever had, without
+/// trailing blanks. Returns the exit status.
 ///
 /// If anything fails, one line on `err` says what. Unless it was `out` that failed, nothing has
 /// been written to `out` then.
 pub fn replay<R: Read, O: Write, E: Write>(
     alloc: Global,
-    args: &[String],
+    words: &[String],
     input: &mut R,
     out: &mut O,
     err: &mut E,
 ) -> u8 {
-    let written = match replayed(alloc, args, input) {
+    let written = match replayed(alloc, words, input) {
         Ok(bytes) => write_all(out, &bytes),
         Err(fault) => Err(fault),
     };
@@ -52,23 +55,9 @@ pub fn replay<R: Read, O: Write, E: Write>(
     }
 }
 
-/// Writes the fault's line to `err`, and returns its exit status.
-pub fn report<E: Write>(err: &mut E, fault: Fault) -> u8 {
-    let _ = writeln!(err, "{fault}");
-    fault.status()
-}
-
-/// Writes all bytes and flushes.
-fn write_all<O: Write>(out: &mut O, bytes: &[u8]) -> Result<(), Fault> {
-    if out.write_all(bytes).is_err() || out.flush().is_err() {
-        return Err(Fault::Output);
-    }
-    Ok(())
-}
-
 /// Returns what the replay is to write to its output.
-fn replayed<R: Read>(alloc: Global, args: &[String], input: &mut R) -> Result<Vec<u8>, Fault> {
-    let request = parse_args(args)?;
+fn replayed<R: Read>(alloc: Global, words: &[String], input: &mut R) -> Result<Vec<u8>, Fault> {
+    let request = parse_args(words)?;
     let mut bytes = Vec::new(alloc);
     if let Err(error) = input.read_to_end(&mut bytes) {
         return Err(Fault::of_input(&error));
@@ -82,32 +71,22 @@ fn replayed<R: Read>(alloc: Global, args: &[String], input: &mut R) -> Result<Ve
 }
 
 /// Parses the command line.
-fn parse_args(args: &[String]) -> Result<Request, Fault> {
-    let [command, columns, rows] = args else {
-        return Err(Fault::Usage);
+fn parse_args(words: &[String]) -> Result<Request, Fault> {
+    let [_, command, columns, rows] = words else {
+        return Err(USAGE);
     };
     let command = match command.as_str() {
         "bytes" => Command::Bytes,
         "page" => Command::Page,
-        _ => return Err(Fault::Usage),
+        _ => return Err(USAGE),
     };
-    let columns = dimension(columns.as_str())?;
-    let rows = dimension(rows.as_str())?;
+    let columns = dimension(columns.as_str()).ok_or(USAGE)?;
+    let rows = dimension(rows.as_str()).ok_or(USAGE)?;
     Ok(Request {
         command,
         columns,
         rows,
     })
-}
-
-/// Parses a number of columns or rows, from 1 to 65535.
-fn dimension(word: &str) -> Result<u16, Fault>
-    ensures { IfOk result (λ n. 0 < n) }
-{
-    match number(word) {
-        Some(n) if 0 < n && n <= u64::from(u16::MAX) => Ok(n as u16),
-        _ => Err(Fault::Usage),
-    }
 }
 
 /// Parses each line as an event. The last line may lack its line feed.
@@ -118,12 +97,13 @@ fn events_of(alloc: Global, bytes: &[u8]) -> Result<Vec<Event>, Fault> {
     }
     let bytes = bytes.strip_suffix(b"\n").unwrap_or(bytes);
     for (i, line) in bytes.split(|b| *b == b'\n').enumerate() {
+        let fault = Fault::Line(i as u64 + 1);
         let Ok(text) = str::from_utf8(line) else {
-            return Err(Fault::Line(i + 1));
+            return Err(fault);
         };
         match parse(alloc, text)? {
             Some(event) => events.push(event)?,
-            None => return Err(Fault::Line(i + 1)),
+            None => return Err(fault),
         }
     }
     Ok(events)

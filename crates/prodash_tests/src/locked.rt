@@ -12,7 +12,7 @@ use std::sync::atomic::Ordering;
 use std::test::*;
 use std::thread;
 
-const CAPACITIES: [usize; 4] = [0, 1, 20, 300];
+const CAPACITIES: [usize; 5] = [0, 1, 20, 300, 70_000];
 
 #[test]
 fn options_have_defaults(rt: HostRuntime) -> Result<(), Fail> {
@@ -30,7 +30,7 @@ fn options_have_defaults(rt: HostRuntime) -> Result<(), Fail> {
     Ok(())
 }
 
-/// Another owner sees the tasks, and is dropped.
+/// Asserts that another owner sees the tasks, and is dropped.
 fn assert_owner<R: Wait + Clone + Drop>(rt: &impl Abort, owner: Root<R>, tasks: usize) {
     assert_same(rt, owner.num_tasks(), tasks, "tasks");
 }
@@ -50,7 +50,7 @@ fn items_are_no_owners(rt: HostRuntime) -> Result<(), Fail> {
     assert_counts(&rt, &item)
 }
 
-/// The item goes on without an owner.
+/// Asserts that the item goes on without an owner.
 fn assert_counts<R: Wait + Clone + Drop>(rt: &impl Abort, item: &Item<R>) -> Result<(), Fail> {
     item.init(Some(10), None);
     item.set(5);
@@ -90,7 +90,7 @@ fn items_show_key_and_step(rt: HostRuntime) -> Result<(), Fail> {
     let item = root.add_child(rt.alloc(), "task")?;
     item.set(3);
     let text = format!(in rt.alloc(); "{item:?}")?;
-    let begins = text.as_str().starts_with("Item { key: Key {");
+    let begins = text.as_str().starts_with("Item { key: Key [0]");
     let ends = text.as_str().ends_with("step: 3, .. }");
     assert_same(&rt, (begins, ends), (true, true), text.as_str());
     Ok(())
@@ -108,7 +108,7 @@ fn add_and_drop<R: Wait + Clone + Drop>(
     Ok(())
 }
 
-/// An item without an entry has a step alone, and its messages have no origin.
+/// Asserts that an item without an entry has a step alone, and its messages have no origin.
 fn assert_no_entry<R: Wait + Clone + Drop>(
     rt: &impl Abort,
     alloc: Global,
@@ -125,28 +125,124 @@ fn assert_no_entry<R: Wait + Clone + Drop>(
     item.message(alloc, 0, MessageLevel::Info, "said")
 }
 
-/// After 65536 children the number is 0 again: the item there takes the place of the first, and
-/// loses its entry once the first is dropped.
+/// Asserts that an item whose entry is gone says so, and that its message has no origin.
+fn assert_message_without_origin<R: Wait + Clone + Drop>(
+    rt: &impl Abort,
+    alloc: Global,
+    root: &Root<R>,
+    item: &mut Item<R>,
+) -> Result<(), Refusal> {
+    assert_no_entry(rt, alloc, item)?;
+    let mut said = Vec::new(alloc);
+    root.copy_messages(alloc, &mut said)?;
+    let want = messages_of(alloc, &[("", "said")])?;
+    assert_same(rt, said.as_slice(), want.as_slice(), "messages");
+    Ok(())
+}
+
+/// The child of an item at the sixth level takes its place, and loses its entry once that item is
+/// dropped.
 #[test]
-fn child_numbers_wrap(rt: HostRuntime) -> Result<(), Fail> {
+fn a_child_of_the_sixth_level_loses_its_entry_with_its_parent(rt: HostRuntime) -> Result<(), Fail> {
+    let alloc: Global = rt.alloc();
+    let root = Root::new(rt, alloc)?;
+    let mut parent = root.add_child(alloc, "task")?;
+    for _ in 1..6 {
+        parent = parent.add_child(alloc, "part")?;
+    }
+    let mut child = parent.add_child_with_id(alloc, "Z", *b"LAST")?;
+    assert_same(&rt, root.num_tasks(), 1, "tasks");
+    assert_same(&rt, child.name(alloc)?.as_deref(), Some("Z"), "name");
+    assert_same(&rt, parent.id(), *b"LAST", "identifier");
+    drop(parent);
+    assert_message_without_origin(&rt, alloc, &root, &mut child)?;
+    Ok(())
+}
+
+/// Asserts that the last row of a tree is the 65537th of the root's children, and has a progress.
+fn assert_last_row<R: Wait + Clone + Drop>(
+    rt: &impl Abort,
+    alloc: Global,
+    root: &Root<R>,
+) -> Result<(), Fail> {
+    let mut rows = Vec::new(alloc);
+    root.sorted_snapshot(alloc, &mut rows)?;
+    let row = rows.last().ok_or("no row")?;
+    assert_same(rt, row.key, key_at(&[65536]), "key");
+    assert_same(rt, row.name.as_str(), "Z", "name");
+    assert_same(rt, row.progress.is_some(), true, "progress");
+    Ok(())
+}
+
+/// After 65536 children of the root the next one has a number of its own, so the first keeps its
+/// entry.
+#[test]
+fn the_child_after_65536_has_a_place_of_its_own(rt: HostRuntime) -> Result<(), Fail> {
     let alloc: Global = rt.alloc();
     let root = Root::new(rt, alloc)?;
     let first = root.add_child(alloc, "A")?;
     add_and_drop(&root, alloc, 65535)?;
-    let mut last = root.add_child_with_id(alloc, "Z", *b"LAST")?;
-    assert_same(&rt, root.num_tasks(), 1, "tasks");
-    assert_same(&rt, last.name(alloc)?.as_deref(), Some("Z"), "name");
-    assert_same(&rt, first.id(), *b"LAST", "identifier");
+    let last = root.add_child(alloc, "Z")?;
+    assert_same(&rt, first.name(alloc)?.as_deref(), Some("A"), "first name");
+    assert_same(&rt, root.num_tasks(), 2, "tasks");
     drop(first);
-    assert_no_entry(&rt, alloc, &mut last)?;
-    let mut said = Vec::new(alloc);
-    root.copy_messages(alloc, &mut said)?;
-    let want = messages_of(alloc, &[("", "said")])?;
-    assert_same(&rt, said.as_slice(), want.as_slice(), "messages");
+    assert_same(&rt, last.name(alloc)?.as_deref(), Some("Z"), "last name");
+    last.init(Some(1), None);
+    assert_same(&rt, last.max(), Some(1), "bound");
+    assert_last_row(&rt, alloc, &root)
+}
+
+/// Adds and drops children of an item.
+fn add_and_drop_below<R: Wait + Clone + Drop>(
+    item: &mut Item<R>,
+    alloc: Global,
+    count: u32,
+) -> Result<(), Refusal> {
+    for _ in 0..count {
+        item.add_child(alloc, "more")?;
+    }
     Ok(())
 }
 
-/// A tree has these rows, and these messages since an earlier copy, which returned `previous`.
+/// Asserts that a tree has rows at these keys.
+fn assert_keys<R: Wait + Clone + Drop>(
+    rt: &impl Abort,
+    alloc: Global,
+    root: &Root<R>,
+    keys: &[&[u32]],
+) -> Result<(), Fail> {
+    let mut rows = Vec::new(alloc);
+    root.sorted_snapshot(alloc, &mut rows)?;
+    assert_same(rt, rows.len(), keys.len(), "rows");
+    for (row, numbers) in rows.iter().zip(keys) {
+        assert_same(rt, row.key, key_at(numbers), *numbers);
+    }
+    Ok(())
+}
+
+/// None of 200,000 children that are added and dropped one after another takes the place of one
+/// that stays.
+#[test]
+fn children_that_stay_keep_their_rows(rt: HostRuntime) -> Result<(), Fail> {
+    let alloc: Global = rt.alloc();
+    let root = Root::new(rt, alloc)?;
+    let mut item = root.add_child(alloc, "task")?;
+    let first = item.add_child(alloc, "first")?;
+    add_and_drop_below(&mut item, alloc, 200000)?;
+    let last = item.add_child(alloc, "last")?;
+    assert_keys(&rt, alloc, &root, &[&[0], &[0, 0], &[0, 200001]])?;
+    assert_same(
+        &rt,
+        first.name(alloc)?.as_deref(),
+        Some("first"),
+        "first name",
+    );
+    assert_same(&rt, last.name(alloc)?.as_deref(), Some("last"), "last name");
+    Ok(())
+}
+
+/// Asserts that a tree has these rows, and these messages since an earlier copy, which returned
+/// `previous`.
 fn assert_holds<R: Wait + Clone + Drop>(
     rt: &impl Abort,
     alloc: Global,
@@ -204,7 +300,7 @@ fn deep_clones_take_messages(rt: HostRuntime) -> Result<(), Fail> {
 
 const COPIED: &[ShortRow] = &[(&[0], "task", Some((3, Some(10))))];
 
-/// The copy has the row and the message that the tree had.
+/// Asserts that the copy has the row and the message that the tree had.
 fn assert_copied<R: Wait + Clone + Drop>(
     rt: &impl Abort,
     alloc: Global,
@@ -221,7 +317,7 @@ fn assert_copied<R: Wait + Clone + Drop>(
     Ok(())
 }
 
-/// The next child of the copy has the number 1.
+/// Asserts that the next child of the copy has the number 1.
 fn assert_grows<R: Wait + Clone + Drop>(
     rt: &impl Abort,
     alloc: Global,
@@ -279,7 +375,7 @@ fn works<R: Wait + Clone + Drop>(root: &Root<R>, alloc: Global) -> bool {
     work(root, alloc).is_ok()
 }
 
-/// Of 800 messages the tree keeps the last 20.
+/// Asserts that of 800 messages the tree keeps the last 20.
 fn assert_last_kept<R: Wait + Clone + Drop>(
     rt: &impl Abort,
     alloc: Global,
@@ -308,5 +404,46 @@ fn four_threads_share_a_root(rt: HostRuntime) -> Result<(), Fail> {
     });
     assert_same(&rt, root.num_tasks(), 0, "tasks");
     assert_last_kept(&rt, alloc, &root)?;
+    Ok(())
+}
+
+/// Adds to the counter of an item, in each way.
+fn count_up<R: Wait + Clone + Drop>(item: &Item<R>) {
+    for _ in 0..50_000u32 {
+        item.inc();
+        item.inc_by(2);
+        item.steps().inc();
+    }
+}
+
+/// No step is lost if four threads add to one counter, which wraps.
+#[test]
+fn four_threads_share_a_counter(rt: HostRuntime) -> Result<(), Fail> {
+    let root = Root::new(rt, rt.alloc())?;
+    let item = root.add_child(rt.alloc(), "task")?;
+    item.set(u64::MAX);
+    let shared = &item;
+    thread::scope(thread::scope_env(), &rt, |scope| {
+        for _ in 0..4u32 {
+            if scope.spawn(move || count_up(shared)).is_err() {
+                count_up(shared);
+            }
+        }
+    });
+    assert_same(&rt, item.step(), Some(799_999), "step");
+    drop(item);
+    Ok(())
+}
+
+#[test]
+fn there_may_be_many_tasks(rt: HostRuntime) -> Result<(), Fail> {
+    let root = Root::new(rt, rt.alloc())?;
+    let mut items = Vec::new(rt.alloc());
+    for _ in 0..1001u32 {
+        items.push(root.add_child(rt.alloc(), "task")?)?;
+    }
+    assert_same(&rt, root.num_tasks(), 1001, "tasks");
+    drop(items);
+    assert_same(&rt, root.num_tasks(), 0, "tasks after the drop");
     Ok(())
 }

@@ -1,10 +1,9 @@
 //! A locked tree and a session that get the same events: their replies are equal.
-use crate::fixtures::assert_same;
-use crate::runs::options;
+use crate::fixtures::{TERMINAL, assert_same};
 use prodash::messages::{MessageCopyState, MessageLevel, Messages};
 use prodash::progress::{Id, Rows, UNKNOWN};
 use prodash::render::line::draw::MemoryScreen;
-use prodash::tree::{Event, Handle, Item, Reply, Root, Session};
+use prodash::tree::{Event, Handle, Item, Reply, Root, RootOptions, Session, SessionOptions};
 use prodash::unit::label;
 use prodash::{Refusal, Text};
 use std::alloc::{AllocError, Global};
@@ -18,6 +17,8 @@ use std::test::*;
 struct LockedTree<R: Wait + Clone + Drop> {
     root: Root<R>,
     items: Vec<Option<Item<R>>>,
+    /// The names of the events that it got, and of the calls where an event has several.
+    calls: Vec<&'static str>,
 }
 
 impl<R: Wait + Clone + Drop> LockedTree<R> {
@@ -27,6 +28,7 @@ impl<R: Wait + Clone + Drop> LockedTree<R> {
         Ok(LockedTree {
             root: Root::new(rt, alloc)?,
             items,
+            calls: Vec::new(alloc),
         })
     }
 
@@ -64,10 +66,22 @@ impl<R: Wait + Clone + Drop> LockedTree<R> {
         id: Id,
     ) -> Result<Item<R>, Refusal> {
         match (parent, id == UNKNOWN) {
-            (0, true) => self.root.add_child(alloc, name),
-            (0, false) => self.root.add_child_with_id(alloc, name, id),
-            (_, true) => self.item_mut(parent)?.add_child(alloc, name),
-            (_, false) => self.item_mut(parent)?.add_child_with_id(alloc, name, id),
+            (0, true) => {
+                self.calls.push("Root::add_child")?;
+                self.root.add_child(alloc, name)
+            }
+            (0, false) => {
+                self.calls.push("Root::add_child_with_id")?;
+                self.root.add_child_with_id(alloc, name, id)
+            }
+            (_, true) => {
+                self.calls.push("Item::add_child")?;
+                self.item_mut(parent)?.add_child(alloc, name)
+            }
+            (_, false) => {
+                self.calls.push("Item::add_child_with_id")?;
+                self.item_mut(parent)?.add_child_with_id(alloc, name, id)
+            }
         }
     }
 
@@ -100,6 +114,13 @@ impl<R: Wait + Clone + Drop> LockedTree<R> {
         level: MessageLevel,
         text: &str,
     ) -> Result<Reply, Refusal> {
+        let call = match level {
+            _ if at % 2 == 0 => "Item::message",
+            MessageLevel::Info => "Item::info",
+            MessageLevel::Success => "Item::done",
+            MessageLevel::Failure => "Item::fail",
+        };
+        self.calls.push(call)?;
         let item = self.item_mut(handle)?;
         match level {
             _ if at % 2 == 0 => item.message(alloc, at, level, text)?,
@@ -112,6 +133,7 @@ impl<R: Wait + Clone + Drop> LockedTree<R> {
 
     /// Applies an event to items.
     fn change(&mut self, alloc: Global, event: &Event) -> Result<Reply, Refusal> {
+        self.calls.push(name_of(event))?;
         match event {
             Event::AddChild { parent, name, id } => {
                 return self.add_child(alloc, *parent, name.as_str(), *id);
@@ -170,6 +192,57 @@ impl<R: Wait + Clone + Drop> LockedTree<R> {
     }
 }
 
+/// Returns the name of an event.
+fn name_of(event: &Event) -> &'static str {
+    match event {
+        Event::AddChild { .. } => "AddChild",
+        Event::Drop { .. } => "Drop",
+        Event::Init { .. } => "Init",
+        Event::SetName { .. } => "SetName",
+        Event::SetMax { .. } => "SetMax",
+        Event::Set { .. } => "Set",
+        Event::IncBy { .. } => "IncBy",
+        Event::Blocked { .. } => "Blocked",
+        Event::Halted { .. } => "Halted",
+        Event::Running { .. } => "Running",
+        Event::Message { .. } => "Message",
+        Event::Name { .. } => "Name",
+        Event::Id { .. } => "Id",
+        Event::Step { .. } => "Step",
+        Event::Max { .. } => "Max",
+        Event::Unit { .. } => "Unit",
+        Event::NumTasks => "NumTasks",
+        Event::Snapshot => "Snapshot",
+        Event::CopyMessages => "CopyMessages",
+        Event::CopyNew { .. } => "CopyNew",
+        Event::DropRoot => "DropRoot",
+        Event::Tick { .. } => "Tick",
+        Event::Resize { .. } => "Resize",
+        Event::Quit { .. } => "Quit",
+    }
+}
+
+/// The events of which there are at least 50: all but the frames and the drop of the root.
+const EVENTS: &str = "AddChild Drop Init SetName SetMax Set IncBy Blocked Halted Running Message \
+Name Id Step Max Unit NumTasks Snapshot CopyMessages CopyNew";
+
+/// The calls of which there are at least 10, where one event has several.
+const CALLS: &str = "Root::add_child Root::add_child_with_id Item::add_child \
+Item::add_child_with_id Item::message Item::info Item::done Item::fail";
+
+/// Asserts that each of these names came at least that often.
+fn assert_called(rt: &impl Abort, calls: &[&str], names: &str, least: usize) {
+    for name in names.split(' ') {
+        let mut count: usize = 0;
+        for call in calls {
+            if *call == name {
+                count = count.saturating_add(1);
+            }
+        }
+        assert_same(rt, count >= least, true, (name, count));
+    }
+}
+
 /// How many kinds of events there are for the handle of an item or the root.
 const KINDS: u64 = 20;
 
@@ -194,9 +267,9 @@ fn bound(n: u64) -> Option<u64> {
 /// Adds a child of the root or of an item, with or without an identifier.
 fn added(alloc: Global, item: Handle, n: u64) -> Result<Event, AllocError> {
     Ok(Event::AddChild {
-        parent: if n % 4 == 0 { 0 } else { item },
+        parent: if n % 3 == 0 { 0 } else { item },
         name: text(alloc, n >> 3)?,
-        id: if n % 2 == 0 { UNKNOWN } else { *b"TASK" },
+        id: if n >> 7 & 1 == 0 { UNKNOWN } else { *b"TASK" },
     })
 }
 
@@ -273,8 +346,13 @@ struct Mirror<R: Wait + Clone + Drop> {
 
 impl<R: Wait + Clone + Drop> Mirror<R> {
     fn new(rt: R, alloc: Global) -> Result<Mirror<R>, Refusal> {
+        let options = SessionOptions {
+            root: RootOptions::default(),
+            draw: TERMINAL,
+            throughput: false,
+        };
         Ok(Mirror {
-            session: Session::new(alloc, &options(20))?,
+            session: Session::new(alloc, &options)?,
             screen: MemoryScreen::new(alloc, 0)?,
             tree: LockedTree::new(rt, alloc)?,
         })
@@ -294,7 +372,7 @@ impl<R: Wait + Clone + Drop> Mirror<R> {
         }
     }
 
-    /// Both reply the same to an event, and the session refuses none.
+    /// Asserts that both reply the same to an event, and the session refuses none.
     fn assert_changes(
         &mut self,
         rt: &impl Abort,
@@ -310,7 +388,7 @@ impl<R: Wait + Clone + Drop> Mirror<R> {
         Ok(())
     }
 
-    /// Both reply the same to an event that only reads, after the event at a place.
+    /// Asserts that both reply the same to an event that only reads, after the event at a place.
     fn assert_looks(
         &mut self,
         rt: &impl Abort,
@@ -324,7 +402,7 @@ impl<R: Wait + Clone + Drop> Mirror<R> {
         Ok(())
     }
 
-    /// Both reply the same to the event at a place, and look the same after it.
+    /// Asserts that both reply the same to the event at a place, and look the same after it.
     fn assert_place(
         &mut self,
         rt: &impl Abort,
@@ -342,7 +420,7 @@ impl<R: Wait + Clone + Drop> Mirror<R> {
 }
 
 /// After each of 2000 events the replies, the snapshots, the messages and the numbers of tasks of
-/// both are equal.
+/// both are equal. All kinds of events and calls come often.
 #[test]
 fn a_locked_tree_replies_as_a_session(rt: HostRuntime) -> Result<(), Fail> {
     let alloc: Global = rt.alloc();
@@ -353,5 +431,7 @@ fn a_locked_tree_replies_as_a_session(rt: HostRuntime) -> Result<(), Fail> {
         mirror.assert_place(&rt, alloc, place, n)?;
     }
     assert_same(&rt, mirror.screen.bytes().is_empty(), true, "screen");
+    assert_called(&rt, &mirror.tree.calls, EVENTS, 50);
+    assert_called(&rt, &mirror.tree.calls, CALLS, 10);
     Ok(())
 }

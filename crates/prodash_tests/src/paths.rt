@@ -35,8 +35,11 @@ fn progress<C>(
     _owner: &prodash::progress::StepShared,
     _adjacency: prodash::progress::key::Adjacency,
     _location: prodash::progress::key::SiblingLocation,
-) -> prodash::progress::Id {
-    prodash::progress::UNKNOWN
+) -> (prodash::progress::Id, u32) {
+    (
+        prodash::progress::UNKNOWN,
+        prodash::progress::key::next_id(0),
+    )
 }
 
 fn units(

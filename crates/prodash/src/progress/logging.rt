@@ -1,6 +1,7 @@
 //! Progress that is logged in lines.
-ghost use Rattle.std.specs.Prelude.{◌≡◌, ◌⊎◌, ℕ, List, OnOk, OnErr, IfOk, IfErr, option_map, string_bytes};
-ghost use Rattle.prodash.specs.Logs.{new_log, child_log, joined, line_text, message_text, IsFirstPart, IsSecondPart};
+ghost use Rattle.std.specs.Prelude.{◌≡◌, OnOk, OnErr, IfOk, IfErr, option_map, string_bytes, IsOkUnless};
+ghost use Rattle.prodash_base.specs.Refusals.{RefusesThread};
+ghost use Rattle.prodash.specs.Logs.{new_log, child_log, message_text, IsLineOf, Renames, IsSecondPart};
 
 mod names;
 mod texts;
@@ -10,6 +11,7 @@ mod traits;
 use crate::messages::MessageLevel;
 use crate::progress::{AtomicStep, Id, Step, StepShared, UNKNOWN};
 use crate::time::{Clock, Moment};
+use crate::tree::Steps;
 use crate::unit::Unit;
 use log::{Log as Logger, error, info};
 use prodash_base::{Refusal, Text};
@@ -24,8 +26,8 @@ use std::thread::Threads;
 const STACK_SIZE: usize = 1 << 20;
 
 /// Progress whose steps are logged as lines, and whose messages are logged as they are sent. A log
-/// and all logs below it together log at most one step per half second of the clock `K`. It needs no
-/// tree and no renderer. Contracts see all but its counter.
+/// and all logs below it together log at most one step per half second of the clock `K`. It needs
+/// no tree and no renderer. Contracts see all but its counter.
 ///
 /// ```rust
 /// let mut log = Log::new(&rt, alloc, "main", None, logger, clock)?;
@@ -42,7 +44,7 @@ pub struct Log<L: Logger + Drop, K: Clock + Drop> {
     unit: Option<Unit>,
     level: usize,
     max_level: Option<usize>,
-    counter: StepShared,
+    steps: Steps,
     /// Whether the next step is logged.
     trigger: Arc<AtomicBool>,
     logger: Arc<L>,
@@ -81,7 +83,7 @@ impl<L: Logger + Drop, K: Clock + Drop + Send + Sync + 'static> Log<L, K> {
         clock: Arc<K>,
     ) -> Result<Log<L, K>, Refusal>
         ensures ok { IfOk result (λ log. log ≡ new_log name.now UNKNOWN 0 max_level) }
-        ensures err { IfErr result (λ e. (e ≡ Refusal.Memory) ⊎ (e ≡ Refusal.NoThread)) }
+        ensures reason { IfErr result RefusesThread }
     {
         Log::with_stack_size(rt, alloc, name, max_level, logger, clock, STACK_SIZE)
     }
@@ -101,7 +103,7 @@ impl<L: Logger + Drop, K: Clock + Drop + Send + Sync + 'static> Log<L, K> {
         stack_size: usize,
     ) -> Result<Log<L, K>, Refusal>
         ensures ok { IfOk result (λ log. log ≡ new_log name.now UNKNOWN 0 max_level) }
-        ensures err { IfErr result (λ e. (e ≡ Refusal.Memory) ⊎ (e ≡ Refusal.NoThread)) }
+        ensures reason { IfErr result RefusesThread }
     {
         let log = Log {
             alloc,
@@ -111,7 +113,7 @@ impl<L: Logger + Drop, K: Clock + Drop + Send + Sync + 'static> Log<L, K> {
             unit: None,
             level: 0,
             max_level,
-            counter: Arc::new(alloc, AtomicStep::new(0))?,
+            steps: Steps::new(Arc::new(alloc, AtomicStep::new(0))?),
             trigger: Arc::new(alloc, AtomicBool::new(true))?,
             logger: Arc::new(alloc, logger)?,
             clock: PhantomData,
@@ -128,12 +130,10 @@ impl<L: Logger + Drop, K: Clock + Drop> Log<L, K> {
     ///
     /// `Memory`, if there is no memory for it.
     pub fn line(&self, alloc: Global) -> Result<String, Refusal>
-        ensures ok { IfOk result (λ line. (step : ℕ) × (string_bytes line
-            ≡ line_text self.now step)) }
-        ensures err { IfErr result (λ e. e ≡ Refusal.Memory) }
+        ensures ok { IfOk result (λ line. IsLineOf self.now (string_bytes line)) }
+        ensures reason { IsOkUnless result Refusal.Memory }
     {
-        let step = self.counter.load(Ordering::SeqCst);
-        texts::line(alloc, self.name.as_str(), self.max, self.unit, step)
+        texts::line(alloc, self.name.as_str(), self.max, self.unit, self.step())
     }
 
     /// Returns the line of a message, as `✓main::work → done`.
@@ -149,21 +149,21 @@ impl<L: Logger + Drop, K: Clock + Drop> Log<L, K> {
     ) -> Result<String, Refusal>
         ensures ok { IfOk result (λ line. string_bytes line
             ≡ message_text self.now.name level message.now) }
-        ensures err { IfErr result (λ e. e ≡ Refusal.Memory) }
+        ensures reason { IsOkUnless result Refusal.Memory }
     {
         texts::message_line(alloc, self.name.as_str(), level, message)
     }
 
-    /// Sets the step, and logs the line of it if one is due.
+    /// Sets the step, and logs its line if one is due.
     pub fn set(&self, step: Step) {
-        self.counter.store(step, Ordering::SeqCst);
+        self.steps.set(step);
         self.log_step();
     }
 
-    /// Adds `step` steps to the counter, and logs the line of the sum if one is due. A sum past
-    /// 2^64 - 1 starts again from 0.
+    /// Adds `step` to the counter, and logs the line of the sum if one is due. The sum wraps around
+    /// at 2^64.
     pub fn inc_by(&self, step: Step) {
-        self.counter.fetch_add(step, Ordering::SeqCst);
+        self.steps.inc_by(step);
         self.log_step();
     }
 
@@ -174,18 +174,18 @@ impl<L: Logger + Drop, K: Clock + Drop> Log<L, K> {
 
     /// Returns the step.
     pub fn step(&self) -> Step {
-        self.counter.load(Ordering::SeqCst)
+        self.steps.step()
     }
 
-    /// Returns one more owner of the counter. What changes the counter through it logs no line.
+    /// Returns another owner of the counter. Changes made through it log no line.
     ///
     /// # Errors
     ///
-    /// `Memory`, if the counter can't have one more owner.
+    /// `Memory`, if the counter's reference count is at its limit.
     pub fn counter(&self) -> Result<StepShared, Refusal>
-        ensures { IfErr result (λ e. e ≡ Refusal.Memory) }
+        ensures { IsOkUnless result Refusal.Memory }
     {
-        Ok(Arc::try_clone(&self.counter)?)
+        self.steps.counter()
     }
 
     /// Sets the bound and the unit. The step stays as it is.
@@ -232,10 +232,9 @@ impl<L: Logger + Drop, K: Clock + Drop> Log<L, K> {
     ///
     /// `Memory`, if there is no memory for the name. Nothing has changed then.
     pub fn set_name(&mut self, alloc: Global, name: &str) -> Result<(), Refusal>
-        ensures ok { OnOk result ((first : List ℕ) × IsFirstPart self.old.name first
-            × (self.new ≡ record self.old { name = joined first name.now })) }
+        ensures ok { OnOk result (Renames self.old name.now self.new) }
         ensures err { OnErr result (self.new ≡ self.old) }
-        ensures reason { IfErr result (λ e. e ≡ Refusal.Memory) }
+        ensures reason { IsOkUnless result Refusal.Memory }
     {
         let first = names::first_part(self.name.as_str());
         self.name = names::joined(alloc, first, name)?;
@@ -251,7 +250,7 @@ impl<L: Logger + Drop, K: Clock + Drop> Log<L, K> {
     pub fn name(&self, alloc: Global) -> Result<Option<String>, Refusal>
         ensures ok { IfOk result (λ name.
             IsSecondPart self.now.name (option_map string_bytes name)) }
-        ensures err { IfErr result (λ e. e ≡ Refusal.Memory) }
+        ensures reason { IsOkUnless result Refusal.Memory }
     {
         match names::second_part(self.name.as_str()) {
             None => Ok(None),
@@ -259,8 +258,8 @@ impl<L: Logger + Drop, K: Clock + Drop> Log<L, K> {
         }
     }
 
-    /// Logs a message, as an error if it is a failure, and else as information. Its moment isn't
-    /// logged.
+    /// Logs a message, as an error if it is a failure and as information otherwise. Its moment
+    /// isn't logged.
     ///
     /// # Errors
     ///
@@ -272,7 +271,7 @@ impl<L: Logger + Drop, K: Clock + Drop> Log<L, K> {
         level: MessageLevel,
         message: &str,
     ) -> Result<(), Refusal>
-        ensures { IfErr result (λ e. e ≡ Refusal.Memory) }
+        ensures { IsOkUnless result Refusal.Memory }
     {
         let line = self.message_line(alloc, level, message)?;
         match level {
@@ -282,15 +281,15 @@ impl<L: Logger + Drop, K: Clock + Drop> Log<L, K> {
         Ok(())
     }
 
-    /// Returns a log below this one, without a bound and a unit, at the step 0. Both log at most
-    /// one step in half a second between them.
+    /// Returns a log below this one, without a bound and a unit, at step 0. Together they log at
+    /// most one step per half second.
     ///
     /// # Errors
     ///
     /// `Memory`, if there is no memory for it.
     pub fn add_child(&self, alloc: Global, name: &str) -> Result<Log<L, K>, Refusal>
         ensures ok { IfOk result (λ child. child ≡ child_log self.now name.now UNKNOWN) }
-        ensures err { IfErr result (λ e. e ≡ Refusal.Memory) }
+        ensures reason { IsOkUnless result Refusal.Memory }
     {
         self.add_child_with_id(alloc, name, UNKNOWN)
     }
@@ -302,7 +301,7 @@ impl<L: Logger + Drop, K: Clock + Drop> Log<L, K> {
     /// `Memory`, if there is no memory for it.
     pub fn add_child_with_id(&self, alloc: Global, name: &str, id: Id) -> Result<Log<L, K>, Refusal>
         ensures ok { IfOk result (λ child. child ≡ child_log self.now name.now id) }
-        ensures err { IfErr result (λ e. e ≡ Refusal.Memory) }
+        ensures reason { IsOkUnless result Refusal.Memory }
     {
         Ok(Log {
             alloc: self.alloc,
@@ -312,15 +311,15 @@ impl<L: Logger + Drop, K: Clock + Drop> Log<L, K> {
             unit: None,
             level: self.level.saturating_add(1),
             max_level: self.max_level,
-            counter: Arc::new(alloc, AtomicStep::new(0))?,
+            steps: Steps::new(Arc::new(alloc, AtomicStep::new(0))?),
             trigger: Arc::try_clone(&self.trigger)?,
             logger: Arc::try_clone(&self.logger)?,
             clock: PhantomData,
         })
     }
 
-    /// Logs the line of now, if steps of this level are logged and the trigger is set, and unsets
-    /// the trigger. A line that runs out of memory is left out.
+    /// Logs the current line and clears the trigger, if steps of this level are logged and the
+    /// trigger is set. A line that runs out of memory is skipped.
     fn log_step(&self) {
         if self.max_level.is_some_and(|most| self.level > most) {
             return;

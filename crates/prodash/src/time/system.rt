@@ -3,7 +3,7 @@ use crate::time::{Clock, Moment};
 use std::time::Duration;
 use std::{rt, thread};
 
-/// The clock of the system, through the runtime. It is in UTC.
+/// The clock of the system, in UTC, read through the runtime.
 ///
 /// ```rust
 /// let clock = Arc::new(alloc, SystemClock::new(rt))?;
@@ -22,8 +22,8 @@ impl<R: rt::Clock + Drop> SystemClock<R> {
 }
 
 impl<R: rt::Clock + Drop> Clock for SystemClock<R> {
-    /// Returns the moment now. If the system's clock can't be read, or reads a time before 1970, it
-    /// returns 0; and past the last moment of 64 bits it returns that.
+    /// Returns the current moment. It is 0 if the system's clock can't be read or shows a time
+    /// before 1970, and 2^64 - 1 past the last moment of 64 bits.
     fn now(&self) -> Moment {
         match self.rt.since_1970() {
             Ok(now) => u64::try_from(now.as_nanos()).unwrap_or(u64::MAX),

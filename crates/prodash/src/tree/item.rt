@@ -1,10 +1,10 @@
 //! Items of the locked tree.
-ghost use Rattle.std.specs.Prelude.{◌≡◌, OnOk, OnErr, IfOk, IfErr, true, is_some};
+ghost use Rattle.std.specs.Prelude.{◌≡◌, OnOk, OnErr, IfOk, IfErr, true, is_some, IsOkUnless};
 ghost use Rattle.prodash_base.specs.Refusals.{RefusesMessage};
 ghost use Rattle.prodash.specs.Items.{new_place, next_path, with_child};
 
 use crate::messages::MessageLevel;
-use crate::progress::{Id, Key, State, Step, StepShared, UNKNOWN};
+use crate::progress::{Id, Key, State, Step, StepShared, UNKNOWN, key};
 use crate::time::Moment;
 use crate::tree::locked::Locked;
 use crate::tree::steps::Steps;
@@ -15,9 +15,9 @@ use std::fmt;
 use std::marker::Model;
 use std::sync::{Arc, Mutex, Wait};
 
-/// An item of the tree. Once it is dropped, its task is removed, but not the tasks below it. All
-/// calls but those on its step may wait for the lock of the tree, its drop too. Contracts see its
-/// path and the number of its next child.
+/// An item of the tree. Dropping it removes its task, but not the tasks below it. All calls but
+/// those on its step may wait for the lock of the tree, and so may its drop. Contracts see its path
+/// and the number of its next child.
 ///
 /// ```rust
 /// let mut task = root.add_child(alloc, "task")?;
@@ -31,7 +31,7 @@ pub struct Item<R: Wait + Clone + Drop> {
     rt: R,
     shared: Arc<Mutex<Locked>>,
     key: Key,
-    next_child: u16,
+    next_child: u32,
     slot: usize,
     steps: Steps,
 }
@@ -80,7 +80,7 @@ impl<R: Wait + Clone + Drop> Item<R> {
     ///
     /// `Memory`, if there is no memory for the name. Nothing has changed then.
     pub fn set_name(&self, alloc: Global, name: &str) -> Result<(), Refusal>
-        ensures { IfErr result (λ e. e ≡ Refusal.Memory) }
+        ensures { IsOkUnless result Refusal.Memory }
     {
         self.shared
             .lock(&self.rt)
@@ -94,7 +94,7 @@ impl<R: Wait + Clone + Drop> Item<R> {
     ///
     /// `Memory`, if there is no memory for the copy.
     pub fn name(&self, alloc: Global) -> Result<Option<String>, Refusal>
-        ensures { IfErr result (λ e. e ≡ Refusal.Memory) }
+        ensures { IsOkUnless result Refusal.Memory }
     {
         self.shared.lock(&self.rt).name(alloc, self.key)
     }
@@ -119,19 +119,19 @@ impl<R: Wait + Clone + Drop> Item<R> {
         self.shared.lock(&self.rt).table.set_max(self.key, max)
     }
 
-    /// Sets the state of the item's progress, if it has progress: it can't go on, and can't be
-    /// interrupted. `eta` is the moment at which it is expected to go on, if known.
+    /// Marks the item's progress, if it has any, as blocked: it can't continue and can't be
+    /// interrupted. `eta` is the moment at which it is expected to continue, if known.
     pub fn blocked(&self, reason: &'static str, eta: Option<Moment>) {
         self.set_state(State::Blocked(reason, eta));
     }
 
-    /// Sets the state of the item's progress, if it has progress: it has stopped, and can be
-    /// interrupted. `eta` is the moment at which it is expected to go on, if known.
+    /// Marks the item's progress, if it has any, as halted: it can't continue, but can be
+    /// interrupted. `eta` is the moment at which it is expected to continue, if known.
     pub fn halted(&self, reason: &'static str, eta: Option<Moment>) {
         self.set_state(State::Halted(reason, eta));
     }
 
-    /// Sets the state of the item's progress, if it has progress: it is running.
+    /// Marks the item's progress, if it has any, as running.
     pub fn running(&self) {
         self.set_state(State::Running);
     }
@@ -140,47 +140,46 @@ impl<R: Wait + Clone + Drop> Item<R> {
         self.shared.lock(&self.rt).table.set_state(self.key, state);
     }
 
-    /// Sets the step of the item, without the lock. It changes also before `init`.
+    /// Sets the step of the item without taking the lock, even before `init`.
     pub fn set(&self, step: Step) {
         self.steps.set(step);
     }
 
-    /// Adds `step` steps to the item's counter, without the lock. A sum past 2^64 - 1 starts again
-    /// from 0.
+    /// Adds `step` to the item's counter without taking the lock. The sum wraps around at 2^64.
     pub fn inc_by(&self, step: Step) {
         self.steps.inc_by(step);
     }
 
-    /// Adds 1 to the step of the item, without the lock. The step after 2^64 - 1 is 0.
+    /// Adds 1 to the item's counter without taking the lock. The sum wraps around at 2^64.
     pub fn inc(&self) {
         self.steps.inc();
     }
 
-    /// Returns the step of the item, without the lock. It is always some.
+    /// Returns the step of the item without taking the lock. Always `Some`.
     pub fn step(&self) -> Option<Step>
         ensures { is_some result ≡ true }
     {
         Some(self.steps.step())
     }
 
-    /// Returns the item's counter, whose calls don't wait.
+    /// Returns the item's counter, whose calls never wait.
     pub fn steps(&self) -> &Steps {
         &self.steps
     }
 
-    /// Returns one more owner of the item's counter.
+    /// Returns another owner of the item's counter.
     ///
     /// # Errors
     ///
-    /// `Memory`, if the counter can't have one more owner.
+    /// `Memory`, if the counter's reference count is at its limit.
     pub fn counter(&self) -> Result<StepShared, Refusal>
-        ensures { IfErr result (λ e. e ≡ Refusal.Memory) }
+        ensures { IsOkUnless result Refusal.Memory }
     {
         self.steps.counter()
     }
 
-    /// Adds an item below this one. A child of an item at the sixth level gets that item's path with
-    /// the last number replaced, and replaces the entry that is there.
+    /// Adds an item below this one. A child of an item at the sixth level gets that item's path
+    /// with the last number replaced, and replaces the entry that is there.
     ///
     /// # Errors
     ///
@@ -189,7 +188,7 @@ impl<R: Wait + Clone + Drop> Item<R> {
         ensures child { IfOk result (λ child. child ≡ new_place (next_path self.old)) }
         ensures ok { OnOk result (self.new ≡ with_child self.old) }
         ensures err { OnErr result (self.new ≡ self.old) }
-        ensures reason { IfErr result (λ e. e ≡ Refusal.Memory) }
+        ensures reason { IsOkUnless result Refusal.Memory }
     {
         self.add_child_with_id(alloc, name, UNKNOWN)
     }
@@ -209,23 +208,23 @@ impl<R: Wait + Clone + Drop> Item<R> {
         ensures child { IfOk result (λ child. child ≡ new_place (next_path self.old)) }
         ensures ok { OnOk result (self.new ≡ with_child self.old) }
         ensures err { OnErr result (self.new ≡ self.old) }
-        ensures reason { IfErr result (λ e. e ≡ Refusal.Memory) }
+        ensures reason { IsOkUnless result Refusal.Memory }
     {
         let rt = self.rt.clone()?;
         let shared = Arc::try_clone(&self.shared)?;
         let key = self.key.add_child(self.next_child);
         let (slot, steps) = self.shared.lock(&self.rt).insert(alloc, key, name, id)?;
-        self.next_child = self.next_child.wrapping_add(1);
+        self.next_child = key::next_id(self.next_child);
         Ok(Item::new(rt, shared, key, slot, steps))
     }
 
-    /// Sends a message of the item. Its origin is the item's name, or empty if the item's task is
+    /// Sends a message from the item. Its origin is the item's name, or empty if the item's task is
     /// gone.
     ///
     /// # Errors
     ///
-    /// `TooManyMessages`, if 2^64 - 1 messages were sent already. `Memory`, if there is no memory
-    /// for it.
+    /// `TooManyMessages`, if 2^64 - 1 messages have been sent. `Memory`, if there is no memory for
+    /// it.
     pub fn message(
         &self,
         alloc: Global,
@@ -240,38 +239,38 @@ impl<R: Wait + Clone + Drop> Item<R> {
             .message(alloc, self.key, at, level, message)
     }
 
-    /// Sends a message that the task is done, with the severity `Success`.
+    /// Sends a message of severity `Success`: the task is done.
     ///
     /// # Errors
     ///
     /// As `message`.
     pub fn done(&mut self, alloc: Global, at: Moment, message: &str) -> Result<(), Refusal>
         ensures kept { self.new ≡ self.old }
-        ensures err { IfErr result RefusesMessage }
+        ensures reason { IfErr result RefusesMessage }
     {
         self.message(alloc, at, MessageLevel::Success, message)
     }
 
-    /// Sends a message that the task has failed, with the severity `Failure`.
+    /// Sends a message of severity `Failure`: the task has failed.
     ///
     /// # Errors
     ///
     /// As `message`.
     pub fn fail(&mut self, alloc: Global, at: Moment, message: &str) -> Result<(), Refusal>
         ensures kept { self.new ≡ self.old }
-        ensures err { IfErr result RefusesMessage }
+        ensures reason { IfErr result RefusesMessage }
     {
         self.message(alloc, at, MessageLevel::Failure, message)
     }
 
-    /// Sends a message with information about the task, with the severity `Info`.
+    /// Sends a message of severity `Info` about the task.
     ///
     /// # Errors
     ///
     /// As `message`.
     pub fn info(&mut self, alloc: Global, at: Moment, message: &str) -> Result<(), Refusal>
         ensures kept { self.new ≡ self.old }
-        ensures err { IfErr result RefusesMessage }
+        ensures reason { IfErr result RefusesMessage }
     {
         self.message(alloc, at, MessageLevel::Info, message)
     }
@@ -290,7 +289,7 @@ impl<R: Wait + Clone + Drop> fmt::Debug for Item<R> {
 impl<R: Wait + Clone + Drop> Drop for Item<R> {
     /// Removes the item's task.
     fn drop(self) {
-        self.shared.lock(&self.rt).remove(self.slot);
+        self.shared.lock(&self.rt).remove(self.key, self.slot);
         let Item {
             rt: _,
             shared: _,

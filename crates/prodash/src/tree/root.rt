@@ -1,9 +1,10 @@
 //! Owners of the tree.
-ghost use Rattle.std.specs.Prelude.{◌≡◌, ◌+◌, ◌<◌, ◌↔◌, ℕ, [], Err, not, nat_eq, is_some, IfOk, IfErr, IfSome, IfNone, OnOk, OnErr};
+ghost use Rattle.std.specs.Prelude.{◌≡◌, ◌<◌, ◌↔◌, ℕ, [], Err, not, nat_eq, is_some, IfOk, IfErr, IfSome, IfNone, OnOk, OnErr, IsOkUnless};
 ghost use Rattle.prodash_base.specs.Refusals.{RefusesHandle};
 ghost use Rattle.prodash_base.specs.Adjacency.{IsAscending, paths_of};
 ghost use Rattle.prodash_base.specs.Path.{child, child_limit};
 ghost use Rattle.prodash.specs.Items.{new_place};
+ghost use Rattle.prodash.specs.Locks.{with_owner};
 
 use crate::messages::{Message, MessageCopyState};
 use crate::progress::{Id, Row, UNKNOWN};
@@ -35,13 +36,13 @@ impl Default for Options {
 }
 
 impl Options {
-    /// Returns a tree with nothing but its root.
+    /// Returns a tree without tasks.
     ///
     /// # Errors
     ///
     /// `Memory`, if there is no memory for it.
     pub fn create<R: Wait + Clone + Drop>(self, rt: R, alloc: Global) -> Result<Root<R>, Refusal>
-        ensures { IfErr result (λ e. e ≡ Refusal.Memory) }
+        ensures { IsOkUnless result Refusal.Memory }
     {
         let locked = Locked::new(alloc, self.message_buffer_capacity)?;
         let shared = Arc::new(alloc, Mutex::new(locked))?;
@@ -49,7 +50,7 @@ impl Options {
     }
 }
 
-/// An owner of the tree, which threads share. The tree is behind one lock: all calls but those on
+/// An owner of a tree that threads share. The tree is behind one lock: all calls but those on
 /// counters may wait for it.
 ///
 /// ```rust
@@ -67,13 +68,13 @@ pub struct Root<R: Wait + Clone + Drop> {
 }
 
 impl<R: Wait + Clone + Drop> Root<R> {
-    /// Returns a tree with nothing but its root, and the default options.
+    /// Returns a tree without tasks, with the default options.
     ///
     /// # Errors
     ///
     /// `Memory`, if there is no memory for it.
     pub fn new(rt: R, alloc: Global) -> Result<Root<R>, Refusal>
-        ensures { IfErr result (λ e. e ≡ Refusal.Memory) }
+        ensures { IsOkUnless result Refusal.Memory }
     {
         Options::default().create(rt, alloc)
     }
@@ -86,7 +87,7 @@ impl<R: Wait + Clone + Drop> Root<R> {
     pub fn add_child(&self, alloc: Global, name: &str) -> Result<Item<R>, Refusal>
         ensures ok { IfOk result (λ item. (n : ℕ) × (n < child_limit)
             × (item ≡ new_place (child [] n))) }
-        ensures err { IfErr result (λ e. e ≡ Refusal.Memory) }
+        ensures reason { IsOkUnless result Refusal.Memory }
     {
         self.add_child_with_id(alloc, name, UNKNOWN)
     }
@@ -99,7 +100,7 @@ impl<R: Wait + Clone + Drop> Root<R> {
     pub fn add_child_with_id(&self, alloc: Global, name: &str, id: Id) -> Result<Item<R>, Refusal>
         ensures ok { IfOk result (λ item. (n : ℕ) × (n < child_limit)
             × (item ≡ new_place (child [] n))) }
-        ensures err { IfErr result (λ e. e ≡ Refusal.Memory) }
+        ensures reason { IsOkUnless result Refusal.Memory }
     {
         let rt = self.rt.clone()?;
         let shared = Arc::try_clone(&self.shared)?;
@@ -126,26 +127,26 @@ impl<R: Wait + Clone + Drop> Root<R> {
     pub fn sorted_snapshot(&self, alloc: Global, out: &mut Vec<Row>) -> Result<(), Refusal>
         ensures ok { OnOk result (IsAscending (paths_of out.new.items)) }
         ensures err { OnErr result (out.new.items ≡ out.old.items) }
-        ensures reason { IfErr result (λ e. e ≡ Refusal.Memory) }
+        ensures reason { IsOkUnless result Refusal.Memory }
     {
         self.shared.lock(&self.rt).rows(alloc, out)
     }
 
-    /// Replaces the contents of `out` with the messages that are kept, the oldest first.
+    /// Replaces the contents of `out` with the kept messages, the oldest first.
     ///
     /// # Errors
     ///
     /// `Memory`, if there is no memory for the messages; then `out` stays as it was.
     pub fn copy_messages(&self, alloc: Global, out: &mut Vec<Message>) -> Result<(), Refusal>
         ensures err { OnErr result (out.new.items ≡ out.old.items) }
-        ensures reason { IfErr result (λ e. e ≡ Refusal.Memory) }
+        ensures reason { IsOkUnless result Refusal.Memory }
     {
         self.shared.lock(&self.rt).ring.copy_all(alloc, out)
     }
 
-    /// Replaces the contents of `out` with the messages that are kept and were sent since the copy
-    /// that returned `previous`, the oldest first, or with all that are kept if it is `None`.
-    /// Returns the state for the next copy.
+    /// Replaces the contents of `out` with the kept messages that were sent since the copy that
+    /// returned `previous`, or with all kept messages if that is `None`, the oldest first. Returns
+    /// the state for the next copy.
     ///
     /// # Errors
     ///
@@ -157,7 +158,7 @@ impl<R: Wait + Clone + Drop> Root<R> {
         previous: Option<MessageCopyState>,
     ) -> Result<MessageCopyState, Refusal>
         ensures err { OnErr result (out.new.items ≡ out.old.items) }
-        ensures reason { IfErr result (λ e. e ≡ Refusal.Memory) }
+        ensures reason { IsOkUnless result Refusal.Memory }
     {
         self.shared
             .lock(&self.rt)
@@ -165,7 +166,7 @@ impl<R: Wait + Clone + Drop> Root<R> {
             .copy_new(alloc, out, previous)
     }
 
-    /// Does what `sorted_snapshot` and `copy_new_messages` do, with nothing between them.
+    /// Does what `sorted_snapshot` and `copy_new_messages` do, under one lock.
     ///
     /// # Errors
     ///
@@ -181,7 +182,7 @@ impl<R: Wait + Clone + Drop> Root<R> {
         ensures ok { OnOk result (IsAscending (paths_of rows.new.items)) }
         ensures err_rows { OnErr result (rows.new.items ≡ rows.old.items) }
         ensures err_messages { OnErr result (messages.new.items ≡ messages.old.items) }
-        ensures reason { IfErr result (λ e. e ≡ Refusal.Memory) }
+        ensures reason { IsOkUnless result Refusal.Memory }
     {
         self.shared
             .lock(&self.rt)
@@ -195,7 +196,7 @@ impl<R: Wait + Clone + Drop> Root<R> {
     ///
     /// `Memory`, if there is no memory for the copy.
     pub fn deep_clone(&self, alloc: Global) -> Result<Root<R>, Refusal>
-        ensures { IfErr result (λ e. e ≡ Refusal.Memory) }
+        ensures { IsOkUnless result Refusal.Memory }
     {
         let rt = self.rt.clone()?;
         let copy = self.shared.lock(&self.rt).deep_clone(alloc)?;
@@ -203,13 +204,13 @@ impl<R: Wait + Clone + Drop> Root<R> {
         Ok(Root { rt, shared })
     }
 
-    /// Returns a handle that finds the tree again as long as it has an owner.
+    /// Returns a weak handle, which upgrades while the tree has an owner.
     ///
     /// # Errors
     ///
     /// `Memory`, if the reference count of the tree or of its runtime is at its limit.
     pub fn downgrade(&self) -> Result<WeakHandle<R>, Refusal>
-        ensures { IfErr result (λ e. e ≡ Refusal.Memory) }
+        ensures { IsOkUnless result Refusal.Memory }
     {
         Ok(WeakHandle {
             rt: self.rt.clone()?,
@@ -217,7 +218,7 @@ impl<R: Wait + Clone + Drop> Root<R> {
         })
     }
 
-    /// Returns one more owner of the tree.
+    /// Returns another owner of the tree.
     ///
     /// # Errors
     ///
@@ -231,8 +232,8 @@ impl<R: Wait + Clone + Drop> Root<R> {
     }
 }
 
-/// A handle of a tree that is no owner: it finds the tree again as long as that has an owner. Items
-/// don't count as owners.
+/// A weak handle, which upgrades to a [`Root`] while the tree has an owner. Items don't count as
+/// owners.
 #[derive(Drop)]
 pub struct WeakHandle<R: Wait + Clone + Drop> {
     rt: R,
@@ -240,7 +241,7 @@ pub struct WeakHandle<R: Wait + Clone + Drop> {
 }
 
 impl<R: Wait + Clone + Drop> WeakHandle<R> {
-    /// Returns one more owner of the tree, or `None` if it has none.
+    /// Returns another owner of the tree, or `None` if it has none left.
     ///
     /// # Errors
     ///
@@ -254,14 +255,13 @@ impl<R: Wait + Clone + Drop> WeakHandle<R> {
     }
 }
 
-/// Returns one more owner of a tree, and counts it.
+/// Returns another owner of a tree, and counts it.
 fn one_more_owner<R: Wait + Clone + Drop>(
     rt: &R,
     shared: &Arc<Mutex<Locked>>,
     locked: &mut Locked,
 ) -> Result<Root<R>, Refusal>
-    ensures ok { OnOk result
-        (locked.new ≡ record locked.old { owners = locked.old.owners + 1 }) }
+    ensures ok { OnOk result (locked.new ≡ with_owner locked.old) }
     ensures err { OnErr result (locked.new ≡ locked.old) }
     ensures full { (result ≡ Err Refusal.TooManyHandles) ↔ (locked.old.owners ≡ u64.MAX) }
     ensures reason { IfErr result RefusesHandle }
@@ -275,15 +275,14 @@ fn one_more_owner<R: Wait + Clone + Drop>(
     Ok(Root { rt, shared })
 }
 
-/// Returns one more owner of a tree, and counts it, or `None` if the tree has no owner.
+/// Returns another owner of a tree, and counts it, or `None` if the tree has no owner left.
 fn upgraded<R: Wait + Clone + Drop>(
     rt: &R,
     shared: &Arc<Mutex<Locked>>,
     locked: &mut Locked,
 ) -> Result<Option<Root<R>>, Refusal>
     ensures some { IfOk result (λ root. is_some root ≡ not (nat_eq locked.old.owners 0)) }
-    ensures counts { IfOk result (λ root. IfSome root (λ _.
-        locked.new ≡ record locked.old { owners = locked.old.owners + 1 })) }
+    ensures counts { IfOk result (λ root. IfSome root (λ _. locked.new ≡ with_owner locked.old)) }
     ensures none { IfOk result (λ root. IfNone root (locked.new ≡ locked.old)) }
     ensures err { OnErr result (locked.new ≡ locked.old) }
     ensures full { (result ≡ Err Refusal.TooManyHandles) ↔ (locked.old.owners ≡ u64.MAX) }
@@ -296,7 +295,7 @@ fn upgraded<R: Wait + Clone + Drop>(
 }
 
 impl<R: Wait + Clone + Drop> Drop for Root<R> {
-    /// Leaves the tree one owner fewer.
+    /// Counts one owner of the tree fewer.
     fn drop(self) {
         self.shared.lock(&self.rt).remove_owner();
         let Root { rt: _, shared: _ } = self;

@@ -1,7 +1,5 @@
 //! The counters of a locked tree.
-ghost use Rattle.std.specs.Prelude.{◌≡◌};
-
-use crate::progress::{AtomicStep, Key, Step, StepShared};
+use crate::progress::{AtomicStep, Step, StepShared};
 use prodash_core::tree::Counters;
 use slab::Slab;
 use std::alloc::{AllocError, Global};
@@ -11,8 +9,6 @@ use std::sync::atomic::Ordering;
 /// What a locked tree keeps for an item.
 #[derive(Drop)]
 pub(crate) struct Slot {
-    /// The key of the item.
-    pub(crate) key: Key,
     /// One owner of the item's counter.
     pub(crate) counter: StepShared,
     /// Where the counter of a copy is made.
@@ -26,14 +22,13 @@ pub(crate) struct Slots {
 }
 
 impl Clone for Slot {
-    ghost is_clone = { λ a b. b.key ≡ a.key };
+    ghost is_clone = { λ slot copy. Unit {0} };
 
     /// Returns a slot with a counter of its own, at the same step.
     fn clone(&self) -> Result<Slot, AllocError> {
         let step = self.counter.load(Ordering::SeqCst);
         let counter = Arc::new(self.alloc, AtomicStep::new(step))?;
         Ok(Slot {
-            key: self.key,
             counter,
             alloc: self.alloc,
         })

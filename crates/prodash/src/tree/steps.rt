@@ -1,13 +1,13 @@
-//! The counter of an item, which is changed without the lock.
-ghost use Rattle.std.specs.Prelude.{◌≡◌, IfErr};
+//! Counters of steps, which are changed without a lock.
+ghost use Rattle.std.specs.Prelude.{IsOkUnless};
 
 use crate::progress::{Step, StepShared};
 use prodash_base::Refusal;
 use std::sync::Arc;
 use std::sync::atomic::Ordering;
 
-/// The counter of an item. Each call but `counter` is one atomic operation; none waits for the
-/// lock of the tree, so code that may not wait can report its steps.
+/// The counter of an item or a log. Each call but `counter` is one atomic operation, and none waits
+/// for the lock of a tree, so that code that must not wait can report its steps.
 ///
 /// ```rust
 /// let steps = item.steps();
@@ -21,7 +21,7 @@ pub struct Steps {
 }
 
 impl Steps {
-    /// Returns the steps of a counter.
+    /// Returns the steps that a counter counts.
     pub(crate) fn new(counter: StepShared) -> Steps {
         Steps { counter }
     }
@@ -31,28 +31,28 @@ impl Steps {
         self.counter.store(step, Ordering::SeqCst);
     }
 
-    /// Adds `step` to the counter. A sum past 2^64 - 1 starts again from 0.
+    /// Adds `step` to the counter. The sum wraps around at 2^64.
     pub fn inc_by(&self, step: Step) {
         self.counter.fetch_add(step, Ordering::SeqCst);
     }
 
-    /// Adds 1 to the counter. The step after 2^64 - 1 is 0.
+    /// Adds 1 to the counter. The sum wraps around at 2^64.
     pub fn inc(&self) {
         self.inc_by(1);
     }
 
-    /// Returns the step that the counter is at.
+    /// Returns the current step.
     pub fn step(&self) -> Step {
         self.counter.load(Ordering::SeqCst)
     }
 
-    /// Returns one more owner of the counter.
+    /// Returns another owner of the counter.
     ///
     /// # Errors
     ///
-    /// `Memory`, if the counter can't have one more owner.
+    /// `Memory`, if the counter's reference count is at its limit.
     pub fn counter(&self) -> Result<StepShared, Refusal>
-        ensures { IfErr result (λ e. e ≡ Refusal.Memory) }
+        ensures { IsOkUnless result Refusal.Memory }
     {
         Ok(Arc::try_clone(&self.counter)?)
     }

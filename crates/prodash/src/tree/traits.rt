@@ -1,5 +1,5 @@
-//! The traits of progress and of roots, for the locked tree. What a call does to the tree is not
-//! part of its contract, since other threads may change it at any time.
+//! The traits of progress and of roots for the locked tree. Contracts don't say what a call does to
+//! the tree, since other threads may change it at any time.
 ghost use Rattle.std.specs.Prelude.{◌≡◌};
 ghost use Rattle.prodash.specs.Items.{new_place, next_path, with_child};
 

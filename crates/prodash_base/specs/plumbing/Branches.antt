@@ -5,10 +5,16 @@ use Rattle.std.specs.List.Sorted.{IsPartitionPoint}
 use Rattle.std.specs.Ordering.{is_lt, is_le, is_ge, is_gt}
 use Rattle.std.specs.declared.cmp.Ordering.{Ordering}
 use Rattle.prodash_base.specs.Path.{Path, path_cmp}
+use Rattle.prodash_base.specs.Adjacency.{paths_of}
+use Rattle.prodash_base.specs.declared.progress.Row.{Row}
 
 -- the path at an index
 abbrev pub path_at : List Path → ℕ → Path
 path_at paths i = slice_index_or paths i []
+
+-- what `f` says of the path of a row among all of them
+abbrev pub at_row : {A : Type 0} → (List Path → Path → A) → List Row → ℕ → A
+at_row f rows index = f (paths_of rows) (path_at (paths_of rows) index)
 
 -- the order of the first n numbers of two paths
 abbrev pub cmp_prefix : ℕ → Path → Path → Ordering

@@ -9,5 +9,5 @@ pub same_path : (x y : List ℕ) → pointwise nat_eq x y ≡ true → x ≡ y
 same_path x y = (bytes_decides x y).0
 
 -- the writes of two keys that the test finds equal
-pub key_alike : (x y : List ℕ) → IsTrue (pointwise nat_eq x y) → fed.slice fed.u16 x ≡ fed.slice fed.u16 y
-key_alike x y h = ap (fed.slice fed.u16) (same_path x y h)
+pub key_alike : (x y : List ℕ) → IsTrue (pointwise nat_eq x y) → fed.slice fed.u32 x ≡ fed.slice fed.u32 y
+key_alike x y h = ap (fed.slice fed.u32) (same_path x y h)

@@ -1,12 +1,13 @@
 -- The tests of equality of rows and their parts are true exactly of equal values.
 use Rattle.std.proofs.Common.{◌≡◌, true, nat_eq, refl}
 use Rattle.std.specs.Option.{option_eq}
-use Rattle.prodash_base.specs.Rows.{Phase, Blocked, Halted, Running, same_text, same_phase, same_progress, same_entry, same_rows}
+use Rattle.prodash_base.specs.Numbers.{same_numbers}
+use Rattle.prodash_base.specs.Rows.{Phase, Blocked, Halted, Running, same_phase, same_progress, same_entry, same_rows}
 use Rattle.prodash_base.specs.plumbing.SameUnits.{measures}
 use Rattle.prodash_base.specs.plumbing.EqualityTests.{IsEqualityTest, same_pair, sound, itself, by_cases, numbers, texts, lists, options, pairs, by_parts}
 
 -- a reason, with the moment from which the task may go on
-reasons : IsEqualityTest (same_pair same_text (option_eq nat_eq))
+reasons : IsEqualityTest (same_pair same_numbers (option_eq nat_eq))
 reasons = pairs texts (options numbers)
 
 phase_sound : (p q : Phase) → same_phase p q ≡ true → p ≡ q

@@ -1,7 +1,7 @@
 -- The tests of equality of units and their parts are true exactly of equal values.
 use Rattle.std.proofs.Common.{◌≡◌, Bool, true, false, nat_eq, refl, ap}
 use Rattle.std.specs.Bool.{beq}
-use Rattle.std.specs.Cmp.Lexicographic.{pointwise}
+use Rattle.prodash_base.specs.Numbers.{same_numbers}
 use Rattle.prodash_base.specs.Kinds.{Quantity, Label, Bytes, Duration, Human, Range, same_quantity}
 use Rattle.prodash_base.specs.Displays.{same_location}
 use Rattle.prodash_base.specs.Units.{same_mode, same_measure}
@@ -10,7 +10,7 @@ use Rattle.prodash_base.specs.declared.unit.display.Location.TheVariants.{Before
 use Rattle.prodash_base.specs.plumbing.EqualityTests.{IsEqualityTest, same_pair, sound, itself, by_cases, numbers, texts, options, pairs, by_parts}
 
 -- a name, with a number of decimals
-named : IsEqualityTest (same_pair (pointwise nat_eq) nat_eq)
+named : IsEqualityTest (same_pair (same_numbers) nat_eq)
 named = pairs texts numbers
 
 quantity_sound : (a b : Quantity) → same_quantity a b ≡ true → a ≡ b

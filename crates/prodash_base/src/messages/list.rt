@@ -6,10 +6,11 @@ ghost use Rattle.prodash_base.specs.Messages.{same_messages};
 
 use crate::messages::Message;
 use std::alloc::AllocError;
+use std::fmt;
 use std::marker::Model;
 
 /// Messages that were copied from a ring. Contracts see the list.
-#[derive(Debug, Drop)]
+#[derive(Drop)]
 pub struct Messages {
     messages: Vec<Message>,
 }
@@ -71,4 +72,11 @@ impl PartialEq for Messages {
 
 impl Eq for Messages {
     ghost laws = { equivalence same.messages };
+}
+
+impl fmt::Debug for Messages {
+    /// Writes the messages, as `Messages [Message 7 Info "task" "text"]`.
+    fn fmt<W: fmt::Write>(&self, f: &mut fmt::Formatter<W>) -> fmt::Result {
+        write!(f, "Messages {:?}", self.as_slice())
+    }
 }

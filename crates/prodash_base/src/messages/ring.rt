@@ -1,9 +1,9 @@
-ghost use Rattle.std.specs.Prelude.{◌≡◌, ℕ, ◌+◌, ◌^◌, ◌<◌, ◌↔◌, min, List, [], ◌∷◌, ◌++◌, length, drop, fold, Some, OnOk, OnErr, IfOk, IfErr};
+ghost use Rattle.std.specs.Prelude.{◌≡◌, ℕ, ◌+◌, ◌^◌, ◌<◌, ◌↔◌, min, IsTrue, List, [], ◌∷◌, ◌++◌, length, drop, fold, Some, OnOk, OnErr, IfOk, IfErr, IsOkUnless};
 ghost use Rattle.prodash_base.specs.Refusals.{RefusesMessage};
-ghost use Rattle.circular_buffer.specs.Buffer.{buffer, keep_last};
+ghost use Rattle.circular_buffer.specs.Buffer.{buffer};
 ghost use Rattle.prodash_base.specs.declared.messages.Message.{Message};
 ghost use Rattle.prodash_base.specs.Messages.{message_of};
-ghost use Rattle.prodash_base.specs.Rings.{IsCountFull, new_ring, push, messages_since, latest_messages, ring_of, new_since};
+ghost use Rattle.prodash_base.specs.Rings.{is_push_limit_reached, new_ring, push, messages_since, keep_last, ring_of};
 
 use crate::messages::{Message, MessageLevel};
 use crate::refusal::Refusal;
@@ -82,7 +82,7 @@ impl MessageRingBuffer {
     /// memory.
     pub fn with_capacity(alloc: Global, capacity: usize) -> Result<MessageRingBuffer, Refusal>
         ensures ok { IfOk result (λ ring. ring ≡ new_ring capacity) }
-        ensures err { IfErr result (λ e. e ≡ Refusal.Memory) }
+        ensures reason { IsOkUnless result Refusal.Memory }
     {
         let ring = HeapCircularBuffer::with_capacity(alloc, capacity)?;
         Ok(MessageRingBuffer { ring, pushed: 0 })
@@ -117,7 +117,8 @@ impl MessageRingBuffer {
     ) -> Result<(), Refusal>
         ensures ok { OnOk result
             (self.new ≡ push self.old (message_of at level origin.now message.now)) }
-        ensures too_many { (result ≡ Err Refusal.TooManyMessages) ↔ IsCountFull self.old }
+        ensures limit { (result ≡ Err Refusal.TooManyMessages)
+            ↔ IsTrue (is_push_limit_reached self.old) }
         ensures reason { IfErr result RefusesMessage }
         ensures err { OnErr result (self.new ≡ self.old) }
     {
@@ -140,7 +141,7 @@ impl MessageRingBuffer {
     /// `Refusal::Memory` if out of memory, and then leaves `out` unchanged.
     pub fn copy_all(&self, alloc: Global, out: &mut Vec<Message>) -> Result<(), Refusal>
         ensures ok { OnOk result (out.new.items ≡ self.now.messages) }
-        ensures reason { IfErr result (λ e. e ≡ Refusal.Memory) }
+        ensures reason { IsOkUnless result Refusal.Memory }
         ensures err { OnErr result (out.new.items ≡ out.old.items) }
     {
         *out = copies(alloc, &self.ring, 0)?;
@@ -160,7 +161,7 @@ impl MessageRingBuffer {
     ) -> Result<MessageCopyState, Refusal>
         ensures state { IfOk result (λ state. state ≡ self.now.pushed) }
         ensures ok { OnOk result (out.new.items ≡ messages_since self.now previous) }
-        ensures reason { IfErr result (λ e. e ≡ Refusal.Memory) }
+        ensures reason { IsOkUnless result Refusal.Memory }
         ensures err { OnErr result (out.new.items ≡ out.old.items) }
     {
         let seen = previous.map_or(0, |state| state.seen);
@@ -174,7 +175,7 @@ impl MessageRingBuffer {
     /// pushes. Returns `Refusal::Memory` if out of memory.
     pub fn deep_clone(&self, alloc: Global) -> Result<MessageRingBuffer, Refusal>
         ensures ok { IfOk result (λ copy. copy ≡ self.now) }
-        ensures err { IfErr result (λ e. e ≡ Refusal.Memory) }
+        ensures reason { IsOkUnless result Refusal.Memory }
     {
         Ok(MessageRingBuffer {
             ring: copied(alloc, &self.ring)?,
@@ -227,20 +228,16 @@ pub fn rings_keep_the_last()
 /// A law of copies: a copy whose state has seen the first `seen` pushes gives the last of the later
 /// ones, at most as many as the ring's capacity.
 pub fn copies_give_what_is_new()
-    ensures new { (capacity seen : ℕ) (all : List Message)
-        → messages_since (ring_of capacity all) (Some seen) ≡ new_since capacity all seen }
-    ensures last { (capacity seen : ℕ) (all : List Message)
-        → new_since capacity all seen ≡ latest_messages capacity (drop seen all) }
+    ensures { (capacity seen : ℕ) (all : List Message)
+        → messages_since (ring_of capacity all) (Some seen) ≡ keep_last capacity (drop seen all) }
 {}
 
 /// A law of two copies: the second, with the state of the first, gives the last of the messages
 /// pushed between them, at most as many as the ring's capacity, and none that was pushed before
 /// the first.
 pub fn no_push_is_given_twice()
-    ensures copies { (capacity : ℕ) (before after : List Message)
+    ensures { (capacity : ℕ) (before after : List Message)
         → messages_since (ring_of capacity (before ++ after))
         (Some (ring_of capacity before).pushed)
-        ≡ latest_messages capacity after }
-    ensures pushes { (capacity : ℕ) (before after : List Message)
-        → new_since capacity (before ++ after) (length before) ≡ latest_messages capacity after }
+        ≡ keep_last capacity after }
 {}

@@ -4,8 +4,9 @@ ghost use Rattle.std.specs.Cmp.Lexicographic.{pointwise, slice_cmp, nat_list_cmp
 ghost use Rattle.std.specs.Cmp.{partial_equiv_from_equiv};
 ghost use Rattle.std.specs.Cmp.Rules.{comparing};
 ghost use Rattle.std.proofs.Common.{rules};
-ghost use Rattle.prodash_base.specs.Path.{max_level, IsPath, child, SharesPrefix, path_cmp};
+ghost use Rattle.prodash_base.specs.Path.{max_level, IsPath, child, next_id, SharesPrefix, path_cmp};
 ghost use Rattle.prodash_base.specs.plumbing.KeyHash.{key_alike};
+ghost use Rattle.prodash_base.specs.plumbing.KeyWords.{word_of, word_at};
 ghost use Rattle.std.specs.Hash as fed;
 
 mod adjacency;
@@ -13,16 +14,25 @@ mod neighbours;
 
 pub use adjacency::{Adjacency, SiblingLocation};
 use std::cmp::Ordering;
+use std::fmt;
 use std::hash::{Hash, Hasher};
 use std::marker::Model;
 use std::ops::Index;
 
-/// The depth of an item in the tree, from 0 at the root to 6: the count of its key's numbers.
+/// The depth of an item in the tree, from 0 at the root to 6: how many numbers its key has.
 pub type Level = u8;
+
+/// Returns the number of the child that is added after the one with number `n`: one more, or 0 if
+/// `n` is the greatest.
+pub fn next_id(n: u32) -> u32
+    ensures { result ≡ next_id n }
+{
+    n.wrapping_add(1)
+}
 
 /// The place of an item in the tree: at most six numbers, which name the item and its ancestors
 /// from the root down. Keys are ordered like slices of their numbers. Contracts see a key as the
-/// list of its numbers, its path.
+/// list of its numbers, its path. A key takes 28 bytes.
 ///
 /// ```rust
 /// let parent = Key::default().add_child(3);
@@ -31,9 +41,9 @@ pub type Level = u8;
 /// assert_eq!(rt; key[2], 7);
 /// assert!(rt; key.shares_parent_with(&parent.add_child(8), 1));
 /// ```
-#[derive(Clone, Copy, Debug)]
+#[derive(Clone, Copy)]
 pub struct Key {
-    numbers: [u16; 6],
+    numbers: [u32; 6],
     level: Level,
 }
 
@@ -67,7 +77,7 @@ impl Default for Key {
 impl Key {
     /// Returns the key of the child with number `n`. A key of the deepest level has no children:
     /// the call then returns the key with its last number replaced by `n`.
-    pub fn add_child(self, n: u16) -> Key
+    pub fn add_child(self, n: u32) -> Key
         ensures value { result ≡ child self n }
         ensures path { IsPath result }
     {
@@ -77,7 +87,7 @@ impl Key {
         Key { numbers, level }
     }
 
-    /// Returns the count of the key's numbers.
+    /// Returns the key's level, which is how many numbers it has.
     pub fn level(&self) -> Level
         ensures value { result ≡ length self.now }
         ensures bound { result ≤ max_level }
@@ -96,7 +106,7 @@ impl Key {
         level <= own.len() && level <= others.len() && own[..level] == others[..level]
     }
 
-    /// Returns the greatest number of numbers that a key has, which is 6.
+    /// Returns the greatest level of a key, which is 6.
     pub const fn max_level() -> Level
         ensures { result ≡ max_level }
     {
@@ -104,10 +114,22 @@ impl Key {
     }
 
     /// Returns the key's numbers, from the root down.
-    pub(crate) fn numbers(&self) -> &[u16]
+    pub(crate) fn numbers(&self) -> &[u32]
         ensures { result.now ≡ self.now }
     {
         &self.numbers[..usize::from(self.level)]
+    }
+
+    /// Returns the key's six numbers in words of two, zeros past its level, and its level.
+    fn words(&self) -> (u64, u64, u64, Level)
+        ensures first { result.0 ≡ word_at self.now 0 }
+        ensures second { result.1 ≡ word_at self.now 2 }
+        ensures third { result.2 ≡ word_at self.now 4 }
+        ensures level { result.3 ≡ length self.now }
+        ensures path { IsPath self.now }
+    {
+        let [a, b, c, d, e, f] = self.numbers;
+        (word_of(a, b), word_of(c, d), word_of(e, f), self.level)
     }
 
     /// Compares the first `level` numbers of both keys, or all numbers of one that has fewer.
@@ -118,7 +140,7 @@ impl Key {
     }
 
     /// Returns the key's first `level` numbers, or all if it has fewer.
-    fn prefix(&self, level: Level) -> &[u16]
+    fn prefix(&self, level: Level) -> &[u32]
         ensures { result.now ≡ take level self.now }
     {
         let numbers = self.numbers();
@@ -126,15 +148,22 @@ impl Key {
     }
 }
 
+/// Returns the word that has `high` in its higher half and `low` in its lower one.
+fn word_of(high: u32, low: u32) -> u64
+    ensures { result ≡ word_of high low }
+{
+    u64::from(high) * 4294967296 + u64::from(low)
+}
+
 impl Index<Level> for Key {
-    type Output = u16;
+    type Output = u32;
 
     ghost can_index = { λ key level. (0 < level) × (level ≤ length key) };
 
     ghost index_gives = { λ key level n. n ≡ slice_index key (level - 1) };
 
     /// Returns the number at a level between 1 and the key's own.
-    fn index(&self, level: Level) -> &u16 {
+    fn index(&self, level: Level) -> &u32 {
         &self.numbers[usize::from(level) - 1]
     }
 }
@@ -148,8 +177,10 @@ impl Ord for Key {
 
     ghost matches_eq = { texts_ties };
 
+    /// Compares the numbers two by two. A number past a key's level counts as 0, so that the
+    /// levels decide if all are the same.
     fn cmp(&self, other: &Key) -> Ordering {
-        self.numbers().cmp(&other.numbers())
+        self.words().cmp(&other.words())
     }
 }
 
@@ -178,11 +209,18 @@ impl Eq for Key {
 }
 
 impl Hash for Key {
-    ghost hash_input = { fed.slice fed.u16 };
+    ghost hash_input = { fed.slice fed.u32 };
 
     ghost respects_eq = { key_alike };
 
     fn hash<H: Hasher>(&self, state: &mut H) {
         self.numbers().hash(state);
+    }
+}
+
+impl fmt::Debug for Key {
+    /// Writes the key's numbers, as `Key [0, 1]`.
+    fn fmt<W: fmt::Write>(&self, f: &mut fmt::Formatter<W>) -> fmt::Result {
+        write!(f, "Key {:?}", self.numbers())
     }
 }

@@ -6,6 +6,7 @@ ghost use Rattle.prodash_base.specs.Rows.{rows_of, same_rows};
 
 use crate::progress::Row;
 use std::alloc::AllocError;
+use std::fmt;
 use std::marker::Model;
 
 /// The rows of a snapshot. Contracts see the list of their paths and entries.
@@ -16,7 +17,7 @@ use std::marker::Model;
 /// let rows = Rows::new(list);
 /// assert_eq!(rt; rows.as_slice().len(), 1);
 /// ```
-#[derive(Debug, Drop)]
+#[derive(Drop)]
 pub struct Rows {
     rows: Vec<Row>,
 }
@@ -78,4 +79,12 @@ impl PartialEq for Rows {
 
 impl Eq for Rows {
     ghost laws = { equivalence same.rows };
+}
+
+impl fmt::Debug for Rows {
+    /// Writes the rows, as `Rows [Row [0] "task" 3/10]`.
+    fn fmt<W: fmt::Write>(&self, f: &mut fmt::Formatter<W>) -> fmt::Result {
+        let rows = self.as_slice();
+        write!(f, "Rows {rows:?}")
+    }
 }

@@ -1,5 +1,5 @@
 ghost use Rattle.std.specs.Prelude.{◌≡◌, ◌∷◌, ◌+◌, ◌*◌, ◌/◌, ◌-◌, ◌^◌, ◌<◌, ◌≤◌, ◌||◌, nat_lt, min, drop, length, OnOk, OnErr, IfOk};
-ghost use Rattle.prodash_base.specs.Samples.{samples_of, to_mark, rate, duration, one_second, per_second as rate_of_samples, latest_over};
+ghost use Rattle.prodash_base.specs.Samples.{samples_of, samples_from, to_mark, rate, duration, one_second, rate_over};
 
 use crate::throughput::sample::{Observation, Sample};
 use std::alloc::AllocError;
@@ -35,10 +35,10 @@ fn rate(observations: &VecDeque<Observation>) -> Option<u64>
     }
 }
 
-/// Returns the index of the last mark, or the count of observations if there are none.
+/// Returns the index of the last mark, or the number of observations if there is no mark.
 fn last_mark(observations: &VecDeque<Observation>) -> usize
     ensures bound { result ≤ length observations.now.items }
-    ensures mark { drop result (samples_of observations.now.items)
+    ensures mark { samples_from result observations.now.items
         ≡ to_mark (samples_of observations.now.items) }
 {
     let mut mark = observations.len();
@@ -68,10 +68,8 @@ fn is_mark(is_first: bool, recent: u64, elapsed: u64) -> bool
 /// Returns the rate over the fewest samples from an index on that take more than a second.
 fn rate_from(observations: &VecDeque<Observation>, first: usize) -> u64
     requires within { first ≤ length observations.now.items }
-    requires over { one_second < duration (drop first (samples_of observations.now.items)) }
-    ensures { result
-        ≡ rate_of_samples (latest_over one_second
-        (drop first (samples_of observations.now.items))) }
+    requires over { one_second < duration (samples_from first observations.now.items) }
+    ensures { result ≡ rate_over (samples_from first observations.now.items) }
 {
     let (mut nanoseconds, mut change) = (0, 0);
     let mut index = first;
@@ -87,8 +85,8 @@ fn rate_from(observations: &VecDeque<Observation>, first: usize) -> u64
 /// Returns the sample of the observation at an index.
 fn sample_at(observations: &VecDeque<Observation>, index: usize) -> Sample
     requires { index < length observations.now.items }
-    ensures { drop index (samples_of observations.now.items)
-        ≡ result ∷ drop (index + 1) (samples_of observations.now.items) }
+    ensures { samples_from index observations.now.items
+        ≡ result ∷ samples_from (index + 1) observations.now.items }
 {
     let observation = observations[index];
     let change = if index + 1 < observations.len() {
@@ -104,8 +102,8 @@ fn sample_at(observations: &VecDeque<Observation>, index: usize) -> Sample
     }
 }
 
-/// Returns the change in one second, rounded down, and at most the greatest `u64`. The quotient and
-/// the remainder are scaled apart, so that nothing wraps.
+/// Returns the change in one second, rounded down, and at most `u64::MAX`. The quotient and the
+/// remainder are scaled separately, so that nothing overflows.
 fn per_second(change: u128, nanoseconds: u128) -> u64
     requires over { one_second < nanoseconds }
     requires span { nanoseconds < 2 ^ 65 }

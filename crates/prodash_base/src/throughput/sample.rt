@@ -7,11 +7,11 @@ pub struct Observation {
     pub value: u64,
 }
 
-/// By how much a value rose in a span of time.
+/// The rise of a value over a span of time.
 #[derive(Clone, Copy, Debug, PartialEq, Eq)]
 pub struct Sample {
     /// The span in nanoseconds.
     pub elapsed: u64,
-    /// The rise.
+    /// The rise of the value.
     pub change: u64,
 }

@@ -19,7 +19,7 @@ pub enum Location {
 /// A change of a value in a timespan.
 #[derive(Debug, Clone, Copy, PartialEq, Eq, PartialOrd, Ord)]
 pub struct Throughput {
-    /// The difference between the value at the end of the timespan and that at its beginning.
+    /// The change of the value from the start of the timespan to its end.
     pub value_change_in_timespan: Step,
     /// The length of the timespan in nanoseconds.
     pub timespan: u64,
@@ -38,6 +38,14 @@ impl Throughput {
     }
 }
 
+/// A value, with its bound and its throughput if known.
+#[derive(Clone, Copy)]
+pub(super) struct Amount {
+    pub(super) value: Step,
+    pub(super) bound: Option<Step>,
+    pub(super) throughput: Option<Throughput>,
+}
+
 /// Whether a percentage and a throughput are shown with a value, and at which place.
 ///
 /// ```rust
@@ -51,7 +59,7 @@ pub struct Mode {
     pub(super) throughput: bool,
 }
 
-/// A mode that shows neither, after the unit.
+/// A mode that shows neither. Its place is after the unit.
 const NEITHER: Mode = Mode {
     location: Location::AfterUnit,
     percentage: false,
@@ -95,7 +103,7 @@ impl Mode {
         }
     }
 
-    /// Returns this mode with the place before the value.
+    /// Returns this mode with both shown before the value.
     pub fn show_before_value(self) -> Mode
         ensures { result ≡ record self { location = Location.BeforeValue } }
     {

@@ -1,4 +1,4 @@
-//! Large numbers in short, as `2.54M`.
+//! Large numbers in a short form, as `2.54M`.
 ghost use Rattle.std.specs.Prelude.{◌≡◌};
 ghost use Rattle.prodash_base.specs.Shown.{human_shown};
 

@@ -3,9 +3,8 @@
 //!
 //! Each call that is out of memory returns an `AllocError` and leaves the string unchanged.
 ghost use Rattle.std.specs.Prelude.{◌≡◌, codes, OnOk, OnErr, string_bytes};
-ghost use Rattle.prodash_base.specs.Appending.{Appends};
+ghost use Rattle.prodash_base.specs.Appending.{Appends, Pushes};
 ghost use Rattle.std.specs.Fmt.{decimal};
-ghost use Rattle.prodash_base.specs.plumbing.Prefixes.{IsPrefix};
 ghost use Rattle.prodash_base.specs.Shown.{label_shown, label_percentage, label_fraction, label_time_unit, unless_one};
 
 use super::DisplayValue;
@@ -50,8 +49,7 @@ pub fn display_percentage(out: &mut String, percentage: u64) -> Result<(), Alloc
 
 /// Appends a percentage.
 fn push_percentage(out: &mut String, percentage: u64) -> Result<(), AllocError>
-    ensures ok { OnOk result (Appends out.old (label_percentage percentage) out.new) }
-    ensures kept { IsPrefix (string_bytes out.old) (string_bytes out.new) }
+    ensures { Pushes result out.old (label_percentage percentage) out.new }
 {
     push_text(out, "[")?;
     push_decimal(out, percentage)?;

@@ -1,7 +1,6 @@
 //! The message that says how fast steps were done.
-ghost use Rattle.std.specs.Prelude.{◌≡◌, ◌-◌, OnOk, IfOk, IfErr, codes, option_copied, string_bytes};
-ghost use Rattle.prodash_base.specs.Appending.{Appends};
-ghost use Rattle.prodash_base.specs.plumbing.Prefixes.{IsPrefix};
+ghost use Rattle.std.specs.Prelude.{◌≡◌, ◌-◌, OnOk, IfOk, codes, option_copied, string_bytes, IsOkUnless};
+ghost use Rattle.prodash_base.specs.Appending.{Pushes};
 ghost use Rattle.prodash_base.specs.ThroughputMessages as texts;
 ghost use Rattle.prodash_base.specs.ThroughputMessages.{rate_of, seconds_text, amount_text, done_text};
 ghost use Rattle.prodash_base.specs.Units.{unit_shown};
@@ -32,7 +31,7 @@ pub fn throughput_message(
 ) -> Result<String, Refusal>
     ensures ok { IfOk result (λ text. string_bytes text
         ≡ texts.throughput_message (unit_shown (option_copied unit.entry)) step (now - start)) }
-    ensures reason { IfErr result (λ e. e ≡ Refusal.Memory) }
+    ensures reason { IsOkUnless result Refusal.Memory }
 {
     let mut text = String::new(alloc);
     let elapsed = now.saturating_sub(start);
@@ -56,8 +55,7 @@ fn rate_of(step: Step, nanoseconds: u64) -> u64
 
 /// Appends a number of nanoseconds in seconds, as `2.50`.
 fn push_seconds(out: &mut String, nanoseconds: u64) -> Result<(), AllocError>
-    ensures ok { OnOk result (Appends out.old (seconds_text nanoseconds) out.new) }
-    ensures kept { IsPrefix (string_bytes out.old) (string_bytes out.new) }
+    ensures { Pushes result out.old (seconds_text nanoseconds) out.new }
 {
     let hundredths = (u128::from(nanoseconds) + 5_000_000) / 10_000_000;
     push_decimal(out, (hundredths / 100) as u64)?;
@@ -72,8 +70,7 @@ fn push_amount<K: DisplayValue>(
     value: Step,
     step: Step,
 ) -> Result<(), AllocError>
-    ensures ok { OnOk result (Appends out.old (amount_text (K.shown kind.now) value step) out.new) }
-    ensures kept { IsPrefix (string_bytes out.old) (string_bytes out.new) }
+    ensures { Pushes result out.old (amount_text (K.shown kind.now) value step) out.new }
 {
     push_value(kind, out, value, None)?;
     push_spaced_unit(kind, out, step)
@@ -86,9 +83,7 @@ fn push_done<K: DisplayValue>(
     step: Step,
     nanoseconds: u64,
 ) -> Result<(), AllocError>
-    ensures ok { OnOk result
-        (Appends out.old (done_text (K.shown kind.now) step nanoseconds) out.new) }
-    ensures kept { IsPrefix (string_bytes out.old) (string_bytes out.new) }
+    ensures { Pushes result out.old (done_text (K.shown kind.now) step nanoseconds) out.new }
 {
     push_text(out, "done ")?;
     push_amount(kind, out, step, step)?;
@@ -103,9 +98,8 @@ fn push_message<K: DisplayValue>(
     step: Step,
     nanoseconds: u64,
 ) -> Result<(), AllocError>
-    ensures ok { OnOk result
-        (Appends out.old (texts.throughput_message (K.shown kind.now) step nanoseconds) out.new) }
-    ensures kept { IsPrefix (string_bytes out.old) (string_bytes out.new) }
+    ensures { Pushes result out.old
+        (texts.throughput_message (K.shown kind.now) step nanoseconds) out.new }
 {
     push_done(kind, out, step, nanoseconds)?;
     push_text(out, "s (")?;

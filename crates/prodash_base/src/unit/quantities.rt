@@ -1,7 +1,6 @@
 //! Percentages, bytes, large numbers and durations.
 ghost use Rattle.std.specs.Prelude.{◌≡◌, ◌<◌, ◌≤◌, codes, IfSome, OnOk, OnErr, string_bytes};
-ghost use Rattle.prodash_base.specs.Appending.{Appends};
-ghost use Rattle.prodash_base.specs.plumbing.Prefixes.{IsPrefix};
+ghost use Rattle.prodash_base.specs.Appending.{Appends, Pushes};
 ghost use Rattle.prodash_base.specs.Quantities.{percentage_of, scale_of, scaled, bytes_text, human_text, duration_part, duration_text};
 
 use crate::appending::{push_ascii, push_cut, push_decimal, push_text, undo_if_refused};
@@ -41,8 +40,7 @@ fn scale_of(n: u64) -> Option<(u64, u8)>
 /// the number as it is if it is less than 1000.
 fn push_scaled(out: &mut String, places: u8, n: u64) -> Result<(), AllocError>
     requires { places ≤ 6 }
-    ensures ok { OnOk result (Appends out.old (scaled places n (scale_of n)) out.new) }
-    ensures kept { IsPrefix (string_bytes out.old) (string_bytes out.new) }
+    ensures { Pushes result out.old (scaled places n (scale_of n)) out.new }
 {
     let Some((power, letter)) = scale_of(n) else {
         return push_decimal(out, n);
@@ -53,8 +51,7 @@ fn push_scaled(out: &mut String, places: u8, n: u64) -> Result<(), AllocError>
 
 /// Appends a number of bytes, as `18.4EB`.
 fn push_bytes(out: &mut String, n: u64) -> Result<(), AllocError>
-    ensures ok { OnOk result (Appends out.old (bytes_text n) out.new) }
-    ensures kept { IsPrefix (string_bytes out.old) (string_bytes out.new) }
+    ensures { Pushes result out.old (bytes_text n) out.new }
 {
     push_scaled(out, 1, n)?;
     push_text(out, "B")
@@ -82,8 +79,7 @@ pub(super) fn append_human(out: &mut String, decimals: u8, n: u64) -> Result<(),
 
 /// Appends a part of a duration, as `20m`; nothing if it is zero.
 fn push_duration_part(out: &mut String, n: u64, letter: &str) -> Result<(), AllocError>
-    ensures ok { OnOk result (Appends out.old (duration_part n letter.now) out.new) }
-    ensures kept { IsPrefix (string_bytes out.old) (string_bytes out.new) }
+    ensures { Pushes result out.old (duration_part n letter.now) out.new }
 {
     if n == 0 {
         return Ok(());
@@ -94,8 +90,7 @@ fn push_duration_part(out: &mut String, n: u64, letter: &str) -> Result<(), Allo
 
 /// Appends a number of seconds, as `7d4h20m10s`.
 fn push_duration(out: &mut String, n: u64) -> Result<(), AllocError>
-    ensures ok { OnOk result (Appends out.old (duration_text n) out.new) }
-    ensures kept { IsPrefix (string_bytes out.old) (string_bytes out.new) }
+    ensures { Pushes result out.old (duration_text n) out.new }
 {
     if n == 0 {
         return push_text(out, "0s");

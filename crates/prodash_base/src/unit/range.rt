@@ -7,7 +7,7 @@ use crate::appending::append_decimal;
 use crate::progress::Step;
 use std::alloc::AllocError;
 
-/// Shows values that count from zero from one, and their bound as it is, as `2 of 5 steps`.
+/// Shows zero-based values as one-based ones, and bounds as they are, as `2 of 5 steps`.
 #[derive(Debug, Clone, Copy, Default, PartialEq, Eq, PartialOrd, Ord)]
 pub struct Range {
     /// The name of the unit.

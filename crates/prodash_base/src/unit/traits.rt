@@ -1,6 +1,5 @@
 ghost use Rattle.std.specs.Prelude.{◌≡◌, OnOk, OnErr, codes, string_bytes};
-ghost use Rattle.prodash_base.specs.Appending.{Appends};
-ghost use Rattle.prodash_base.specs.plumbing.Prefixes.{IsPrefix};
+ghost use Rattle.prodash_base.specs.Appending.{Appends, IsPrefix, Pushes};
 ghost use Rattle.prodash_base.specs.Shown.{Shown, throughput_text, timespan_text, optional_fraction};
 
 use super::display::Throughput;
@@ -116,8 +115,7 @@ fn push_timespan(
     fraction: Option<(u64, u64)>,
     time_unit: &str,
 ) -> Result<(), AllocError>
-    ensures ok { OnOk result (Appends out.old (timespan_text fraction time_unit.now) out.new) }
-    ensures kept { IsPrefix (string_bytes out.old) (string_bytes out.new) }
+    ensures { Pushes result out.old (timespan_text fraction time_unit.now) out.new }
 {
     push_ascii(out, b'/')?;
     push_optional_fraction(out, fraction)?;
@@ -127,8 +125,7 @@ fn push_timespan(
 
 /// Appends a fraction, if there is one.
 fn push_optional_fraction(out: &mut String, fraction: Option<(u64, u64)>) -> Result<(), AllocError>
-    ensures ok { OnOk result (Appends out.old (optional_fraction fraction) out.new) }
-    ensures kept { IsPrefix (string_bytes out.old) (string_bytes out.new) }
+    ensures { Pushes result out.old (optional_fraction fraction) out.new }
 {
     match fraction {
         None => Ok(()),

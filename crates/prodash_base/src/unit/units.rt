@@ -1,9 +1,10 @@
-ghost use Rattle.std.specs.Prelude.{◌≡◌, Some, None, OnOk, OnErr, IfErr, string_bytes};
+ghost use Rattle.std.specs.Prelude.{◌≡◌, Some, None, OnOk, OnErr, string_bytes, IsOkUnless};
 ghost use Rattle.prodash_base.specs.Appending.{Appends};
-ghost use Rattle.prodash_base.specs.Units.{display_text};
+ghost use Rattle.prodash_base.specs.Displays.{amount};
+ghost use Rattle.prodash_base.specs.Units.{display_of, display_text};
 
 use super::Kind;
-use super::display::{Mode, Throughput, append, append_unit, append_values};
+use super::display::{Amount, Mode, Throughput, append, append_unit, append_values};
 use crate::progress::Step;
 use crate::refusal::Refusal;
 use std::alloc::Global;
@@ -16,7 +17,7 @@ pub struct Unit {
     mode: Option<Mode>,
 }
 
-/// Returns a unit that shows plain numbers and a name, without percentage and throughput.
+/// Returns a unit that shows plain numbers and a name, without a percentage or a throughput.
 pub fn label(name: &'static str) -> Unit
     ensures { result ≡ record { kind = Kind.Label name.entry; mode = None } }
 {
@@ -30,7 +31,7 @@ pub fn label_and_mode(name: &'static str, mode: Mode) -> Unit
     dynamic_and_mode(Kind::Label(name), mode)
 }
 
-/// Returns a unit of a kind, without percentage and throughput.
+/// Returns a unit of a kind, without a percentage or a throughput.
 pub fn dynamic(kind: Kind) -> Unit
     ensures { result ≡ record { kind = kind; mode = None } }
 {
@@ -59,7 +60,7 @@ impl From<&'static str> for Unit {
 
 impl Unit {
     /// Returns a display of a value in this unit, with its bound and its throughput if known. The
-    /// throughput is shown if the mode of the unit says so. `alloc` is used by `Display` alone.
+    /// throughput is shown only if the unit's mode says so. Only `Display` uses `alloc`.
     pub fn display(
         &self,
         alloc: Global,
@@ -67,20 +68,16 @@ impl Unit {
         bound: Option<Step>,
         throughput: Option<Throughput>,
     ) -> UnitDisplay
-        ensures { result ≡ record {
-          unit = self.now;
-          value = value;
-          bound = bound;
-          throughput = throughput;
-          part = Part.All;
-          alloc = alloc;
-        } }
+        ensures { result ≡ display_of self.now alloc (amount value bound throughput) }
     {
-        UnitDisplay {
-            unit: *self,
+        let amount = Amount {
             value,
             bound,
             throughput,
+        };
+        UnitDisplay {
+            unit: *self,
+            amount,
             part: Part::All,
             alloc,
         }
@@ -106,9 +103,7 @@ enum Part {
 #[derive(Drop)]
 pub struct UnitDisplay {
     unit: Unit,
-    value: Step,
-    bound: Option<Step>,
-    throughput: Option<Throughput>,
+    amount: Amount,
     part: Part,
     alloc: Global,
 }
@@ -152,20 +147,18 @@ impl UnitDisplay {
     pub fn append_to(&self, out: &mut String) -> Result<(), Refusal>
         ensures ok { OnOk result (Appends out.old (display_text self.now) out.new) }
         ensures err { OnErr result (string_bytes out.new ≡ string_bytes out.old) }
-        ensures reason { IfErr result (λ e. e ≡ Refusal.Memory) }
+        ensures reason { IsOkUnless result Refusal.Memory }
     {
         let (kind, mode) = (&self.unit.kind, self.unit.mode);
+        let Amount {
+            value,
+            bound,
+            throughput,
+        } = self.amount;
         match self.part {
-            Part::All => append(out, kind, mode, self.value, self.bound, self.throughput),
-            Part::Values => append_values(out, kind, mode, self.value, self.bound, self.throughput),
-            Part::UnitAlone => append_unit(
-                out,
-                kind,
-                mode,
-                self.value,
-                self.bound,
-                self.throughput,
-            ),
+            Part::All => append(out, kind, mode, value, bound, throughput),
+            Part::Values => append_values(out, kind, mode, value, bound, throughput),
+            Part::UnitAlone => append_unit(out, kind, mode, value, bound, throughput),
         }
     }
 }
@@ -173,6 +166,7 @@ impl UnitDisplay {
 impl fmt::Display for UnitDisplay {
     ghost output = { λ d. Some (display_text d) };
 
+    /// Writes what [`append_to`](UnitDisplay::append_to) appends. Width and precision are ignored.
     fn fmt<W: fmt::Write>(&self, f: &mut fmt::Formatter<W>) -> fmt::Result {
         let mut text = String::new(self.alloc);
         if self.append_to(&mut text).is_err() {

@@ -1,4 +1,4 @@
-//! Boxed progress, which hands each call on.
+//! Boxed progress, which forwards each call.
 use crate::traits::count::Count;
 use crate::traits::progress::Progress;
 use prodash_base::Refusal;
@@ -8,7 +8,7 @@ use prodash_base::time::Moment;
 use prodash_base::unit::Unit;
 use std::alloc::Global;
 
-/// Progress of a type that is not known, which its maker puts into a box.
+/// Boxed progress of a type that is not known.
 pub type BoxedProgress = Box<dyn Progress + Drop>;
 
 impl Count for BoxedProgress {

@@ -1,11 +1,11 @@
-ghost use Rattle.std.specs.Prelude.{◌≡◌, IfOk, IfErr};
+ghost use Rattle.std.specs.Prelude.{IfOk, IsOkUnless};
 
 use prodash_base::Refusal;
 use prodash_base::progress::{Step, StepShared};
 use std::alloc::Global;
 
-/// Counts steps. The ghost members say what a call means: they hold of each call that returns, and
-/// a wrapper defines them by those of what it wraps. By default they say nothing.
+/// Counts steps. The ghost members say what calls mean: they hold of each call that returns. A
+/// wrapper defines them by those of the value that it wraps. By default they say nothing.
 pub trait Count {
     ghost use Rattle.std.specs.Prelude.{ℕ};
     ghost use Rattle.prodash_core.specs.Traits.{Counter};
@@ -41,12 +41,12 @@ pub trait Count {
         self.inc_by(1);
     }
 
-    /// Returns one more owner of the counter.
+    /// Returns another owner of the counter.
     ///
     /// # Errors
     ///
     /// `Memory`, if there is no memory for it.
     fn counter(&self, alloc: Global) -> Result<StepShared, Refusal>
         ensures ok { IfOk result (λ counter. counts_in self.now counter) }
-        ensures err { IfErr result (λ e. e ≡ Refusal.Memory) };
+        ensures reason { IsOkUnless result Refusal.Memory };
 }

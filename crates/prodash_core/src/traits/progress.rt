@@ -1,10 +1,9 @@
-ghost use Rattle.std.specs.Prelude.{◌≡◌, ◌-◌, ◌⊎◌, ℕ, Option, IfOk, IfErr, IfSome, OnOk, OnErr, string_bytes};
+ghost use Rattle.std.specs.Prelude.{◌≡◌, ◌⊎◌, None, IfOk, IfErr, IfSome, OnOk, OnErr, string_bytes, IsOkUnless};
 ghost use Rattle.prodash_base.specs.Refusals.{RefusesMessage};
 ghost use Rattle.std.specs.Option.{option_map};
-ghost use Rattle.prodash_base.specs.ThroughputMessages as texts;
-ghost use Rattle.prodash_base.specs.Units.{unit_shown};
 ghost use Rattle.prodash_base.specs.declared.messages.MessageLevel.TheVariants.{Info, Failure, Success};
-ghost use Rattle.prodash_core.specs.Traits.{unknown_id};
+ghost use Rattle.prodash_base.specs.Rows.{unknown_id};
+ghost use Rattle.prodash_core.specs.Traits.{throughput_text, SendsThroughput};
 
 use crate::traits::count::Count;
 use prodash_base::Refusal;
@@ -52,7 +51,7 @@ pub trait Progress: Count + Send + Sync {
     /// A message was sent at a moment, with a level and a text.
     ghost was_sent: { Self → ℕ → MessageLevel → List ℕ → Type 0 } = { λ _ _ _ _. Unit {0} };
 
-    /// Begins the progress, with a bound and a unit, if they are known.
+    /// Begins the progress, with a bound and a unit, if known.
     fn init(&mut self, max: Option<Step>, unit: Option<Unit>)
         ensures { begins self.old max unit self.new };
 
@@ -63,16 +62,16 @@ pub trait Progress: Count + Send + Sync {
         None
     }
 
-    /// Returns the step at which the task is done, if it is known.
+    /// Returns the step at which the task is done, if known.
     fn max(&self) -> Option<Step>
         ensures { IfSome result (λ max. has_bound self.now max) }
     {
         None
     }
 
-    /// Sets the step at which the task is done, and returns the one before.
+    /// Sets the step at which the task is done, and returns the previous one.
     fn set_max(&mut self, _max: Option<Step>) -> Option<Step>
-        ensures { ((result ≡ Option.None) × (self.new ≡ self.old))
+        ensures { ((result ≡ None) × (self.new ≡ self.old))
             ⊎ gets_bound self.old _max result self.new }
     {
         None
@@ -82,11 +81,11 @@ pub trait Progress: Count + Send + Sync {
     ///
     /// # Errors
     ///
-    /// `Memory`, if there is no memory for the name. Nothing has changed then.
+    /// `Memory`, if there is no memory for the name; then nothing changes.
     fn set_name(&mut self, alloc: Global, name: &str) -> Result<(), Refusal>
         ensures ok { OnOk result (gets_name self.old name.now self.new) }
         ensures err { OnErr result (self.new ≡ self.old) }
-        ensures reason { IfErr result (λ e. e ≡ Refusal.Memory) };
+        ensures reason { IsOkUnless result Refusal.Memory };
 
     /// Returns a copy of the name, if there is one.
     ///
@@ -96,7 +95,7 @@ pub trait Progress: Count + Send + Sync {
     fn name(&self, alloc: Global) -> Result<Option<String>, Refusal>
         ensures ok { IfOk result (λ name.
             has_name self.now (option_map (λ text. string_bytes text) name)) }
-        ensures reason { IfErr result (λ e. e ≡ Refusal.Memory) };
+        ensures reason { IsOkUnless result Refusal.Memory };
 
     /// Returns the identifier, or `UNKNOWN` if there is none.
     fn id(&self) -> Id
@@ -154,17 +153,15 @@ pub trait Progress: Count + Send + Sync {
         self.message(alloc, at, MessageLevel::Failure, message)
     }
 
-    /// Sends a message that says how fast its own steps were done from `start` to `now`, at the
+    /// Sends a message that says how fast the task's steps were done from `start` to `now`, at the
     /// moment `now` and the level `Info`, as `done 10 items in 2.50s (4 items/s)`.
     ///
     /// # Errors
     ///
-    /// As `message`. The text is made first.
+    /// As `message`. If there is no memory for the text, nothing is sent.
     fn show_throughput(&self, alloc: Global, start: Moment, now: Moment) -> Result<(), Refusal>
-        ensures ok { OnOk result ((step : ℕ) × (unit : Option _) × Self.shows self.now step
-            × IfSome unit (λ unit. has_unit self.now unit)
-            × was_sent self.now now Info
-            (texts.throughput_message (unit_shown unit) step (now - start))) }
+        ensures ok { OnOk result (SendsThroughput (Self.shows self.now) (has_unit self.now)
+            (was_sent self.now now Info) start now) }
         ensures reason { IfErr result RefusesMessage }
     {
         let step = self.step();
@@ -177,7 +174,7 @@ pub trait Progress: Count + Send + Sync {
     ///
     /// # Errors
     ///
-    /// As `message`. The text is made first.
+    /// As `message`. If there is no memory for the text, nothing is sent.
     fn show_throughput_with(
         &self,
         alloc: Global,
@@ -188,7 +185,7 @@ pub trait Progress: Count + Send + Sync {
         level: MessageLevel,
     ) -> Result<(), Refusal>
         ensures ok { OnOk result (was_sent self.now now level
-            (texts.throughput_message (unit_shown unit) step (now - start))) }
+            (throughput_text unit step start now)) }
         ensures reason { IfErr result RefusesMessage }
     {
         let text = throughput_message(alloc, start, now, step, unit.as_ref())?;
@@ -215,17 +212,17 @@ pub trait NestedProgress: Progress {
     ///
     /// # Errors
     ///
-    /// `Memory`, if there is no memory for it. Nothing has changed then.
+    /// `Memory`, if there is no memory for it; then nothing changes.
     fn add_child(&mut self, alloc: Global, name: &str) -> Result<Self::SubProgress, Refusal>
         ensures ok { IfOk result (λ child. gets_child self.old name.now unknown_id self.new child) }
         ensures err { OnErr result (self.new ≡ self.old) }
-        ensures reason { IfErr result (λ e. e ≡ Refusal.Memory) };
+        ensures reason { IsOkUnless result Refusal.Memory };
 
     /// Adds a task below.
     ///
     /// # Errors
     ///
-    /// `Memory`, if there is no memory for it. Nothing has changed then.
+    /// `Memory`, if there is no memory for it; then nothing changes.
     fn add_child_with_id(
         &mut self,
         alloc: Global,
@@ -234,5 +231,5 @@ pub trait NestedProgress: Progress {
     ) -> Result<Self::SubProgress, Refusal>
         ensures ok { IfOk result (λ child. gets_child self.old name.now id self.new child) }
         ensures err { OnErr result (self.new ≡ self.old) }
-        ensures reason { IfErr result (λ e. e ≡ Refusal.Memory) };
+        ensures reason { IsOkUnless result Refusal.Memory };
 }

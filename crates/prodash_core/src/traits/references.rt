@@ -1,4 +1,4 @@
-//! References to progress, which hand each call on.
+//! References to progress, which forward each call.
 use crate::traits::count::Count;
 use crate::traits::progress::{NestedProgress, Progress};
 use prodash_base::Refusal;

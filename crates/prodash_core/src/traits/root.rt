@@ -1,4 +1,4 @@
-ghost use Rattle.std.specs.Prelude.{◌≡◌, ℕ, List, None, IfOk, IfErr, OnOk, OnErr};
+ghost use Rattle.std.specs.Prelude.{◌≡◌, ℕ, List, None, IfOk, IfErr, OnOk, OnErr, IsOkUnless};
 ghost use Rattle.prodash_base.specs.Refusals.{RefusesHandle};
 ghost use Rattle.prodash_base.specs.Adjacency.{IsAscending, paths_of};
 ghost use Rattle.prodash_base.specs.Rows.{PathRow, rows_of};
@@ -14,7 +14,7 @@ pub trait Root {
     ghost use Rattle.prodash_base.specs.Rows.{PathRow};
     ghost use Rattle.prodash_base.specs.declared.messages.Message.{Message};
 
-    /// The handle that finds the root again.
+    /// The weak handle of the root.
     type WeakRoot;
 
     /// What one look may return, for the number of messages that were seen before, if any: the
@@ -33,13 +33,13 @@ pub trait Root {
     /// The numbers of tasks that may be returned.
     ghost has_tasks: { Self → ℕ → Type 0 } = { λ _ _. Unit {0} };
 
-    /// The greatest numbers of messages that it may keep.
+    /// The maximum numbers of messages that it may keep.
     ghost keeps_at_most: { Self → ℕ → Type 0 } = { λ _ _. Unit {0} };
 
-    /// The handles that may be returned.
+    /// The weak handles that may be returned.
     ghost has_handle: { Self → Self.WeakRoot → Type 0 } = { λ _ _. Unit {0} };
 
-    /// Returns the greatest number of messages that are kept.
+    /// Returns the maximum number of messages that are kept.
     fn messages_capacity(&self) -> usize
         ensures { keeps_at_most self.now result };
 
@@ -56,7 +56,7 @@ pub trait Root {
         ensures ok { OnOk result (has_rows self.now (rows_of out.new.items)) }
         ensures ascending { OnOk result (IsAscending (paths_of out.new.items)) }
         ensures err { OnErr result (out.new.items ≡ out.old.items) }
-        ensures reason { IfErr result (λ e. e ≡ Refusal.Memory) };
+        ensures reason { IsOkUnless result Refusal.Memory };
 
     /// Replaces the contents of `out` with the messages that are kept, the oldest first.
     ///
@@ -66,7 +66,7 @@ pub trait Root {
     fn copy_messages(&self, alloc: Global, out: &mut Vec<Message>) -> Result<(), Refusal>
         ensures ok { OnOk result (has_messages self.now out.new.items) }
         ensures err { OnErr result (out.new.items ≡ out.old.items) }
-        ensures reason { IfErr result (λ e. e ≡ Refusal.Memory) };
+        ensures reason { IsOkUnless result Refusal.Memory };
 
     /// Replaces the contents of `out` with the messages that are kept and were sent since the copy
     /// that returned `previous`, the oldest first, or with all that are kept if it is `None`.
@@ -83,9 +83,9 @@ pub trait Root {
     ) -> Result<MessageCopyState, Refusal>
         ensures ok { IfOk result (λ state. has_news self.now previous out.new.items state) }
         ensures err { OnErr result (out.new.items ≡ out.old.items) }
-        ensures reason { IfErr result (λ e. e ≡ Refusal.Memory) };
+        ensures reason { IsOkUnless result Refusal.Memory };
 
-    /// Does what `sorted_snapshot` and `copy_new_messages` do, with nothing between them.
+    /// Does what `sorted_snapshot` and `copy_new_messages` do, in one step.
     ///
     /// # Errors
     ///
@@ -97,24 +97,24 @@ pub trait Root {
         messages: &mut Vec<Message>,
         previous: Option<MessageCopyState>,
     ) -> Result<MessageCopyState, Refusal>
-        ensures ok { IfOk result (λ state.
-            looks self.now previous (rows_of rows.new.items) messages.new.items state) }
+        ensures ok { IfOk result
+            (looks self.now previous (rows_of rows.new.items) messages.new.items) }
         ensures ascending { OnOk result (IsAscending (paths_of rows.new.items)) }
         ensures err_rows { OnErr result (rows.new.items ≡ rows.old.items) }
         ensures err_messages { OnErr result (messages.new.items ≡ messages.old.items) }
-        ensures reason { IfErr result (λ e. e ≡ Refusal.Memory) };
+        ensures reason { IsOkUnless result Refusal.Memory };
 
-    /// Returns a handle that finds the root again as long as it has an owner.
+    /// Returns a weak handle of the root, which upgrades while the root has an owner.
     ///
     /// # Errors
     ///
     /// `Memory`, if the reference count of the root is at its limit.
     fn downgrade(&self) -> Result<Self::WeakRoot, Refusal>
         ensures ok { IfOk result (λ handle. has_handle self.now handle) }
-        ensures reason { IfErr result (λ e. e ≡ Refusal.Memory) };
+        ensures reason { IsOkUnless result Refusal.Memory };
 }
 
-/// A handle that finds the root of a tree again as long as it has an owner.
+/// A weak handle of the root of a tree, which upgrades while the root has an owner.
 pub trait WeakRoot {
     ghost use Rattle.std.specs.Prelude.{Option};
 
@@ -124,7 +124,7 @@ pub trait WeakRoot {
     /// The root that may be found, if any.
     ghost finds: { Self → Option Self.Root → Type 0 } = { λ _ _. Unit {0} };
 
-    /// Returns one more owner of the root, or `None` if it has none.
+    /// Returns another owner of the root, or `None` if the root has none left.
     ///
     /// # Errors
     ///

@@ -10,8 +10,8 @@ use std::alloc::AllocError;
 /// A handle for the root or an item. The root's is 0, and each `AddChild` makes the next.
 pub type Handle = u64;
 
-/// An event of a session. The root handle is for `AddChild` alone; the other events on a handle
-/// need an item's.
+/// An event of a session. Only `AddChild` accepts the root's handle; the other events on a handle
+/// take an item's.
 #[derive(Debug, PartialEq, Eq, Drop)]
 pub enum Event {
     /// Adds an item below the root or another item.
@@ -44,11 +44,11 @@ pub enum Event {
         /// The new name.
         name: Text,
     },
-    /// Sets the step at which an item is done, if it has progress, and returns the one before.
+    /// Sets the step at which an item is done, if it has progress, and returns the previous one.
     SetMax {
         /// The handle of the item.
         item: Handle,
-        /// The new step at which the item is done, if it is known.
+        /// The new step at which the item is done, if known.
         max: Option<Step>,
     },
     /// Sets the counter of an item.
@@ -65,13 +65,13 @@ pub enum Event {
         /// The steps that are added.
         step: Step,
     },
-    /// Marks the progress of an item, if it has any, as one that can't go on.
+    /// Marks the progress of an item, if it has any, as blocked.
     Blocked {
         /// The handle of the item.
         item: Handle,
         /// The reason.
         reason: &'static str,
-        /// The moment at which the item is expected to go on, if it is known.
+        /// The moment at which the item is expected to continue, if known.
         eta: Option<Moment>,
     },
     /// Marks the progress of an item, if it has any, as stopped.
@@ -80,7 +80,7 @@ pub enum Event {
         item: Handle,
         /// The reason.
         reason: &'static str,
-        /// The moment at which the item is expected to go on, if it is known.
+        /// The moment at which the item is expected to continue, if known.
         eta: Option<Moment>,
     },
     /// Marks the progress of an item, if it has any, as running.
@@ -88,7 +88,7 @@ pub enum Event {
         /// The handle of the item.
         item: Handle,
     },
-    /// Sends a message of an item.
+    /// Sends a message from an item.
     Message {
         /// The handle of the item.
         item: Handle,
@@ -124,7 +124,7 @@ pub enum Event {
         /// The handle of the item.
         item: Handle,
     },
-    /// Returns how many items have a row.
+    /// Returns the number of items that have a row.
     NumTasks,
     /// Returns the rows of all items.
     Snapshot,
@@ -143,14 +143,14 @@ pub enum Event {
     Tick {
         /// The moment of the frame.
         at: Moment,
-        /// Whether the rows are shown or hidden.
+        /// Whether the rows are shown.
         show: bool,
     },
     /// Sets the size of the terminal, and draws the rows of the latest tick if they are shown.
     Resize {
         /// The moment of the frame.
         at: Moment,
-        /// Whether the rows are shown or hidden.
+        /// Whether the rows are shown.
         show: bool,
         /// The columns of the terminal.
         columns: u16,

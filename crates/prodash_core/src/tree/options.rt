@@ -7,7 +7,7 @@ use prodash_line::render::line::draw;
 pub struct RootOptions {
     /// The expected number of tasks. No memory is reserved for them.
     pub initial_capacity: usize,
-    /// The greatest number of messages that are kept.
+    /// The maximum number of messages that are kept.
     pub message_buffer_capacity: usize,
 }
 

@@ -1,5 +1,6 @@
-ghost use Rattle.std.specs.Prelude.{◌≡◌, IfOk, IfErr};
+ghost use Rattle.std.specs.Prelude.{◌≡◌, IfOk, IsOkUnless};
 ghost use Rattle.prodash_core.specs.Sessions.{new_session, RendersFrame, Steps};
+ghost use Rattle.prodash_core.specs.declared.tree.event.Event.TheVariants.{Tick};
 
 use crate::tree::event::{Event, Reply};
 use crate::tree::options::SessionOptions;
@@ -45,7 +46,7 @@ impl Session {
     /// `Memory`, if there is no memory for it.
     pub fn new(alloc: Global, options: &SessionOptions) -> Result<Session, Refusal>
         ensures ok { IfOk result (λ s. s ≡ new_session options.now) }
-        ensures err { IfErr result (λ e. e ≡ Refusal.Memory) }
+        ensures reason { IsOkUnless result Refusal.Memory }
     {
         Ok(Session {
             tree: TreeState::new(alloc, &options.root)?,
@@ -53,15 +54,15 @@ impl Session {
         })
     }
 
-    /// Returns an equal session, whose counters are its own: what is applied to one of the two
+    /// Returns an equal session with counters of its own: an event applied to either of the two
     /// doesn't change the other.
     ///
     /// # Errors
     ///
-    /// `Memory`, if out of memory.
+    /// `Memory`, if there is no memory for it.
     pub fn deep_clone(&self, alloc: Global) -> Result<Session, Refusal>
         ensures ok { IfOk result (λ copy. copy ≡ self.now) }
-        ensures err { IfErr result (λ e. e ≡ Refusal.Memory) }
+        ensures reason { IsOkUnless result Refusal.Memory }
     {
         Ok(Session {
             tree: self.tree.deep_clone(alloc)?,
@@ -98,7 +99,7 @@ impl Session {
 
     /// Draws the frame of a tick.
     fn tick<S: Screen>(&mut self, alloc: Global, at: Moment, show: bool, screen: &mut S) -> Reply
-        ensures { Steps self.old (S.state screen.old) (Event.Tick at show) result
+        ensures { Steps self.old (S.state screen.old) (Tick at show) result
             self.new (S.state screen.new) }
     {
         if let Some(refusal) = self.renderer.ended() {

@@ -1,16 +1,16 @@
 ghost use Rattle.std.specs.Prelude.{◌≡◌, ◌+◌, ◌%◌, ◌^◌, false};
 
-use prodash_base::progress::{Key, Step};
+use prodash_base::progress::{Key, Step, key};
 
 /// What a tree keeps for a handle.
 #[derive(Clone, Copy, Debug)]
 pub(crate) struct Slot {
     /// The key of the task.
     pub(crate) key: Key,
-    /// The number that the progress of the task shows.
+    /// The step that the progress of the task shows.
     pub(crate) counter: Step,
-    /// The number that the next child gets.
-    pub(crate) next_child: u16,
+    /// The number of the next child.
+    pub(crate) next_child: u32,
     /// Whether the handle is valid.
     pub(crate) is_valid: bool,
 }
@@ -30,25 +30,24 @@ impl Slot {
         }
     }
 
-    /// Returns the slot after its handle got another child. The number of the child after 65535
-    /// is 0.
+    /// Returns the slot after a child was added to its handle.
     pub(crate) fn with_child(self) -> Slot
         ensures { result ≡ with_child self }
     {
         Slot {
-            next_child: self.next_child.wrapping_add(1),
+            next_child: key::next_id(self.next_child),
             ..self
         }
     }
 
-    /// Returns the slot with another number in its counter.
+    /// Returns the slot with this step in its counter.
     pub(crate) fn with_counter(self, counter: Step) -> Slot
         ensures { result ≡ record self { counter = counter } }
     {
         Slot { counter, ..self }
     }
 
-    /// Returns the slot with a counter that is higher by some steps. The step after 2^64-1 is 0.
+    /// Returns the slot with this many steps added to its counter. The step after 2^64-1 is 0.
     pub(crate) fn with_steps(self, step: Step) -> Slot
         ensures { result ≡ record self { counter = (self.counter + step) % 2 ^ 64 } }
     {

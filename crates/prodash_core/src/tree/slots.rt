@@ -50,7 +50,7 @@ impl Slots {
         }
     }
 
-    /// Puts another slot in the place of a handle's.
+    /// Replaces the slot of a handle.
     pub(crate) fn put(&mut self, handle: Handle, slot: Slot)
         requires { handle < length self.old }
         ensures { self.new ≡ slice_set self.old handle slot }
@@ -78,7 +78,7 @@ impl Slots {
 impl Clone for Slots {
     ghost is_clone = { λ a b. b ≡ a };
 
-    /// Returns a copy, whose counters are its own.
+    /// Returns a copy with counters of its own.
     fn clone(&self) -> Result<Slots, AllocError> {
         let slots = self.slots.clone()?;
         Ok(Slots { slots })

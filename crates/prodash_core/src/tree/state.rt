@@ -1,10 +1,9 @@
-ghost use Rattle.std.specs.Prelude.{◌≡◌, ℕ, List, IfOk, IfErr, false};
+ghost use Rattle.std.specs.Prelude.{◌≡◌, IfOk, false, IsOkUnless};
 ghost use Rattle.prodash_base.specs.Rings.{messages_since};
-ghost use Rattle.prodash_base.specs.declared.messages.MessageLevel as severity;
 ghost use Rattle.prodash_base.specs.Rows.{phase_of};
 ghost use Rattle.prodash_core.specs.Tables.{ListsEachOnce};
-ghost use Rattle.prodash_core.specs.Trees.{Tree, new_tree, slot_at, item_at, or_gone, tree_rows, snapshot_of, set_phase, is_frame, Changes, Plays};
-ghost use Rattle.prodash_core.specs.Refusals.{refusal_of};
+ghost use Rattle.prodash_core.specs.Trees.{Tree, new_tree, slot_at, item_at, or_gone, tree_rows, snapshot_of, set_phase, is_frame, Returns, Plays};
+ghost use Rattle.prodash_core.specs.Refusals.{refusal_of, IsRefusalOfMessage};
 
 use crate::tree::event::{Event, Handle, Reply};
 use crate::tree::options::RootOptions;
@@ -54,7 +53,7 @@ impl TreeState {
     /// `Memory`, if there is no memory for it.
     pub fn new(alloc: Global, options: &RootOptions) -> Result<TreeState, Refusal>
         ensures ok { IfOk result (λ t. t ≡ new_tree options.now.message_buffer_capacity) }
-        ensures err { IfErr result (λ e. e ≡ Refusal.Memory) }
+        ensures reason { IsOkUnless result Refusal.Memory }
     {
         Ok(TreeState {
             table: TreeCore::new(alloc),
@@ -63,14 +62,14 @@ impl TreeState {
         })
     }
 
-    /// Returns an equal tree, whose counters are its own.
+    /// Returns an equal tree with counters of its own.
     ///
     /// # Errors
     ///
-    /// `Memory`, if out of memory.
+    /// `Memory`, if there is no memory for it.
     pub fn deep_clone(&self, alloc: Global) -> Result<TreeState, Refusal>
         ensures ok { IfOk result (λ copy. copy ≡ self.now) }
-        ensures err { IfErr result (λ e. e ≡ Refusal.Memory) }
+        ensures reason { IsOkUnless result Refusal.Memory }
     {
         Ok(TreeState {
             table: self.table.clone()?,
@@ -129,7 +128,7 @@ impl TreeState {
     }
 
     /// Returns the refusal of an event that is no frame, if `apply` refuses it however much memory
-    /// there is. It takes no memory.
+    /// there is. Allocates nothing.
     pub fn refusal(&self, event: &Event) -> Option<Refusal>
         requires { is_frame event.now ≡ false }
         ensures { result ≡ refusal_of self.now event.now }
@@ -168,7 +167,7 @@ impl TreeState {
     pub fn rows(&self, alloc: Global) -> Result<Rows, Refusal>
         ensures ok { IfOk result (λ rows. rows ≡ tree_rows self.now) }
         ensures each { IfOk result (λ rows. ListsEachOnce self.now.table rows) }
-        ensures err { IfErr result (λ e. e ≡ Refusal.Memory) }
+        ensures reason { IsOkUnless result Refusal.Memory }
     {
         self.table.rows(alloc, &self.slots)
     }
@@ -185,7 +184,7 @@ impl TreeState {
         previous: Option<MessageCopyState>,
     ) -> Result<Option<(Rows, Messages, MessageCopyState)>, Refusal>
         ensures ok { IfOk result (λ seen. seen ≡ snapshot_of self.now previous) }
-        ensures err { IfErr result (λ e. e ≡ Refusal.Memory) }
+        ensures reason { IsOkUnless result Refusal.Memory }
     {
         if self.root().is_err() {
             return Ok(None);
@@ -201,9 +200,9 @@ impl TreeState {
         alloc: Global,
         previous: Option<MessageCopyState>,
     ) -> Result<(Messages, MessageCopyState), Refusal>
-        ensures ok { IfOk result (λ new.
-            new ≡ (messages_since self.now.ring previous, self.now.ring.pushed)) }
-        ensures err { IfErr result (λ e. e ≡ Refusal.Memory) }
+        ensures ok { IfOk result (λ m.
+            m ≡ (messages_since self.now.ring previous, self.now.ring.pushed)) }
+        ensures reason { IsOkUnless result Refusal.Memory }
     {
         let mut messages = Vec::new(alloc);
         let state = self.ring.copy_new(alloc, &mut messages, previous)?;
@@ -237,8 +236,7 @@ impl TreeState {
 
     /// Returns the refusal of a message of an item, if it is refused however much memory there is.
     fn refusal_of_message(&self, item: Handle) -> Option<Refusal>
-        ensures { (at : ℕ) (level : MessageLevel) (text : List ℕ)
-            → result ≡ refusal_of self.now (Event.Message item at level text) }
+        ensures { IsRefusalOfMessage self.now item result }
     {
         match self.item(item) {
             Err(refusal) => Some(refusal),
@@ -291,17 +289,7 @@ impl TreeState {
         ensures { Plays self.old (Event.Init item max unit) result self.new }
     {
         let slot = self.item(item)?;
-        let progress = if max.is_some() || unit.is_some() {
-            Some(Counted {
-                counter: item,
-                done_at: max,
-                unit,
-                state: State::Running,
-            })
-        } else {
-            None
-        };
-        if self.table.init(slot.key, progress) {
+        if self.table.init(slot.key, Counted::begin(item, max, unit)) {
             self.slots.put(item, slot.with_counter(0));
         }
         Ok(Reply::Done)
@@ -339,7 +327,8 @@ impl TreeState {
     }
 
     fn set_state(&mut self, item: Handle, state: State) -> Result<Reply, Refusal>
-        ensures { Changes self.old false (set_phase item (phase_of state)) result self.new }
+        ensures { Returns self.old false (set_phase self.old item (phase_of state))
+            result self.new }
     {
         let slot = self.item(item)?;
         self.table.set_state(slot.key, state);

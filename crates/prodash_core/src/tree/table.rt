@@ -1,13 +1,12 @@
-ghost use Rattle.std.specs.Prelude.{◌≡◌, ◌≢◌, ℕ, OnOk, OnErr, IfOk, IfErr, Some, None, map, nat_eq, is_some};
+ghost use Rattle.std.specs.Prelude.{◌≡◌, ◌≢◌, ℕ, OnOk, OnErr, IfOk, Some, None, nat_eq, is_some, IsOkUnless};
 ghost use Rattle.std.specs.FinMap as finite;
 ghost use Rattle.std.specs.Option.{option_map};
-ghost use Rattle.std.specs.List.{AllZip};
 ghost use Rattle.std.specs.List.Sorted.{IsPermutation, IsSortedByKey};
 ghost use Rattle.std.specs.HashMap.{IsUnique};
 ghost use Rattle.std.specs.Cmp.Lexicographic.{pointwise};
 ghost use Rattle.prodash_base.specs.Path.{Path, path_cmp};
-ghost use Rattle.prodash_base.specs.Rows.{phase_of, progress_of, row_of, rows_of};
-ghost use Rattle.prodash_core.specs.Tables.{change_at, with_name, with_progress, with_bound, with_phase, name_at, id_of, bound_of, unit_of, counted_of, ProgressShows, RowShows, RowsShow, ListsEachOnce, pair_of, entry_of};
+ghost use Rattle.prodash_base.specs.Rows.{phase_of, row_of};
+ghost use Rattle.prodash_core.specs.Tables.{new_entry, change_at, with_name, with_progress, with_bound, with_phase, name_at, id_of, bound_of, unit_of, counted_of, ValueShows, RowShows, RowsShow, RowsShowTasks, ListsEachOnce, pair_of, entry_of};
 
 use prodash_base::progress::{Id, Key, Row, Rows, State, Step, UNKNOWN, Value};
 use prodash_base::unit::Unit;
@@ -21,12 +20,32 @@ use std::marker::Model;
 pub struct Counted<C> {
     /// The name of the counter of steps.
     pub counter: C,
-    /// The step at which the task is done, if it is known.
+    /// The step at which the task is done, if known.
     pub done_at: Option<Step>,
-    /// The unit of the steps, if it has one.
+    /// The unit of the steps, if any.
     pub unit: Option<Unit>,
     /// The state of the task.
     pub state: State,
+}
+
+impl<C: Copy> Counted<C> {
+    ghost use Rattle.prodash_core.specs.Tables.{new_progress};
+
+    /// Returns the progress of a task that begins to run, or `None` if it has neither a bound nor a
+    /// unit.
+    pub fn begin(counter: C, max: Option<Step>, unit: Option<Unit>) -> Option<Counted<C>>
+        ensures { option_map counted_of result ≡ new_progress counter max unit }
+    {
+        if max.is_none() && unit.is_none() {
+            return None;
+        }
+        Some(Counted {
+            counter,
+            done_at: max,
+            unit,
+            state: State::Running,
+        })
+    }
 }
 
 /// A task of a table. A `C` names the counter of its progress.
@@ -36,7 +55,7 @@ pub struct Task<C> {
     pub name: Text,
     /// The identifier of the task.
     pub id: Id,
-    /// The progress of the task, if it has one.
+    /// The progress of the task, if it has begun.
     pub progress: Option<Counted<C>>,
 }
 
@@ -82,7 +101,7 @@ impl<C: Copy> Task<C> {
         }
     }
 
-    /// Sets the step at which the task is done, if it has progress, and returns the one before.
+    /// Sets the step at which the task is done, if it has progress, and returns the previous one.
     fn set_max(&mut self, max: Option<Step>) -> Option<Step>
         ensures before { result ≡ bound_of (Some (entry_of self.old)) }
         ensures after { entry_of self.new ≡ with_bound max (entry_of self.old) }
@@ -104,12 +123,12 @@ impl<C: Copy> Task<C> {
     }
 }
 
-/// Reads the numbers of counters, each of which a `C` names.
+/// Reads counters of steps, each of which a `C` names.
 pub trait Counters<C> {
-    /// The numbers that a counter may show.
+    /// The steps that a counter may show.
     ghost shows: { Self → C → ℕ → Type 0 };
 
-    /// Returns the number of a counter.
+    /// Returns the step of a counter.
     fn number(&self, counter: C) -> Step
         ensures { shows self.now counter result };
 }
@@ -167,16 +186,16 @@ impl<C: Copy> Clone for TreeCore<C> {
 }
 
 impl<C: Copy> TreeCore<C> {
-    /// Inserts a task without progress. It replaces the task that the key had before.
+    /// Inserts a task without progress, which replaces the task that the key had, if any.
     ///
     /// # Errors
     ///
     /// `Memory`, if there is no memory for the task; then the table stays as it was.
     pub fn insert(&mut self, alloc: Global, key: Key, name: &str, id: Id) -> Result<(), Refusal>
-        ensures ok { OnOk result (self.new ≡ finite.insert self.old key
-            (record { name = name.now; id = id; progress = None })) }
+        ensures ok { OnOk result
+            (self.new ≡ finite.insert self.old key (new_entry name.now id)) }
         ensures err { OnErr result (self.new ≡ self.old) }
-        ensures reason { IfErr result (λ e. e ≡ Refusal.Memory) }
+        ensures reason { IsOkUnless result Refusal.Memory }
     {
         let name = Text::from_str(alloc, name)?;
         self.tasks.insert(
@@ -226,7 +245,7 @@ impl<C: Copy> TreeCore<C> {
     pub fn set_name(&mut self, alloc: Global, key: Key, name: &str) -> Result<(), Refusal>
         ensures ok { OnOk result (self.new ≡ change_at self.old key (with_name name.now)) }
         ensures err { OnErr result (self.new ≡ self.old) }
-        ensures reason { IfErr result (λ e. e ≡ Refusal.Memory) }
+        ensures reason { IsOkUnless result Refusal.Memory }
     {
         let name = Text::from_str(alloc, name)?;
         if let Some(task) = self.tasks.get_mut(&key) {
@@ -235,8 +254,8 @@ impl<C: Copy> TreeCore<C> {
         Ok(())
     }
 
-    /// Sets the step at which the task at a key is done, if it has progress, and returns the one
-    /// before.
+    /// Sets the step at which the task at a key is done, if it has progress, and returns the
+    /// previous one.
     pub fn set_max(&mut self, key: Key, max: Option<Step>) -> Option<Step>
         ensures before { result ≡ bound_of (finite.get self.old key) }
         ensures after { self.new ≡ change_at self.old key (with_bound max) }
@@ -276,8 +295,8 @@ impl<C: Copy> TreeCore<C> {
         }
     }
 
-    /// Returns the step at which the task at a key is done, if there is a task, and it has progress
-    /// and such a step.
+    /// Returns the step at which the task at a key is done, or `None` if there is no task, no
+    /// progress or no such step.
     pub fn max(&self, key: Key) -> Option<Step>
         ensures { result ≡ bound_of (finite.get self.now key) }
     {
@@ -287,7 +306,8 @@ impl<C: Copy> TreeCore<C> {
         }
     }
 
-    /// Returns the unit of the task at a key, if there is a task, and it has progress and a unit.
+    /// Returns the unit of the task at a key, or `None` if there is no task, no progress or no
+    /// unit.
     pub fn unit(&self, key: Key) -> Option<Unit>
         ensures { result ≡ unit_of (finite.get self.now key) }
     {
@@ -311,7 +331,7 @@ impl<C: Copy> TreeCore<C> {
         self.len() == 0
     }
 
-    /// Returns the rows, in ascending order of their keys, with the number of each counter.
+    /// Returns the rows, in ascending order of their keys, with the step of each counter.
     ///
     /// # Errors
     ///
@@ -319,7 +339,7 @@ impl<C: Copy> TreeCore<C> {
     pub fn rows<N: Counters<C>>(&self, alloc: Global, counters: &N) -> Result<Rows, Refusal>
         ensures shows { IfOk result (λ rows. RowsShow (N.shows counters.now) self.now rows) }
         ensures each { IfOk result (λ rows. ListsEachOnce self.now rows) }
-        ensures err { IfErr result (λ e. e ≡ Refusal.Memory) }
+        ensures reason { IsOkUnless result Refusal.Memory }
     {
         let mut rows = hashed_rows(alloc, &self.tasks, counters)?;
         sort_rows(&mut rows);
@@ -329,8 +349,7 @@ impl<C: Copy> TreeCore<C> {
 
 /// Returns the value of a progress.
 fn value_of<C: Copy, N: Counters<C>>(progress: &Option<Counted<C>>, counters: &N) -> Option<Value>
-    ensures { ProgressShows (N.shows counters.now) (option_map counted_of progress.now)
-        (option_map progress_of result) }
+    ensures { ValueShows (N.shows counters.now) progress.now result }
 {
     match progress {
         None => None,
@@ -350,7 +369,7 @@ fn row_of_task<C: Copy, N: Counters<C>>(
     counters: &N,
 ) -> Result<Row, AllocError>
     ensures { IfOk result (λ row.
-        RowShows (N.shows counters.now) (key, entry_of task.now) (row_of row)) }
+        RowShows (N.shows counters.now) (pair_of (key, task.now)) (row_of row)) }
 {
     Ok(Row {
         key,
@@ -367,11 +386,10 @@ fn hashed_rows<C: Copy, N: Counters<C>>(
     counters: &N,
 ) -> Result<Vec<Row>, AllocError>
     ensures rows { IfOk result (λ rows.
-        AllZip (RowShows (N.shows counters.now)) (map pair_of tasks.now.entries)
-        (rows_of rows.items)) }
+        RowsShowTasks (N.shows counters.now) tasks.now.entries rows.items) }
     ensures unique { IsUnique (pointwise nat_eq) tasks.now }
 {
-    let mut rows = Vec::new(alloc);
+    let mut rows = Vec::with_capacity(alloc, tasks.len())?;
     for (key, task) in tasks.iter() {
         rows.push(row_of_task(*key, task, counters)?)?;
     }

@@ -1,5 +1,5 @@
 //! Names that are joined by `::`.
-ghost use Rattle.std.specs.Prelude.{◌≡◌, IfOk, IfErr, option_map};
+ghost use Rattle.std.specs.Prelude.{◌≡◌, IfOk, option_map, IsOkUnless};
 ghost use Rattle.prodash.specs.Logs.{joined, IsFirstPart, IsSecondPart};
 
 use prodash_base::{Refusal, Text};
@@ -10,7 +10,7 @@ const SEPARATOR: &str = "::";
 /// Returns a name and one below it, joined.
 pub(super) fn joined(alloc: Global, name: &str, below: &str) -> Result<Text, Refusal>
     ensures ok { IfOk result (λ text. text ≡ joined name.now below.now) }
-    ensures err { IfErr result (λ e. e ≡ Refusal.Memory) }
+    ensures reason { IsOkUnless result Refusal.Memory }
 {
     Ok(Text::new(format!(in alloc; "{name}::{below}")?))
 }

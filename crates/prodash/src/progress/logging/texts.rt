@@ -1,6 +1,6 @@
 //! The lines of a log.
-ghost use Rattle.std.specs.Prelude.{◌≡◌, ◌++◌, Some, None, IfOk, IfErr, string_bytes};
-ghost use Rattle.prodash.specs.Logs.{arrowed, step_text, sign_of, message_text};
+ghost use Rattle.std.specs.Prelude.{◌≡◌, ◌++◌, Some, None, IfOk, string_bytes, IsOkUnless};
+ghost use Rattle.prodash.specs.Logs.{step_line, sign_of, message_text};
 
 use crate::messages::MessageLevel;
 use crate::progress::Step;
@@ -16,9 +16,8 @@ pub(super) fn line(
     unit: Option<Unit>,
     step: Step,
 ) -> Result<String, Refusal>
-    ensures ok { IfOk result (λ line. string_bytes line
-        ≡ arrowed name.now (step_text max unit step)) }
-    ensures err { IfErr result (λ e. e ≡ Refusal.Memory) }
+    ensures ok { IfOk result (λ line. string_bytes line ≡ step_line name.now max unit step) }
+    ensures reason { IsOkUnless result Refusal.Memory }
 {
     match (max, unit) {
         (max, Some(unit)) => line_in_unit(alloc, name, max, unit, step),
@@ -36,8 +35,8 @@ fn line_in_unit(
     step: Step,
 ) -> Result<String, Refusal>
     ensures ok { IfOk result (λ line. string_bytes line
-        ≡ arrowed name.now (step_text max (Some unit) step)) }
-    ensures err { IfErr result (λ e. e ≡ Refusal.Memory) }
+        ≡ step_line name.now max (Some unit) step) }
+    ensures reason { IsOkUnless result Refusal.Memory }
 {
     let mut value = String::new(alloc);
     unit.display(alloc, step, max, None).append_to(&mut value)?;
@@ -53,7 +52,7 @@ pub(super) fn message_line(
 ) -> Result<String, Refusal>
     ensures ok { IfOk result (λ line. string_bytes line
         ≡ message_text name.now level message.now) }
-    ensures err { IfErr result (λ e. e ≡ Refusal.Memory) }
+    ensures reason { IsOkUnless result Refusal.Memory }
 {
     let sign = sign_of(level);
     Ok(format!(in alloc; "{sign}{name} → {message}")?)

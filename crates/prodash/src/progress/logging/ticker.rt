@@ -1,5 +1,6 @@
 //! The thread that lets a log write its next line.
-ghost use Rattle.std.specs.Prelude.{◌≡◌, ◌⊎◌, IfErr};
+ghost use Rattle.std.specs.Prelude.{IfErr};
+ghost use Rattle.prodash_base.specs.Refusals.{RefusesThread};
 
 use crate::time::Clock;
 use prodash_base::Refusal;
@@ -15,8 +16,8 @@ const INTERVAL: u64 = 500_000_000;
 ///
 /// # Errors
 ///
-/// `NoThread`, if the thread can't be started. `Memory`, if the reference count of the runtime is at
-/// its limit.
+/// `NoThread`, if the thread can't be started. `Memory`, if the reference count of the runtime is
+/// at its limit.
 pub(super) fn start<R, K>(
     rt: &R,
     trigger: Arc<AtomicBool>,
@@ -26,7 +27,7 @@ pub(super) fn start<R, K>(
 where
     R: Threads + Wait + Clone + Drop + Send + Sync + 'static,
     K: Clock + Drop + Send + Sync + 'static,
-    ensures { IfErr result (λ e. (e ≡ Refusal.Memory) ⊎ (e ≡ Refusal.NoThread)) }
+    ensures { IfErr result RefusesThread }
 {
     let their_rt = rt.clone()?;
     let builder = Builder::new().stack_size(stack_size);

@@ -1,6 +1,6 @@
 //! A log as a progress.
-ghost use Rattle.std.specs.Prelude.{◌≡◌, Some, List, ℕ};
-ghost use Rattle.prodash.specs.Logs.{child_log, joined, IsFirstPart, IsSecondPart};
+ghost use Rattle.std.specs.Prelude.{◌≡◌, Some};
+ghost use Rattle.prodash.specs.Logs.{child_log, Renames, IsSecondPart};
 
 use super::Log;
 use crate::messages::MessageLevel;
@@ -40,8 +40,7 @@ impl<L: Logger + Drop + Send + Sync, K: Clock + Drop + Send + Sync> Progress for
     ghost gets_bound = { λ log max before after. (before ≡ log.max)
         × (after ≡ record log { max = max }) };
 
-    ghost gets_name = { λ log name after. (first : List ℕ) × IsFirstPart log.name first
-        × (after ≡ record log { name = joined first name }) };
+    ghost gets_name = { Renames };
 
     ghost has_name = { λ log name. IsSecondPart log.name name };
 

@@ -1,6 +1,6 @@
 //! Progress of any kind that this crate has.
 ghost use Rattle.std.specs.Prelude.{◌≡◌, None, Some, List, ℕ};
-ghost use Rattle.prodash_core.specs.Traits.{unknown_id};
+ghost use Rattle.prodash_base.specs.Rows.{unknown_id};
 ghost use Rattle.prodash.specs.Items.{new_place, next_path, with_child};
 ghost use Rattle.prodash.specs.Logs.{child_log, joined, IsFirstPart, IsSecondPart};
 ghost use Rattle.prodash.specs.declared.progress.utils.any_progress.AnyProgress.TheVariants as any;
@@ -17,8 +17,8 @@ use prodash_core::traits::{Count, NestedProgress, Progress};
 use std::alloc::Global;
 use std::sync::Wait;
 
-/// Progress of any kind that this crate has, for code whose type of progress is known only when it
-/// runs. A child is of the same kind as its parent.
+/// Progress of any kind in this crate, for code that chooses the kind at run time. A child is of
+/// the same kind as its parent.
 ///
 /// ```rust
 /// let mut any = if quiet { AnyProgress::Discard(Discard) } else { AnyProgress::Item(item) };

@@ -1,6 +1,6 @@
 //! Progress that is discarded.
 ghost use Rattle.std.specs.Prelude.{◌≡◌, None, Ok, false, is_err};
-ghost use Rattle.prodash_core.specs.Traits.{unknown_id};
+ghost use Rattle.prodash_base.specs.Rows.{unknown_id};
 
 use crate::messages::MessageLevel;
 use crate::progress::{AtomicStep, Id, Step, StepShared, UNKNOWN};

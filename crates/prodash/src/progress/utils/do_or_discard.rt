@@ -1,6 +1,6 @@
 //! Progress that may be discarded.
 ghost use Rattle.std.specs.Prelude.{◌≡◌, None};
-ghost use Rattle.prodash_core.specs.Traits.{unknown_id};
+ghost use Rattle.prodash_base.specs.Rows.{unknown_id};
 ghost use Rattle.prodash.specs.Wrappers.{OnEither, OnBoth, held};
 
 use super::discard::Discard;
@@ -14,8 +14,8 @@ use prodash_core::traits::{Count, NestedProgress, Progress};
 use std::alloc::Global;
 use std::mem;
 
-/// Progress, or progress that discards all calls. It is made from an `Option`. A child is discarded
-/// exactly if its parent is.
+/// Progress, or progress that discards all calls, made from an `Option`. A child is discarded if
+/// and only if its parent is.
 ///
 /// ```rust
 /// let mut progress = DoOrDiscard::from(Some(item));
@@ -54,7 +54,7 @@ impl<T> DoOrDiscard<T> {
         }
     }
 
-    /// Takes the progress out, or returns `None` if it is discarded. It is discarded from then on.
+    /// Takes the progress out, or returns `None` if it is discarded. Later calls are discarded.
     pub fn take(&mut self) -> Option<T>
         ensures taken { result ≡ held self.old }
         ensures after { held self.new ≡ None }

@@ -1,4 +1,4 @@
-//! Progress that says how fast it was.
+//! Progress that reports its throughput.
 ghost use Rattle.std.specs.Prelude.{◌≡◌};
 
 use crate::messages::MessageLevel;
@@ -10,9 +10,9 @@ use prodash_core::traits::{Count, NestedProgress, Progress};
 use std::alloc::Global;
 use std::sync::Arc;
 
-/// Progress that, when it is dropped, sends a message that says how fast it came to its step, as
-/// `done 10 items in 2.50s (4 items/s)`. The time counts from when it was made. A message that is
-/// refused is left out.
+/// Progress that sends a message about its throughput when it is dropped, as
+/// `done 10 items in 2.50s (4 items/s)`. The time counts from its creation. A message that is
+/// refused is skipped.
 ///
 /// ```rust
 /// let mut timed = ThroughputOnDrop::new(alloc, item, clock);
@@ -27,8 +27,8 @@ pub struct ThroughputOnDrop<T: Progress + Drop, K: Clock + Drop> {
 }
 
 impl<T: Progress + Drop, K: Clock + Drop> ThroughputOnDrop<T, K> {
-    /// Returns progress that hands its calls on to `inner`. Its time counts from the moment that
-    /// `clock` gives. `alloc` is used for its message.
+    /// Returns progress that forwards its calls to `inner`. Its time counts from the current moment
+    /// of `clock`. Its message is allocated with `alloc`.
     pub fn new(alloc: Global, inner: T, clock: Arc<K>) -> ThroughputOnDrop<T, K>
         ensures { result.inner ≡ inner }
     {

@@ -7,9 +7,9 @@ use crate::tree::recorded::state::RecordedState;
 use prodash_core::tree::{Event, Reply};
 use std::marker::{Model, PhantomData};
 
-/// The events that a recorded tree accepted, in their order, each with its reply. One thread could
-/// have made these calls: from a tree with nothing but its root, which keeps as many messages as
-/// this one, each event is accepted and has its reply. Contracts see the list.
+/// The events that a recorded tree accepted, in order, each with its reply. One thread could have
+/// made these calls: a tree without tasks, which keeps as many messages as this one, accepts each
+/// event in turn with its reply. Contracts see the list.
 #[derive(Drop)]
 pub struct Journal<C: TreeLedger> {
     entries: Vec<(Event, Reply)>,

@@ -4,8 +4,8 @@ ghost use Rattle.std.specs.Prelude.{◌≡◌, ℕ};
 use std::marker::{Brand, PhantomData};
 use std::sync::ledger::{Blank, Ledger};
 
-/// Names a recorded tree: it is the ledger of the calls on it. Contracts know by it how many
-/// messages the tree keeps.
+/// The ledger of the calls on a recorded tree, which names the tree. Contracts read from it how
+/// many messages the tree keeps.
 pub trait TreeLedger: Ledger {
     ghost message_buffer_capacity: { ℕ };
 }
@@ -36,7 +36,7 @@ impl Ledgers {
     }
 }
 
-/// Knows that a ledger is cut into 2^64-1 parts.
+/// A proof that a ledger has 2^64-1 parts.
 #[derive(Drop)]
 pub(crate) struct Cut<L: Ledger> {
     ledger: PhantomData<L>,
@@ -52,7 +52,7 @@ impl<L: Ledger> Cut<L> {
         }
     }
 
-    /// Says what it knows.
+    /// Proof only: the ledger has 2^64-1 parts.
     pub(crate) fn show(&self)
         ensures { L.parts ≡ 18446744073709551615 }
     {

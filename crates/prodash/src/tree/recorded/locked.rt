@@ -1,8 +1,8 @@
 //! What the locks of a recorded tree protect.
 ghost use Rattle.std.specs.Prelude.{◌≡◌, ◌+◌, ◌<◌, ◌≤◌, ◌↔◌, ◌++◌, ◌∷◌, [], Ok, Err, true, false, is_some, IsTrue, IfOk, IfSome, OnOk, OnErr, length};
 ghost use Rattle.std.specs.Option.{ForSome, ForNone};
-ghost use Rattle.prodash_core.specs.Trees.{is_frame, Plays};
-ghost use Rattle.prodash.specs.Journals.{no_calls, with_call, amount, calls_of, sum_of};
+ghost use Rattle.prodash_core.specs.Trees.{is_frame};
+ghost use Rattle.prodash.specs.Journals.{RecordsIn, no_calls, with_call, amount, calls_of, sum_of};
 
 use crate::tree::recorded::journal::Journal;
 use crate::tree::recorded::ledgers::{Cut, TreeLedger};
@@ -78,10 +78,10 @@ impl<C: TreeLedger, S: Ledger> Rest<C, S> {
         shares: Vec<Share<C, S>>,
     ) -> (ledger::Share<C>, ledger::Share<S>)
         requires { self.made ≤ length shares.items }
-        ensures calls { (18446744073709551615 ≤ result.0.parts)
-            × (result.0.amount ≡ calls_of shares.items) }
-        ensures sums { (18446744073709551615 ≤ result.1.parts)
-            × (result.1.amount ≡ sum_of shares.items) }
+        ensures call_parts { 18446744073709551615 ≤ result.0.parts }
+        ensures calls { result.0.amount ≡ calls_of shares.items }
+        ensures sum_parts { 18446744073709551615 ≤ result.1.parts }
+        ensures sums { result.1.amount ≡ sum_of shares.items }
     {
         let Rest {
             made: _,
@@ -100,7 +100,7 @@ impl<C: TreeLedger, S: Ledger> Rest<C, S> {
 }
 
 /// The tree with its journal, and the totals of all calls. Once the journal is taken out, no share
-/// has a part any more.
+/// has a part of the ledgers.
 #[derive(Drop)]
 pub(crate) struct Locked<C: TreeLedger, S: Ledger> {
     state: Option<RecordedState>,
@@ -147,15 +147,9 @@ impl<C: TreeLedger, S: Ledger> Locked<C, S> {
         share: &mut Share<C, S>,
     ) -> Result<Reply, Refusal>
         requires { is_frame event.now ≡ false }
-        ensures reply { IfOk result (λ r.
-            IfSome self.old.state (λ old. IfSome self.new.state (λ new.
-            Plays old.tree event.now (Ok r) new.tree
-            × (new.entries ≡ old.entries ++ (event.now, r) ∷ [])))) }
-        ensures states { OnOk result ((is_some self.old.state ≡ true)
-            × (is_some self.new.state ≡ true)) }
+        ensures reply { IfOk result (λ r. RecordsIn self.old.state event.now r self.new.state) }
         ensures ok { OnOk result (share.new ≡ with_call share.old event.now) }
-        ensures err { OnErr result ((share.new ≡ share.old)
-            × (self.new.state ≡ self.old.state)) }
+        ensures err { OnErr result ((share.new ≡ share.old) × (self.new.state ≡ self.old.state)) }
         ensures full { (share.old.calls ≡ u64.MAX) ↔ (result ≡ Err Refusal.TooManyHandles) }
     {
         if share.calls() == u64::MAX {

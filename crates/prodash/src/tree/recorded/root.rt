@@ -1,5 +1,5 @@
 //! Owners of recorded trees, and their items.
-ghost use Rattle.std.specs.Prelude.{◌≡◌, ◌↔◌, Err, false, IfOk, IfErr, OnOk, OnErr, length};
+ghost use Rattle.std.specs.Prelude.{◌≡◌, ◌+◌, ◌↔◌, Err, false, IfOk, IfErr, OnOk, OnErr, length, IsOkUnless};
 ghost use Rattle.prodash_base.specs.Refusals.{RefusesHandle};
 ghost use Rattle.prodash_core.specs.Trees.{is_frame};
 ghost use Rattle.prodash.specs.Journals.{IsJournal, no_calls, with_call, amount, calls_of, sum_of};
@@ -51,19 +51,18 @@ impl<C: TreeLedger, S: Ledger> Model for RecordedItem<C, S> {
     ghost view = { λ item. item.share };
 }
 
-/// The root of a recorded tree that couldn't be closed, since some of its shares are missing, and
-/// the shares that came. By its type it is the root of the same tree: with the missing shares added
-/// it can be closed.
+/// What is returned if a recorded tree can't be closed, since shares are missing: its root, and the
+/// shares that were given. With the missing shares added, the root can be closed.
 #[derive(Drop)]
 pub struct Unclosed<C: TreeLedger, S: Ledger> {
     /// The root.
     pub root: RecordedRoot<C, S>,
-    /// The shares that came.
+    /// The shares that were given.
     pub shares: Vec<Share<C, S>>,
 }
 
 impl<C: TreeLedger, S: Ledger> RecordedRoot<C, S> {
-    /// Returns a tree with nothing but its root, and an empty journal.
+    /// Returns a tree without tasks, and an empty journal.
     ///
     /// # Errors
     ///
@@ -76,7 +75,7 @@ impl<C: TreeLedger, S: Ledger> RecordedRoot<C, S> {
         requires calls { (ledgers.calls.name ≡ C.name) × (ledgers.calls.parts ≡ C.parts) }
         requires sums { (ledgers.sums.name ≡ S.name) × (ledgers.sums.parts ≡ S.parts) }
         requires capacity { options.now.message_buffer_capacity ≡ C.message_buffer_capacity }
-        ensures { IfErr result (λ e. e ≡ Refusal.Memory) }
+        ensures { IsOkUnless result Refusal.Memory }
     {
         let state = RecordedState::new(alloc, options)?;
         let Ledgers { calls, sums } = ledgers;
@@ -88,28 +87,21 @@ impl<C: TreeLedger, S: Ledger> RecordedRoot<C, S> {
         Ok(RecordedRoot { tree, rest })
     }
 
-    /// Returns an item that makes calls on the tree. It may wait for a lock that only `share`
-    /// takes.
+    /// Returns an item that makes calls on the tree. May wait for a lock that only `share` takes.
     ///
     /// # Errors
     ///
-    /// `TooManyHandles`, if 2^64-1 shares were made. `Memory`, if the tree can't have one more
-    /// owner.
+    /// `TooManyHandles`, if 2^64-1 shares have been made. `Memory`, if the reference count of the
+    /// tree is at its limit.
     pub fn share<R: Wait>(&self, rt: &R) -> Result<RecordedItem<C, S>, Refusal>
         ensures ok { IfOk result (λ item. item ≡ no_calls) }
-        ensures err { IfErr result RefusesHandle }
+        ensures reason { IfErr result RefusesHandle }
     {
-        let mut rest = self.rest.lock(rt);
-        if rest.is_full() {
-            return Err(Refusal::TooManyHandles);
-        }
-        let tree = Arc::try_clone(&self.tree)?;
-        let share = rest.share();
-        Ok(RecordedItem { tree, share })
+        shared(&self.tree, &mut self.rest.lock(rt))
     }
 
-    /// Returns the journal of all calls, if all shares that were made are here. It may wait for the
-    /// lock of the tree.
+    /// Returns the journal of all calls, if `shares` has all shares that were made. May wait for
+    /// the lock of the tree.
     ///
     /// # Errors
     ///
@@ -122,7 +114,7 @@ impl<C: TreeLedger, S: Ledger> RecordedRoot<C, S> {
         ensures replays { IfOk result (λ j. IsJournal C.message_buffer_capacity j) }
         ensures count { IfOk result (λ j. length j ≡ calls_of shares.items) }
         ensures amount { IfOk result (λ j. amount j ≡ sum_of shares.items) }
-        ensures unclosed { IfErr result (λ u. u.shares ≡ shares) }
+        ensures err { IfErr result (λ u. u.shares ≡ shares) }
     {
         let RecordedRoot { tree, rest } = self;
         let rest = rest.into_inner();
@@ -140,8 +132,8 @@ impl<C: TreeLedger, S: Ledger> RecordedRoot<C, S> {
 }
 
 impl<C: TreeLedger, S: Ledger> RecordedItem<C, S> {
-    /// Applies an event that is no frame, and returns the reply. It waits for the lock of the tree.
-    /// An event that is refused gets no entry of the journal.
+    /// Applies an event that is no frame, and returns the reply. May wait for the lock of the tree.
+    /// A refused event gets no entry in the journal.
     ///
     /// # Errors
     ///
@@ -164,4 +156,23 @@ impl<C: TreeLedger, S: Ledger> RecordedItem<C, S> {
         let RecordedItem { tree: _, share } = self;
         share
     }
+}
+
+/// Returns an item that makes calls on a tree, and counts its share.
+fn shared<C: TreeLedger, S: Ledger>(
+    tree: &Arc<Mutex<Locked<C, S>>>,
+    rest: &mut Rest<C, S>,
+) -> Result<RecordedItem<C, S>, Refusal>
+    ensures item { IfOk result (λ item. item ≡ no_calls) }
+    ensures ok { OnOk result (rest.new.made ≡ rest.old.made + 1) }
+    ensures err { OnErr result (rest.new ≡ rest.old) }
+    ensures full { (result ≡ Err Refusal.TooManyHandles) ↔ (rest.old.made ≡ u64.MAX) }
+    ensures reason { IfErr result RefusesHandle }
+{
+    if rest.is_full() {
+        return Err(Refusal::TooManyHandles);
+    }
+    let tree = Arc::try_clone(tree)?;
+    let share = rest.share();
+    Ok(RecordedItem { tree, share })
 }

@@ -1,5 +1,5 @@
 //! A tree beside its journal.
-ghost use Rattle.std.specs.Prelude.{◌≡◌, ◌≢◌, ◌++◌, ◌∷◌, [], Ok, Err, None, false, IfOk, IfErr, OnErr, IfSome, IfNone, length};
+ghost use Rattle.std.specs.Prelude.{◌≡◌, ◌≢◌, ◌++◌, ◌∷◌, [], Ok, Err, None, false, IfOk, IfErr, OnErr, IfSome, IfNone, length, IsOkUnless};
 ghost use Rattle.prodash_core.specs.Trees.{new_tree, is_frame, Plays};
 ghost use Rattle.prodash_core.specs.Refusals.{refusal_of};
 ghost use Rattle.prodash.specs.Journals.{Replays};
@@ -11,8 +11,8 @@ use std::alloc::Global;
 use std::marker::Model;
 
 /// A tree that keeps a journal of the events that it accepted, each with its reply. Contracts see
-/// the tree, the journal, and how many messages the tree keeps. The journal replays: from a tree
-/// with nothing but its root, its events have its replies, and lead to this tree.
+/// the tree, the journal, and how many messages the tree keeps. The journal replays: applied to a
+/// tree without tasks, its events have its replies and lead to this tree.
 ///
 /// ```rust
 /// let mut state = RecordedState::new(alloc, &Options::default())?;
@@ -43,7 +43,7 @@ impl Model for RecordedState {
 }
 
 impl RecordedState {
-    /// Returns a tree with nothing but its root, and an empty journal.
+    /// Returns a tree without tasks, and an empty journal.
     ///
     /// # Errors
     ///
@@ -53,7 +53,7 @@ impl RecordedState {
         ensures capacity { IfOk result (λ s.
             s.capacity ≡ options.now.message_buffer_capacity) }
         ensures entries { IfOk result (λ s. s.entries ≡ []) }
-        ensures err { IfErr result (λ e. e ≡ Refusal.Memory) }
+        ensures reason { IsOkUnless result Refusal.Memory }
     {
         let options = RootOptions {
             initial_capacity: options.initial_capacity,
@@ -83,7 +83,7 @@ impl RecordedState {
         ensures err { OnErr result (self.new ≡ self.old) }
         ensures refused { IfSome (refusal_of self.old.tree event.now) (λ e. result ≡ Err e) }
         ensures memory { IfNone (refusal_of self.old.tree event.now)
-            (IfErr result (λ e. e ≡ Refusal.Memory)) }
+            (IsOkUnless result Refusal.Memory) }
         ensures handles { IfErr result (λ e. e ≢ Refusal.TooManyHandles) }
     {
         let RecordedState { tree, entries, .. } = self;
@@ -128,7 +128,7 @@ fn applied(tree: &mut TreeState, alloc: Global, event: &Event) -> Result<(Reply,
     ensures reply { IfOk result (λ r. Plays tree.old event.now (Ok r.0) tree.new) }
     ensures copy { IfOk result (λ r. r.1 ≡ r.0) }
     ensures err { OnErr result (tree.new ≡ tree.old) }
-    ensures reason { IfErr result (λ e. e ≡ Refusal.Memory) }
+    ensures reason { IsOkUnless result Refusal.Memory }
 {
     let reply = tree.apply(alloc, event)?;
     let copy = reply.clone()?;

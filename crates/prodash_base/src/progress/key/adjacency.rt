@@ -10,13 +10,13 @@ pub enum SiblingLocation {
     Below,
     /// On both sides.
     AboveAndBelow,
-    /// On neither side; for an ancestor also on one side only. So is each level past the item's own.
+    /// On neither side, or for an ancestor on one side only. Also each level below the item's own.
     #[default]
     NotFound,
 }
 
-/// The sides on which an item and its ancestors have siblings, from level 1 to level 6. Above counts
-/// more than siblings: at level 1 the root, at the item's own level its parent, and at that of an
+/// The sides on which an item and its ancestors have siblings, from level 1 to level 6. Above, more
+/// than siblings count: the root at level 1, the parent at the item's own level, and at that of an
 /// ancestor the row of that ancestor itself.
 ///
 /// ```rust
@@ -86,7 +86,7 @@ impl Adjacency {
         }
     }
 
-    /// Returns the location at a level from 1 to 6, to be changed, or `None` for any other level.
+    /// Returns the location at a level from 1 to 6 for writing, or `None` for any other level.
     pub fn get_mut(&mut self, level: Level) -> Option<&mut SiblingLocation>
         ensures* writes_back { sem 𝓛 (LendsLocationIf self.entry level result) }
         ensures value { option_copied_mut result ≡ location_at self.old level }
@@ -130,7 +130,7 @@ impl IndexMut<Level> for Adjacency {
     ghost use Rattle.prodash_base.specs.Adjacency.{location_at};
     ghost use Rattle.prodash_base.specs.Lends.{LendsLocation};
 
-    /// Returns the location at a level from 1 to 6, to be changed.
+    /// Returns the location at a level from 1 to 6 for writing.
     fn index_mut(&mut self, level: Level) -> &mut SiblingLocation
         requires { (0 < level) × (level ≤ max_level) }
         ensures* writes_back { sem 𝓛 (LendsLocation self.entry level result) }

@@ -1,15 +1,15 @@
-ghost use Rattle.std.specs.Prelude.{◌≡◌, ℕ, ◌<◌, ◌≤◌, ◌-◌, ◌↔◌, IsTrue, IfSome, Some, length, slice_get};
+ghost use Rattle.std.specs.Prelude.{◌≡◌, ℕ, ◌<◌, ◌≤◌, ◌-◌, ◌↔◌, IsTrue, Some, length};
 ghost use Rattle.prodash_base.specs.Adjacency as spec;
-ghost use Rattle.prodash_base.specs.Adjacency.{AncestorsOnBothSides, IsAscending, adjacency_at, paths_of};
-ghost use Rattle.prodash_base.specs.plumbing.Branches.{path_at, HasLevel, StartsBranch, EndsBranch};
+ghost use Rattle.prodash_base.specs.Adjacency.{AncestorsOnBothSidesAt, IsAscending, adjacency_at, paths_of};
+ghost use Rattle.prodash_base.specs.plumbing.Branches.{path_at, at_row, HasLevel, StartsBranch, EndsBranch};
 
 use crate::progress::Row;
 use crate::progress::key::{Adjacency, Key, Level, SiblingLocation};
 
 impl Key {
     /// Returns on which sides the row at `index` and its ancestors have siblings. The rows must be
-    /// in strictly ascending order of their keys, as those of a snapshot are. Ancestors that have
-    /// no row of their own have a level too.
+    /// in strictly ascending order of their keys, as those of a snapshot are. Ancestors
+    /// without a row have a level too.
     ///
     /// ```rust
     /// let rows = tree.rows(alloc)?;
@@ -20,8 +20,7 @@ impl Key {
         requires sorted { IsAscending (paths_of sorted.now) }
         requires inside { index < length sorted.now }
         ensures value { adjacency_at (paths_of sorted.now) index ≡ Some result }
-        ensures ancestors { let own = slice_get (paths_of sorted.now) index in
-            IfSome own (AncestorsOnBothSides result) }
+        ensures ancestors { AncestorsOnBothSidesAt (paths_of sorted.now) index result }
     {
         Adjacency(
             location(sorted, index, 1),
@@ -39,8 +38,7 @@ fn location(sorted: &[Row], index: usize, level: Level) -> SiblingLocation
     requires sorted { IsAscending (paths_of sorted.now) }
     requires inside { index < length sorted.now }
     requires level { 0 < level }
-    ensures { let paths = paths_of sorted.now in
-        result ≡ spec.location paths (path_at paths index) level }
+    ensures { result ≡ at_row spec.location sorted.now index level }
 {
     let own_level = sorted[index].key.level();
     if own_level < level {
@@ -62,8 +60,7 @@ fn has_above(sorted: &[Row], index: usize, level: Level) -> bool
     requires sorted { IsAscending (paths_of sorted.now) }
     requires inside { index < length sorted.now }
     requires level { 0 < level }
-    ensures { let paths = paths_of sorted.now in
-        result ≡ spec.has_above paths (path_at paths index) level }
+    ensures { result ≡ at_row spec.has_above sorted.now index level }
 {
     level == 1
         || has_sibling_above(sorted, index, level)
@@ -75,8 +72,7 @@ fn has_sibling_above(sorted: &[Row], index: usize, level: Level) -> bool
     requires sorted { IsAscending (paths_of sorted.now) }
     requires inside { index < length sorted.now }
     requires level { 0 < level }
-    ensures { let paths = paths_of sorted.now in
-        result ≡ spec.has_sibling_before paths (path_at paths index) level }
+    ensures { result ≡ at_row spec.has_sibling_before sorted.now index level }
 {
     let first = first_of_branch(sorted, &sorted[index].key, level - 1);
     has_level(sorted, first, index, level)
@@ -88,8 +84,7 @@ fn has_parent(sorted: &[Row], index: usize, level: Level) -> bool
     requires inside { index < length sorted.now }
     requires level { 0 < level }
     requires own { level ≤ length (path_at (paths_of sorted.now) index) }
-    ensures { let paths = paths_of sorted.now in
-        result ≡ spec.has_parent paths (path_at paths index) level }
+    ensures { result ≡ at_row spec.has_parent sorted.now index level }
 {
     let first = first_of_branch(sorted, &sorted[index].key, level - 1);
     sorted[first].key.level() == level - 1
@@ -100,8 +95,7 @@ fn has_below(sorted: &[Row], index: usize, level: Level) -> bool
     requires sorted { IsAscending (paths_of sorted.now) }
     requires inside { index < length sorted.now }
     requires level { 0 < level }
-    ensures { let paths = paths_of sorted.now in
-        result ≡ spec.has_below paths (path_at paths index) level }
+    ensures { result ≡ at_row spec.has_below sorted.now index level }
 {
     let end = end_of_branch(sorted, &sorted[index].key, level - 1);
     has_level(sorted, index + 1, end, level)

@@ -1,10 +1,9 @@
 //! Values of any kind, with their bounds, units, percentages and throughputs, appended to a string.
-ghost use Rattle.std.specs.Prelude.{◌≡◌, OnOk, OnErr, IfErr, string_bytes};
-ghost use Rattle.prodash_base.specs.Appending.{Appends};
-ghost use Rattle.prodash_base.specs.plumbing.Prefixes.{IsPrefix};
-ghost use Rattle.prodash_base.specs.Displays.{same_location, percentage_at, throughput_at, percentage_before, throughput_before, percentage_after, throughput_after, bound_text, values_text, after_text, unit_text, spaced, all_text};
+ghost use Rattle.std.specs.Prelude.{◌≡◌, OnOk, OnErr, string_bytes, IsOkUnless};
+ghost use Rattle.prodash_base.specs.Appending.{Appends, Pushes};
+ghost use Rattle.prodash_base.specs.Displays.{amount, same_location, percentage_at, throughput_at, percentage_before, throughput_before, percentage_after, throughput_after, bound_text, values_text, after_text, unit_text, spaced, all_text};
 
-use super::{Location, Mode, Throughput};
+use super::{Amount, Location, Mode, Throughput};
 use crate::appending::{push_ascii, undo_if_refused};
 use crate::progress::Step;
 use crate::refusal::Refusal;
@@ -28,12 +27,13 @@ pub fn append<K: DisplayValue>(
     throughput: Option<Throughput>,
 ) -> Result<(), Refusal>
     ensures ok { OnOk result
-        (Appends out.old (all_text (K.shown kind.now) mode value bound throughput) out.new) }
+        (Appends out.old (all_text (K.shown kind.now) mode (amount value bound throughput))
+        out.new) }
     ensures err { OnErr result (string_bytes out.new ≡ string_bytes out.old) }
-    ensures reason { IfErr result (λ e. e ≡ Refusal.Memory) }
+    ensures reason { IsOkUnless result Refusal.Memory }
 {
     let length = out.len();
-    let appended = push_all(kind, out, mode, value, bound, throughput);
+    let appended = push_all(kind, out, mode, amount(value, bound, throughput));
     undo_if_refused(out, length, appended)?;
     Ok(())
 }
@@ -53,12 +53,13 @@ pub fn append_values<K: DisplayValue>(
     throughput: Option<Throughput>,
 ) -> Result<(), Refusal>
     ensures ok { OnOk result
-        (Appends out.old (values_text (K.shown kind.now) mode value bound throughput) out.new) }
+        (Appends out.old (values_text (K.shown kind.now) mode (amount value bound throughput))
+        out.new) }
     ensures err { OnErr result (string_bytes out.new ≡ string_bytes out.old) }
-    ensures reason { IfErr result (λ e. e ≡ Refusal.Memory) }
+    ensures reason { IsOkUnless result Refusal.Memory }
 {
     let length = out.len();
-    let appended = push_values(kind, out, mode, value, bound, throughput);
+    let appended = push_values(kind, out, mode, amount(value, bound, throughput));
     undo_if_refused(out, length, appended)?;
     Ok(())
 }
@@ -78,14 +79,26 @@ pub fn append_unit<K: DisplayValue>(
     throughput: Option<Throughput>,
 ) -> Result<(), Refusal>
     ensures ok { OnOk result
-        (Appends out.old (unit_text (K.shown kind.now) mode value bound throughput) out.new) }
+        (Appends out.old (unit_text (K.shown kind.now) mode (amount value bound throughput))
+        out.new) }
     ensures err { OnErr result (string_bytes out.new ≡ string_bytes out.old) }
-    ensures reason { IfErr result (λ e. e ≡ Refusal.Memory) }
+    ensures reason { IsOkUnless result Refusal.Memory }
 {
     let length = out.len();
-    let appended = push_unit(kind, out, mode, value, bound, throughput);
+    let appended = push_unit(kind, out, mode, amount(value, bound, throughput));
     undo_if_refused(out, length, appended)?;
     Ok(())
+}
+
+/// Returns a value with its bound and its throughput.
+fn amount(value: Step, bound: Option<Step>, throughput: Option<Throughput>) -> Amount
+    ensures { result ≡ amount value bound throughput }
+{
+    Amount {
+        value,
+        bound,
+        throughput,
+    }
 }
 
 /// Returns whether two locations are the same.
@@ -138,9 +151,7 @@ fn push_percentage_before<K: DisplayValue>(
     out: &mut String,
     percentage: Option<u64>,
 ) -> Result<(), AllocError>
-    ensures ok { OnOk result
-        (Appends out.old (percentage_before (K.shown kind.now) percentage) out.new) }
-    ensures kept { IsPrefix (string_bytes out.old) (string_bytes out.new) }
+    ensures { Pushes result out.old (percentage_before (K.shown kind.now) percentage) out.new }
 {
     let Some(percentage) = percentage else {
         return Ok(());
@@ -155,9 +166,7 @@ fn push_throughput_before<K: DisplayValue>(
     out: &mut String,
     throughput: Option<Throughput>,
 ) -> Result<(), AllocError>
-    ensures ok { OnOk result
-        (Appends out.old (throughput_before (K.shown kind.now) throughput) out.new) }
-    ensures kept { IsPrefix (string_bytes out.old) (string_bytes out.new) }
+    ensures { Pushes result out.old (throughput_before (K.shown kind.now) throughput) out.new }
 {
     let Some(throughput) = throughput else {
         return Ok(());
@@ -172,9 +181,7 @@ fn push_percentage_after<K: DisplayValue>(
     out: &mut String,
     percentage: Option<u64>,
 ) -> Result<(), AllocError>
-    ensures ok { OnOk result
-        (Appends out.old (percentage_after (K.shown kind.now) percentage) out.new) }
-    ensures kept { IsPrefix (string_bytes out.old) (string_bytes out.new) }
+    ensures { Pushes result out.old (percentage_after (K.shown kind.now) percentage) out.new }
 {
     let Some(percentage) = percentage else {
         return Ok(());
@@ -189,9 +196,7 @@ fn push_throughput_after<K: DisplayValue>(
     out: &mut String,
     throughput: Option<Throughput>,
 ) -> Result<(), AllocError>
-    ensures ok { OnOk result
-        (Appends out.old (throughput_after (K.shown kind.now) throughput) out.new) }
-    ensures kept { IsPrefix (string_bytes out.old) (string_bytes out.new) }
+    ensures { Pushes result out.old (throughput_after (K.shown kind.now) throughput) out.new }
 {
     let Some(throughput) = throughput else {
         return Ok(());
@@ -207,8 +212,7 @@ fn push_bound<K: DisplayValue>(
     value: Step,
     bound: Option<Step>,
 ) -> Result<(), AllocError>
-    ensures ok { OnOk result (Appends out.old (bound_text (K.shown kind.now) value bound) out.new) }
-    ensures kept { IsPrefix (string_bytes out.old) (string_bytes out.new) }
+    ensures { Pushes result out.old (bound_text (K.shown kind.now) value bound) out.new }
 {
     let Some(upper) = bound else {
         return Ok(());
@@ -224,8 +228,7 @@ pub(in crate::unit) fn push_value<K: DisplayValue>(
     value: Step,
     bound: Option<Step>,
 ) -> Result<(), AllocError>
-    ensures ok { OnOk result (Appends out.old ((K.shown kind.now).value value bound) out.new) }
-    ensures kept { IsPrefix (string_bytes out.old) (string_bytes out.new) }
+    ensures { Pushes result out.old ((K.shown kind.now).value value bound) out.new }
 {
     kind.display_current_value(out, value, bound)
 }
@@ -235,17 +238,14 @@ fn push_values<K: DisplayValue>(
     kind: &K,
     out: &mut String,
     mode: Option<Mode>,
-    value: Step,
-    bound: Option<Step>,
-    throughput: Option<Throughput>,
+    amount: Amount,
 ) -> Result<(), AllocError>
-    ensures ok { OnOk result
-        (Appends out.old (values_text (K.shown kind.now) mode value bound throughput) out.new) }
-    ensures kept { IsPrefix (string_bytes out.old) (string_bytes out.new) }
+    ensures { Pushes result out.old (values_text (K.shown kind.now) mode amount) out.new }
 {
     let before = Location::BeforeValue;
+    let (value, bound) = (amount.value, amount.bound);
     push_percentage_before(kind, out, percentage_at(mode, before, value, bound))?;
-    push_throughput_before(kind, out, throughput_at(mode, before, throughput))?;
+    push_throughput_before(kind, out, throughput_at(mode, before, amount.throughput))?;
     push_value(kind, out, value, bound)?;
     push_bound(kind, out, value, bound)
 }
@@ -255,17 +255,14 @@ fn push_after<K: DisplayValue>(
     kind: &K,
     out: &mut String,
     mode: Option<Mode>,
-    value: Step,
-    bound: Option<Step>,
-    throughput: Option<Throughput>,
+    amount: Amount,
 ) -> Result<(), AllocError>
-    ensures ok { OnOk result
-        (Appends out.old (after_text (K.shown kind.now) mode value bound throughput) out.new) }
-    ensures kept { IsPrefix (string_bytes out.old) (string_bytes out.new) }
+    ensures { Pushes result out.old (after_text (K.shown kind.now) mode amount) out.new }
 {
     let after = Location::AfterUnit;
-    push_percentage_after(kind, out, percentage_at(mode, after, value, bound))?;
-    push_throughput_after(kind, out, throughput_at(mode, after, throughput))
+    let percentage = percentage_at(mode, after, amount.value, amount.bound);
+    push_percentage_after(kind, out, percentage)?;
+    push_throughput_after(kind, out, throughput_at(mode, after, amount.throughput))
 }
 
 /// Appends the unit, and what is shown after it.
@@ -273,16 +270,12 @@ fn push_unit<K: DisplayValue>(
     kind: &K,
     out: &mut String,
     mode: Option<Mode>,
-    value: Step,
-    bound: Option<Step>,
-    throughput: Option<Throughput>,
+    amount: Amount,
 ) -> Result<(), AllocError>
-    ensures ok { OnOk result
-        (Appends out.old (unit_text (K.shown kind.now) mode value bound throughput) out.new) }
-    ensures kept { IsPrefix (string_bytes out.old) (string_bytes out.new) }
+    ensures { Pushes result out.old (unit_text (K.shown kind.now) mode amount) out.new }
 {
-    kind.display_unit(out, value)?;
-    push_after(kind, out, mode, value, bound, throughput)
+    kind.display_unit(out, amount.value)?;
+    push_after(kind, out, mode, amount)
 }
 
 /// Appends a space and the unit; nothing if the unit is empty.
@@ -291,8 +284,7 @@ pub(in crate::unit) fn push_spaced_unit<K: DisplayValue>(
     out: &mut String,
     value: Step,
 ) -> Result<(), AllocError>
-    ensures ok { OnOk result (Appends out.old (spaced ((K.shown kind.now).unit value)) out.new) }
-    ensures kept { IsPrefix (string_bytes out.old) (string_bytes out.new) }
+    ensures { Pushes result out.old (spaced ((K.shown kind.now).unit value)) out.new }
 {
     let length = out.len();
     push_ascii(out, b' ')?;
@@ -309,15 +301,11 @@ fn push_all<K: DisplayValue>(
     kind: &K,
     out: &mut String,
     mode: Option<Mode>,
-    value: Step,
-    bound: Option<Step>,
-    throughput: Option<Throughput>,
+    amount: Amount,
 ) -> Result<(), AllocError>
-    ensures ok { OnOk result
-        (Appends out.old (all_text (K.shown kind.now) mode value bound throughput) out.new) }
-    ensures kept { IsPrefix (string_bytes out.old) (string_bytes out.new) }
+    ensures { Pushes result out.old (all_text (K.shown kind.now) mode amount) out.new }
 {
-    push_values(kind, out, mode, value, bound, throughput)?;
-    push_spaced_unit(kind, out, value)?;
-    push_after(kind, out, mode, value, bound, throughput)
+    push_values(kind, out, mode, amount)?;
+    push_spaced_unit(kind, out, amount.value)?;
+    push_after(kind, out, mode, amount)
 }

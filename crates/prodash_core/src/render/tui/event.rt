@@ -27,9 +27,9 @@ pub enum KeyCode {
 pub struct Key {
     /// Which key it is.
     pub code: KeyCode,
-    /// Whether the control key is held down with it.
+    /// Whether the control key was held down.
     pub control: bool,
-    /// Whether the key was released, and not pressed.
+    /// Whether the key was released, rather than pressed.
     pub release: bool,
 }
 
@@ -51,30 +51,30 @@ pub enum Interrupt {
     Deferred,
 }
 
-/// What can happen to a dashboard.
+/// An event of a dashboard.
 #[derive(Clone, Debug, Drop)]
 pub enum Event {
     /// It is time to draw a frame.
     Tick,
     /// A key was pressed or released.
     Input(Key),
-    /// The dashboard is to fill this part of the terminal from now on.
+    /// Sets the part of the terminal that the dashboard fills.
     SetWindowSize(Rect),
-    /// The dashboard has another title.
+    /// Sets the title.
     SetTitle(String),
-    /// Other lines are shown beside the tasks.
+    /// Sets the lines beside the tasks.
     SetInformation(Vec<Line>),
-    /// Requests to interrupt are treated in another way.
+    /// Sets when a request to interrupt stops the dashboard.
     SetInterruptMode(Interrupt),
 }
 
-/// What is to be done after an event.
+/// What to do after an event.
 #[derive(Clone, Copy, Debug, PartialEq, Eq)]
 pub enum Answer {
-    /// The state is to be drawn.
+    /// Draw the state.
     Redraw,
-    /// There is nothing to draw.
+    /// Draw nothing.
     Skip,
-    /// The dashboard is to be left.
+    /// Leave the dashboard.
     Stop,
 }

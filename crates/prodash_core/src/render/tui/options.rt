@@ -1,23 +1,23 @@
-ghost use Rattle.std.specs.Prelude.{◌≡◌, IfOk, IfErr, string_bytes, codes};
+ghost use Rattle.std.specs.Prelude.{◌≡◌, IfOk, string_bytes, codes, IsOkUnless};
 ghost use Rattle.prodash_core.specs.Dashboard.{default_options};
 
 use crate::render::tui::event::Rect;
 use prodash_base::Refusal;
 use std::alloc::Global;
 
-/// How a dashboard is run.
+/// Options for a dashboard.
 #[derive(Clone, Drop)]
 pub struct Options {
-    /// The title at first.
+    /// The initial title.
     pub title: String,
     /// The time from frame to frame.
     pub nanoseconds_per_frame: u64,
     /// Whether the throughput of tasks is measured and shown.
     pub throughput: bool,
-    /// After how many frames the width of the column of tasks is computed again. It is computed
-    /// for each frame if this is `None`.
+    /// After how many frames the width of the column of tasks is computed again. `None` computes it
+    /// for each frame.
     pub recompute_column_width_every_nth_frame: Option<usize>,
-    /// The part of the terminal to fill, which is all of it if this is `None`.
+    /// The part of the terminal to fill; all of it if this is `None`.
     pub window_size: Option<Rect>,
     /// Whether the dashboard is left once there is no progress to show.
     pub stop_if_progress_missing: bool,
@@ -27,11 +27,13 @@ impl Options {
     /// Returns the defaults: the title `Progress Dashboard`, ten frames a second, no throughput,
     /// the whole terminal, and a dashboard that is left once there is no progress to show.
     ///
-    /// Fails with `Memory` if there is no memory for the title.
+    /// # Errors
+    ///
+    /// `Memory`, if there is no memory for the title.
     pub fn create(alloc: Global) -> Result<Options, Refusal>
         ensures title { IfOk result (λ o. string_bytes o.title ≡ codes "Progress Dashboard") }
         ensures others { IfOk result (λ o. o ≡ default_options o.title) }
-        ensures err { IfErr result (λ e. e ≡ Refusal.Memory) }
+        ensures reason { IsOkUnless result Refusal.Memory }
     {
         Ok(Options {
             title: String::from_str(alloc, "Progress Dashboard")?,

@@ -1,8 +1,8 @@
-ghost use Rattle.std.specs.Prelude.{◌≡◌, ◌<◌, ◌≤◌, ◌++◌, Some, length, true, IfOk, IfErr, encode_utf8_all, string_bytes};
-ghost use Rattle.std.specs.Option.{option_map};
+ghost use Rattle.std.specs.Prelude.{◌≡◌, ◌<◌, ◌≤◌, length, true, IfOk, OnOk, encode_utf8_all, string_bytes, IsOkUnless};
+ghost use Rattle.prodash_base.specs.Appending.{Appends};
 ghost use Rattle.prodash_base.specs.Path.{max_level};
 ghost use Rattle.prodash_base.specs.Adjacency.{IsAscending, paths_of};
-ghost use Rattle.prodash_core.specs.Prefixes.{own_branch, ancestor_branch, branches, prefix_of, prefix_at};
+ghost use Rattle.prodash_core.specs.Prefixes.{own_branch, ancestor_branch, branches, prefix_of, IsPrefixAt};
 
 use prodash_base::Refusal;
 use prodash_base::progress::key::{Adjacency, Level, SiblingLocation};
@@ -13,14 +13,15 @@ use std::alloc::{AllocError, Global};
 /// a character for each of its levels, with spaces between them. The rows must be in strictly
 /// ascending order of their keys, as those of a snapshot are.
 ///
-/// Fails with `Memory` if there is no memory for the prefix.
+/// # Errors
+///
+/// `Memory`, if there is no memory for the prefix.
 pub fn level_prefix(alloc: Global, sorted: &[Row], index: usize) -> Result<String, Refusal>
     requires sorted { IsAscending (paths_of sorted.now) }
     requires inside { index < length sorted.now }
     ensures ok { IfOk result (λ s.
-        option_map encode_utf8_all (prefix_at (paths_of sorted.now) index)
-        ≡ Some (string_bytes s)) }
-    ensures err { IfErr result (λ e. e ≡ Refusal.Memory) }
+        IsPrefixAt (paths_of sorted.now) index (string_bytes s)) }
+    ensures reason { IsOkUnless result Refusal.Memory }
 {
     let adjacency = Key::adjacency(sorted, index);
     let level = sorted[index].key.level();
@@ -53,8 +54,8 @@ fn push_branches(
     is_orphan: bool,
     locations: &[SiblingLocation],
 ) -> Result<(), AllocError>
-    ensures { IfOk result (λ _. string_bytes text.new
-        ≡ string_bytes text.old ++ encode_utf8_all (branches true is_orphan locations.now)) }
+    ensures { OnOk result (Appends text.old
+        (encode_utf8_all (branches true is_orphan locations.now)) text.new) }
 {
     let mut is_first = true;
     let mut left = locations;

@@ -1,18 +1,17 @@
-ghost use Rattle.std.specs.Prelude.{◌≡◌, Bool, false, ◌||◌, List, [], if◌then◌else◌};
-ghost use Rattle.std.specs.List.{list_any};
-ghost use Rattle.prodash_core.specs.Dashboard.{new_state, press, interrupt, set_interrupt_mode, handle, state_after, is_request, sets_instantly};
+ghost use Rattle.std.specs.Prelude.{◌≡◌, Bool, List, []};
+ghost use Rattle.prodash_core.specs.Dashboard.{new_state, press, interrupt, set_interrupt_mode, handle, NotesRequests, StopsIfRequested};
 ghost use Rattle.prodash_core.specs.declared.render.tui.event.Event.{Event};
 ghost use Rattle.prodash_core.specs.declared.render.tui.state.State.{State};
 
 use crate::render::tui::event::{Answer, Event, Interrupt, Key, KeyCode, Line, Rect};
 use std::alloc::Global;
 
-/// How requests to interrupt are treated, and whether one waits.
+/// How requests to interrupt are treated, and whether one is pending.
 #[derive(Clone, Copy, Debug, PartialEq, Eq)]
 pub enum InterruptMode {
     /// A request stops the dashboard at once.
     Instantly,
-    /// A request waits until the mode is set to `Instantly`.
+    /// A request is pending until the mode is set to `Instantly`.
     Deferred {
         /// Whether there was a request.
         requested: bool,
@@ -49,7 +48,7 @@ pub struct State {
     pub window_size: Option<Rect>,
     /// The lines beside the tasks.
     pub information: Vec<Line>,
-    /// How requests to interrupt are treated, and whether one waits.
+    /// How requests to interrupt are treated, and whether one is pending.
     pub interrupt_mode: InterruptMode,
 }
 
@@ -74,11 +73,12 @@ impl State {
         }
     }
 
-    /// Handles an event, and returns what is to be done. It never takes memory.
+    /// Handles an event, and returns what to do next. Allocates nothing.
     ///
-    /// - A tick, another window size, another title and other information are to be drawn.
-    /// - `Esc`, `q`, and Control with `c` or `[` are requests to interrupt. The answer is `Stop`, or
-    ///   `Redraw` if they are deferred, and then the request waits until the mode is `Instantly`.
+    /// - After a tick, a new window size, title or information, the state is to be drawn.
+    /// - `Esc`, `q`, and Control with `c` or `[` are requests to interrupt. The answer is `Stop`,
+    ///   or `Redraw` if they are deferred; then the request is pending until the mode is
+    ///   `Instantly`.
     /// - `` ` `` and `~` toggle whether messages are hidden and whether they are maximized, `[` and
     ///   `{` the same of the information.
     /// - `J`, `D`, `K` and `U` scroll messages by 1 down, 10 down, 1 up and 10 up; `j`, `d`, `k`
@@ -125,7 +125,7 @@ impl State {
         Answer::Redraw
     }
 
-    /// Stops, or notes the request if it is deferred.
+    /// Stops, or records the request if requests are deferred.
     fn interrupt(&mut self) -> Answer
         ensures { (self.new, result) ≡ interrupt self.old }
     {
@@ -138,7 +138,7 @@ impl State {
         }
     }
 
-    /// Sets the mode. A request that waits stops the dashboard now if the mode is `Instantly`.
+    /// Sets the mode. If it is `Instantly`, a pending request stops the dashboard now.
     fn set_interrupt_mode(&mut self, interrupt: Interrupt) -> Answer
         ensures { (self.new, result) ≡ set_interrupt_mode self.old interrupt }
     {
@@ -160,14 +160,6 @@ impl State {
 /// deferred, the dashboard stops when the mode is set to `Instantly` exactly if there was one.
 #[tactic(auto, using(crate::proofs::DashboardLaws::mode_after, crate::proofs::DashboardLaws::answer_after))]
 pub fn deferred_requests_wait()
-    ensures mode { (s : State) (requested : Bool) (events : List Event)
-        → s.interrupt_mode ≡ InterruptMode.Deferred requested
-        → list_any sets_instantly events ≡ false
-        → (state_after s events).interrupt_mode
-        ≡ InterruptMode.Deferred (requested || list_any is_request events) }
-    ensures answer { (s : State) (requested : Bool) (events : List Event)
-        → s.interrupt_mode ≡ InterruptMode.Deferred requested
-        → list_any sets_instantly events ≡ false
-        → (handle (state_after s events) (Event.SetInterruptMode Interrupt.Instantly)).1
-        ≡ (if requested || list_any is_request events then Answer.Stop else Answer.Redraw) }
+    ensures mode { (s : State) (r : Bool) (events : List Event) → NotesRequests s r events }
+    ensures answer { (s : State) (r : Bool) (events : List Event) → StopsIfRequested s r events }
 {}

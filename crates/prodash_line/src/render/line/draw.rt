@@ -1,12 +1,13 @@
 //! Frames: messages and rows, drawn over the lines on screen.
-ghost use Rattle.std.specs.Prelude.{◌≡◌, ℕ, Bool, Some, None, IfErr, OnOk, OnErr};
+ghost use Rattle.std.specs.Prelude.{◌≡◌, ℕ, Bool, Some, None, IsOkUnless, OnOk, OnErr};
 ghost use Rattle.prodash_line.specs.Screens.{WritesFrame, BreaksDuring};
-ghost use Rattle.prodash_line.specs.Renderer.{Renders, is_cursor_hidden};
+ghost use Rattle.prodash_line.specs.Renderer.{Renders, begun, broken};
 
+mod action;
 mod bar;
 mod frame;
 mod input;
-mod line;
+mod line_writer;
 mod memory_screen;
 mod message;
 mod over_write;
@@ -32,7 +33,7 @@ use std::alloc::Global;
 /// Draws the frame of an input: composes it, writes all its bytes to the screen and flushes them.
 /// A frame without bytes does nothing to the screen.
 ///
-/// The first frame hides the cursor, if it is to be hidden on a terminal.
+/// The first frame hides the cursor if `hide_cursor` is set and the output is a terminal.
 ///
 /// - `Input::Tick` with a root prints the new messages, each in the row of the first line on
 ///   screen, and draws the rows in place of the lines that are left if they are shown on a terminal
@@ -42,12 +43,12 @@ use std::alloc::Global;
 /// - `Input::Resize` sets the size, and draws the rows of the latest tick if they are shown on a
 ///   terminal. It returns `Answer::Drawn`.
 ///
-/// Whatever closes the renderer blanks the lines on screen, shows a hidden cursor, and returns
-/// `Answer::Ended`. No further frame is drawn.
+/// Closing the renderer blanks the lines on screen, shows a hidden cursor and returns
+/// `Answer::Ended`. Every later input is refused.
 ///
 /// # Errors
 ///
-/// - `Memory`: it is out of memory. Nothing is written, and neither state nor screen has changed.
+/// - `Memory`: out of memory. Nothing was written, and the state is unchanged.
 /// - `Broken`: the screen broke during this frame, of which it has taken a prefix, or during an
 ///   earlier one. Every further frame is refused with it.
 /// - `Closed`: a closing frame was drawn. Every further frame is refused with it.
@@ -55,13 +56,8 @@ use std::alloc::Global;
 /// ```rust
 /// let mut screen = MemoryScreen::new(alloc, 4096)?;
 /// let options = Options {
-///     level_filter: None,
-///     terminal_dimensions: (80, 20),
-///     keep_running_if_progress_is_empty: true,
-///     output_is_terminal: true,
 ///     colored: false,
-///     timestamp: false,
-///     hide_cursor: false,
+///     ..Options::default()
 /// };
 /// let mut state = State::new(alloc, options, false);
 /// let tick = Input::Tick {
@@ -114,24 +110,10 @@ fn tick<S: Screen>(
     ensures { Renders state.old (Input.Tick at show (Some seen)) (S.state screen.old) result
         state.new (S.state screen.new) }
 {
-    let (rows, messages, copy_state) = seen;
-    let closes = state.past.closes_at(&rows);
-    let frame = compose(
-        alloc,
-        &mut state.frame,
-        &state.past,
-        at,
-        show,
-        &rows,
-        &messages,
-    )?;
+    let frame = compose(alloc, &mut state.frame, &state.past, at, show, &seen)?;
     send(screen, &mut state.past, state.frame.bytes())?;
-    state.past.remember(frame, rows, copy_state);
-    if closes {
-        state.past.close();
-        return Ok(Answer::Ended);
-    }
-    Ok(Answer::Drawn)
+    let (rows, _, copy_state) = seen;
+    Ok(state.past.remember(frame, rows, copy_state))
 }
 
 /// Draws the frame of a resize, and sets the size.
@@ -169,16 +151,15 @@ fn close<S: Screen>(screen: &mut S, state: &mut State) -> Result<Answer, Refusal
     Ok(Answer::Ended)
 }
 
-/// Writes the bytes of a frame to the screen, and keeps whether the cursor is hidden then. If the
-/// screen breaks, so does the renderer.
+/// Writes the bytes of a frame to the screen, and records whether the cursor is hidden then. If the
+/// screen breaks, the renderer ends.
 fn send<S: Screen>(screen: &mut S, past: &mut Past, frame: &[u8]) -> Result<(), Refusal>
-    ensures ok { OnOk result
-        ((past.new ≡ record past.old { cursor_hidden = is_cursor_hidden past.old })
-        × WritesFrame frame.now (S.state screen.old) (S.state screen.new)) }
-    ensures err { OnErr result
-        ((past.new ≡ record past.old { ended = Some Refusal.Broken })
-        × BreaksDuring frame.now (S.state screen.old) (S.state screen.new)) }
-    ensures reason { IfErr result (λ e. e ≡ Refusal.Broken) }
+    ensures begun { OnOk result (past.new ≡ begun past.old) }
+    ensures written { OnOk result
+        (WritesFrame frame.now (S.state screen.old) (S.state screen.new)) }
+    ensures broken { OnErr result (past.new ≡ broken past.old) }
+    ensures err { OnErr result (BreaksDuring frame.now (S.state screen.old) (S.state screen.new)) }
+    ensures reason { IsOkUnless result Refusal.Broken }
 {
     let written = write_frame(screen, frame);
     match written {

@@ -1,8 +1,7 @@
 //! Signs, the bytes that spell them, and a page on which they are written.
-ghost use Rattle.std.specs.Prelude.{◌≡◌, ◌+◌, ◌-◌, ◌<◌, ◌≤◌, [], length, slice_index_or, slice_set, IfOk, IfErr, OnOk, OnErr, MatchOption, IsTrue};
-ghost use Rattle.prodash_base.specs.declared.refusal.Refusal.TheVariants.{Memory};
+ghost use Rattle.std.specs.Prelude.{◌≡◌, ◌+◌, ◌-◌, ◌<◌, ◌≤◌, [], length, slice_index_or, slice_set, IfOk, IsOkUnless, OnOk, OnErr, MatchOption, IsTrue};
 ghost use Rattle.prodash_line.specs.plumbing.Cells.{cells};
-ghost use Rattle.prodash_line.specs.Page.{blank, blank_page, with_row, with_char, after_sign, adds_row};
+ghost use Rattle.prodash_line.specs.Page.{blank, blank_page, IsRow, with_row, with_char, after_sign, adds_row};
 
 mod codes;
 mod reading;
@@ -53,14 +52,14 @@ impl Model for Page {
     ghost invariant = { IsPage };
 }
 
-/// Returns a blank row. It fails if it is out of memory.
+/// Returns a blank row. Fails if out of memory.
 fn blank_row(alloc: Global, columns: u16) -> Result<Vec<char>, AllocError>
     ensures { IfOk result (λ row. row.items ≡ blank columns) }
 {
     Ok(vec![in alloc; ' '; columns as usize]?)
 }
 
-/// Adds a blank row below the last if the row isn't there. It fails if it is out of memory.
+/// Adds a blank row below the last if the row isn't there. Fails if out of memory.
 fn add_row(
     alloc: Global,
     rows: &mut Vec<Vec<char>>,
@@ -102,12 +101,12 @@ fn erase_row(rows: &mut Vec<Vec<char>>, columns: u16, row: usize)
 impl Page {
     /// Returns a page of `rows` blank rows, all in the window, with the cursor at its beginning.
     ///
-    /// `Memory`: the call ran out of memory.
+    /// `Memory`: out of memory.
     pub fn new(alloc: Global, columns: u16, rows: u16) -> Result<Self, Refusal>
         requires wide { 0 < columns }
         requires high { 0 < rows }
         ensures page { IfOk result (λ page. page ≡ blank_page columns rows) }
-        ensures refusal { IfErr result (λ e. e ≡ Memory) }
+        ensures reason { IsOkUnless result Refusal.Memory }
     {
         let mut blanks = Vec::new(alloc);
         for _ in 0..rows {
@@ -125,11 +124,11 @@ impl Page {
 
     /// Writes one sign.
     ///
-    /// `Memory`: the call ran out of memory, and the page is as it was.
+    /// `Memory`: out of memory. The page is unchanged.
     pub fn apply(&mut self, alloc: Global, sign: &Sign) -> Result<(), Refusal>
         ensures ok { OnOk result (self.new ≡ after_sign sign.now self.old) }
         ensures err { OnErr result (self.new ≡ self.old) }
-        ensures refusal { IfErr result (λ e. e ≡ Memory) }
+        ensures reason { IsOkUnless result Refusal.Memory }
 
         // Only a new row needs memory.
         ensures needed { OnErr result (IsTrue (adds_row sign.now self.old)) }
@@ -159,10 +158,10 @@ impl Page {
         Ok(())
     }
 
-    /// Returns row `n`, counted from the first row ever, if it is there.
+    /// Returns row `n`, counted from the first row ever, or `None` if there are fewer rows.
     pub fn row(&self, n: usize) -> Option<&[char]>
         ensures { MatchOption result (length self.now.rows ≤ n)
-            (λ row. (n < length self.now.rows) × (row.now ≡ slice_index_or self.now.rows n [])) }
+            (λ row. IsRow self.now.rows n row.now) }
     {
         let row = self.rows.get(n)?;
         Some(row.as_slice())

@@ -4,8 +4,8 @@ use std::sync::{Arc, Wait};
 use std::thread;
 use std::thread::Threads;
 
-/// The handle of a renderer that draws from a thread of its own. Dropped, it draws a last frame and
-/// the closing frame, and waits until the event loop has ended.
+/// The handle of a renderer that draws from a thread of its own. Dropping it requests a last frame
+/// and the closing frame, and waits until the event loop has ended.
 ///
 /// All calls but `disconnect` and `forget` may wait for the lock of the renderer's mailbox. `wait`,
 /// `shutdown_and_wait` and the drop wait until the event loop has ended, unless the handle has
@@ -22,7 +22,7 @@ pub struct JoinHandle<R: Wait + Threads + Clone + Drop> {
     mailbox: Arc<Mailbox>,
     /// The event loop, if its end is to be waited for.
     event_loop: Option<thread::JoinHandle<()>>,
-    /// Whether the handle may still ask for anything.
+    /// Whether the handle may still request anything.
     is_connected: bool,
 }
 
@@ -41,21 +41,21 @@ impl<R: Wait + Threads + Clone + Drop> JoinHandle<R> {
         }
     }
 
-    /// Leaves the renderer to itself: `disconnect` and `forget`. It runs until its root is gone, or
-    /// until it sees no rows if it isn't to keep running.
+    /// Detaches the renderer: `disconnect` and `forget`. It runs until its root is gone, or until
+    /// it sees no rows if it isn't to keep running.
     pub fn detach(mut self) {
         self.disconnect();
         self.forget();
     }
 
-    /// Makes the handle ask for nothing any more: neither a size nor the end of the renderer. Its
-    /// drop still waits for the event loop, unless it is forgotten.
+    /// Makes the handle request nothing more, neither a resize nor the end of the renderer. Its
+    /// drop still waits for the event loop, unless that is forgotten.
     pub fn disconnect(&mut self) {
         self.is_connected = false;
     }
 
-    /// Makes the handle not wait for the event loop any more. Its drop still asks for the end of
-    /// the renderer, unless it is disconnected.
+    /// Makes the handle no longer wait for the event loop. Its drop still requests the end of the
+    /// renderer, unless it is disconnected.
     pub fn forget(&mut self) {
         self.event_loop = None;
     }
@@ -66,8 +66,8 @@ impl<R: Wait + Threads + Clone + Drop> JoinHandle<R> {
         self.join();
     }
 
-    /// Asks for a last frame and for the closing frame, unless the handle is disconnected. It
-    /// doesn't wait for them.
+    /// Requests a last frame and the closing frame, unless the handle is disconnected. Doesn't wait
+    /// for them.
     pub fn shutdown(&mut self) {
         if self.is_connected {
             self.mailbox.tick(&self.rt);
@@ -75,15 +75,15 @@ impl<R: Wait + Threads + Clone + Drop> JoinHandle<R> {
         }
     }
 
-    /// Asks for a last frame and for the closing frame, unless the handle is disconnected, and
-    /// waits until the event loop has ended.
+    /// Requests a last frame and the closing frame, unless the handle is disconnected, and waits
+    /// until the event loop has ended.
     pub fn shutdown_and_wait(mut self) {
         self.shutdown();
         self.join();
     }
 
-    /// Asks for a size of the terminal, in columns and rows, unless the handle is disconnected. It
-    /// doesn't wait for the frame. Of several sizes that are asked for at once the last is set.
+    /// Sets the size of the terminal, in columns and rows, unless the handle is disconnected.
+    /// Doesn't wait for the frame. Of several sizes that are set before a frame, the last counts.
     pub fn resize(&self, columns: u16, rows: u16) {
         if self.is_connected {
             self.mailbox.resize(&self.rt, columns, rows);

@@ -1,4 +1,4 @@
-//! What the event loop is asked for, by the ticker and by the handle of the renderer.
+//! The requests to the event loop, from the ticker and from the handle of the renderer.
 use std::sync::{Condvar, Mutex, Wait};
 
 /// What the event loop is to do next.
@@ -26,18 +26,18 @@ enum Phase {
     Ended,
 }
 
-/// What the event loop is asked for and has not done yet.
+/// The requests that the event loop has not taken yet.
 #[derive(Drop)]
 struct Pending {
     phase: Phase,
-    /// The size that was asked for last, in columns and rows.
+    /// The size that was requested last, in columns and rows.
     size: Option<(u16, u16)>,
     tick: bool,
     quit: bool,
 }
 
-/// Requests for one event loop. Leaving one takes no memory: a size replaces an earlier size, and a
-/// tick or a quit that is already due stays due once.
+/// The requests to one event loop. A request takes no memory: a size replaces an earlier size, and
+/// a tick or a quit that is already requested stays requested once.
 #[derive(Drop)]
 pub(crate) struct Mailbox {
     pending: Mutex<Pending>,
@@ -45,7 +45,7 @@ pub(crate) struct Mailbox {
 }
 
 impl Pending {
-    /// Whether the event loop is to wait.
+    /// Returns whether the event loop has to wait.
     fn is_empty(&self) -> bool {
         match self.phase {
             Phase::Starting => true,
@@ -92,12 +92,12 @@ impl Mailbox {
         self.set_phase(rt, Phase::Running);
     }
 
-    /// Makes the threads end that wait to run.
+    /// Makes the threads that wait to run end.
     pub(crate) fn cancel<R: Wait>(&self, rt: &R) {
         self.set_phase(rt, Phase::Cancelled);
     }
 
-    /// Says that the event loop has ended.
+    /// Records that the event loop has ended.
     pub(crate) fn end<R: Wait>(&self, rt: &R) {
         self.set_phase(rt, Phase::Ended);
     }
@@ -107,19 +107,19 @@ impl Mailbox {
         self.changed.notify_all();
     }
 
-    /// Asks for a size of the terminal.
+    /// Requests a size of the terminal.
     pub(crate) fn resize<R: Wait>(&self, rt: &R, columns: u16, rows: u16) {
         self.pending.lock(rt).size = Some((columns, rows));
         self.changed.notify_all();
     }
 
-    /// Asks for a frame.
+    /// Requests a frame.
     pub(crate) fn tick<R: Wait>(&self, rt: &R) {
         self.pending.lock(rt).tick = true;
         self.changed.notify_all();
     }
 
-    /// Asks for the closing frame.
+    /// Requests the closing frame.
     pub(crate) fn quit<R: Wait>(&self, rt: &R) {
         self.pending.lock(rt).quit = true;
         self.changed.notify_all();

@@ -1,8 +1,7 @@
 //! The engine: each event draws one frame of what its root shows then.
-ghost use Rattle.std.specs.Prelude.{◌≡◌, IfOk, IfErr};
+ghost use Rattle.std.specs.Prelude.{◌≡◌, IfOk, IfErr, IsOkUnless};
 ghost use Rattle.prodash_base.specs.Refusals.{RefusesHandle};
-ghost use Rattle.prodash_line.specs.Renderer.{Renders, new_renderer};
-ghost use Rattle.prodash.specs.Engines.{MaySee, StepsAt};
+ghost use Rattle.prodash.specs.Engines.{EngineSees, EngineSteps, EngineRenders, new_engine};
 
 use crate::messages::{MessageCopyState, Messages};
 use crate::progress::Rows;
@@ -13,11 +12,15 @@ use prodash_core::traits::{Root, WeakRoot};
 use std::alloc::Global;
 use std::marker::Model;
 
-/// Draws the frames of a root that it finds by a weak root. Contracts see its renderer, its screen
-/// and the weak root. A function that steps one takes the type of the weak root as a parameter.
+/// Draws the frames of the root of a weak root. Contracts see its renderer, its screen and the weak
+/// root. A function that steps an engine is generic in the type of the weak root.
 ///
 /// ```rust
-/// fn last_frame<W: WeakRoot + Drop>(alloc: Global, weak: W, options: Options) -> Result<(), Refusal>
+/// fn last_frame<W: WeakRoot + Drop>(
+///     alloc: Global,
+///     weak: W,
+///     options: Options,
+/// ) -> Result<(), Refusal>
 /// where
 ///     W::Root: Root + Drop,
 /// {
@@ -65,12 +68,8 @@ where
         options: draw::Options,
         throughput: bool,
     ) -> Result<Engine<S, W>, Refusal>
-        ensures ok { IfOk result (λ engine. engine ≡ record {
-          renderer = new_renderer options throughput;
-          screen = screen;
-          weak = weak;
-        }) }
-        ensures err { IfErr result (λ e. e ≡ Refusal.Memory) }
+        ensures ok { IfOk result (λ e. e ≡ new_engine options throughput screen weak) }
+        ensures reason { IsOkUnless result Refusal.Memory }
     {
         Ok(Engine {
             alloc,
@@ -89,21 +88,18 @@ where
 
     /// Draws the frame of an event.
     ///
-    /// A tick takes the rows and the new messages of the root in one look. If there is no root, it
-    /// draws the closing frame. What a frame prints and draws is what `draw::all` says.
+    /// A tick takes the rows and the new messages of the root in one look. Without a root it draws
+    /// the closing frame. [`draw::all`] says what a frame prints and draws.
     ///
     /// # Errors
     ///
     /// - `Closed`: a closing frame was drawn. `Broken`: the screen broke during an earlier frame.
     ///   Every further event is refused with the same, before anything else is tried.
-    /// - `Memory`: it is out of memory. `TooManyHandles`: a tick can't own the root, since it has
-    ///   as many owners as a `u64` can count. Nothing is written, and nothing has changed.
-    /// - `Broken`: the screen broke during this frame, of which it has taken a prefix.
+    /// - `Memory`: out of memory. `TooManyHandles`: a tick can't own the root, which has 2^64 - 1
+    ///   owners. Nothing is written, and nothing has changed.
+    /// - `Broken`: the screen broke during this frame, after it took a prefix of it.
     pub fn step(&mut self, event: EngineEvent) -> Result<Answer, Refusal>
-        ensures step { StepsAt event
-            (MaySee (W.finds self.old.weak) W.Root.looks self.old.renderer.seen)
-            self.old.renderer (S.state self.old.screen) result
-            self.new.renderer (S.state self.new.screen) }
+        ensures step { EngineSteps S.state W.finds W.Root.looks self.old event result self.new }
         ensures weak { self.new.weak ≡ self.old.weak }
     {
         if let Some(refusal) = self.renderer.ended() {
@@ -131,8 +127,7 @@ where
 
     /// Draws the frame of an input.
     fn draw(&mut self, input: Input) -> Result<Answer, Refusal>
-        ensures frame { Renders self.old.renderer input (S.state self.old.screen) result
-            self.new.renderer (S.state self.new.screen) }
+        ensures frame { EngineRenders S.state self.old input result self.new }
         ensures weak { self.new.weak ≡ self.old.weak }
     {
         draw::all(self.alloc, &mut self.screen, &mut self.renderer, input)
@@ -141,9 +136,8 @@ where
     /// Looks at the root: returns its rows, its messages that are new since the latest tick, and
     /// the state after them; or `None` if there is no root.
     fn look(&self) -> Result<Option<(Rows, Messages, MessageCopyState)>, Refusal>
-        ensures ok { IfOk result (λ seen. MaySee (W.finds self.now.weak) W.Root.looks
-            self.now.renderer.seen seen) }
-        ensures err { IfErr result RefusesHandle }
+        ensures ok { IfOk result (EngineSees W.finds W.Root.looks self.now) }
+        ensures reason { IfErr result RefusesHandle }
     {
         let Some(root) = self.weak.upgrade()? else {
             return Ok(None);

@@ -1,4 +1,7 @@
 //! The threads of a renderer: its event loop, its ticker, and the delay before rows are shown.
+ghost use Rattle.std.specs.Prelude.{IfErr, IsOkUnless};
+ghost use Rattle.prodash_base.specs.Refusals.{RefusesThread};
+
 use crate::render::line::draw::{Answer, OverWrite, Screen};
 use crate::render::line::engine::event::EngineEvent;
 use crate::render::line::engine::handle::JoinHandle;
@@ -19,9 +22,9 @@ use std::thread::{Builder, Threads};
 pub struct StackSizes {
     /// The thread that draws.
     pub event_loop: usize,
-    /// The thread that asks for a frame after each frame interval.
+    /// The thread that requests a frame after each frame interval.
     pub ticker: usize,
-    /// The thread that shows the rows after the initial delay. Without a delay it isn't started.
+    /// The thread that shows the rows after the initial delay. It isn't started without a delay.
     pub delay: usize,
 }
 
@@ -36,17 +39,17 @@ impl Default for StackSizes {
 }
 
 /// Draws the tree of a weak root onto a writer, from threads of its own: one frame at once, and one
-/// more after each frame interval. It ends when the root has no owner, when the writer fails, when a
-/// frame sees no rows and the renderer isn't to keep running, or when the handle ends it.
+/// more after each frame interval. It ends when the root has no owner, when the writer fails, when
+/// a frame sees no rows and the renderer isn't to keep running, or when the handle ends it.
 ///
-/// A frame that runs out of memory, or can't own the root, is left out.
+/// A frame is skipped if it runs out of memory, or if the root has too many owners.
 ///
 /// # Errors
 ///
 /// - `Memory`: there is no memory for the threads.
-/// - `NoThread`: a thread couldn't be started. Those that were have ended.
+/// - `NoThread`: a thread couldn't be started. Those that were started have ended.
 ///
-/// What the call was handed is dropped then, and nothing is drawn.
+/// After an error the arguments are dropped, and nothing is drawn.
 ///
 /// ```rust
 /// let root = Root::new(rt, alloc)?;
@@ -69,7 +72,9 @@ pub fn render<
     weak: W,
     clock: Arc<K>,
     options: Options,
-) -> Result<JoinHandle<R>, Refusal> {
+) -> Result<JoinHandle<R>, Refusal>
+    ensures { IfErr result RefusesThread }
+{
     render_with_stacks(rt, alloc, out, weak, clock, options, StackSizes::default())
 }
 
@@ -92,7 +97,9 @@ pub fn render_with_stacks<
     clock: Arc<K>,
     options: Options,
     stacks: StackSizes,
-) -> Result<JoinHandle<R>, Refusal> {
+) -> Result<JoinHandle<R>, Refusal>
+    ensures { IfErr result RefusesThread }
+{
     let engine = Engine::new(
         alloc,
         OverWrite::new(out),
@@ -103,7 +110,7 @@ pub fn render_with_stacks<
     start(rt, alloc, engine, clock, options, stacks)
 }
 
-/// What the event loop and the ticker share with whoever started them.
+/// What the threads of a renderer share.
 #[derive(Drop)]
 struct Shared<R: Wait + Drop, K: Clock + Drop> {
     rt: R,
@@ -116,7 +123,9 @@ struct Shared<R: Wait + Drop, K: Clock + Drop> {
 }
 
 impl<R: Wait + Clone + Drop, K: Clock + Drop> Shared<R, K> {
-    fn share(&self) -> Result<Shared<R, K>, Refusal> {
+    fn share(&self) -> Result<Shared<R, K>, Refusal>
+        ensures { IsOkUnless result Refusal.Memory }
+    {
         Ok(Shared {
             rt: self.rt.clone()?,
             mailbox: Arc::try_clone(&self.mailbox)?,
@@ -141,7 +150,9 @@ fn start<
     clock: Arc<K>,
     options: Options,
     stacks: StackSizes,
-) -> Result<JoinHandle<R>, Refusal> {
+) -> Result<JoinHandle<R>, Refusal>
+    ensures { IfErr result RefusesThread }
+{
     let delay = options.initial_delay.unwrap_or(0);
     let shared = Shared {
         rt,
@@ -238,7 +249,7 @@ fn event_of<R: Wait + Drop, K: Clock + Drop>(
     }
 }
 
-/// The ticker: asks for a frame and sleeps for the frame interval, until the event loop has ended.
+/// The ticker: requests a frame and sleeps for the frame interval, until the event loop has ended.
 fn tick<R: Wait + Drop, K: Clock + Drop>(shared: Shared<R, K>) {
     if !shared.mailbox.has_begun(&shared.rt) {
         return;

@@ -2,4 +2,4 @@ use Rattle.prodash_base.proofs.Prefixes.{split_at_prefix}
 use Rattle.prodash_base.proofs.unit.label_texts.display_percentage.Goals as goal
 
 pub undo_if_refused-requires : goal.undo_if_refused-requires
-undo_if_refused-requires c = split_at_prefix c.args.out.now c.push_percentage-appended.new.out c.len-length.result c.push_percentage-appended.ensures.kept c.len-length.ensures
+undo_if_refused-requires c = split_at_prefix c.args.out.now c.push_percentage-appended.new.out c.len-length.result c.push_percentage-appended.ensures.1 c.len-length.ensures

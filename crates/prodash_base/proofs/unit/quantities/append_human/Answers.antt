@@ -2,4 +2,4 @@ use Rattle.prodash_base.proofs.Prefixes.{split_at_prefix}
 use Rattle.prodash_base.proofs.unit.quantities.append_human.Goals as goal
 
 pub undo_if_refused-requires : goal.undo_if_refused-requires
-undo_if_refused-requires c = split_at_prefix c.args.out.now c.push_scaled-appended.new.out c.len-length.result c.push_scaled-appended.ensures.kept c.len-length.ensures
+undo_if_refused-requires c = split_at_prefix c.args.out.now c.push_scaled-appended.new.out c.len-length.result c.push_scaled-appended.ensures.1 c.len-length.ensures

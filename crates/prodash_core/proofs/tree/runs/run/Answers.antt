@@ -15,33 +15,20 @@ loop-event-preserved g c =
       room = grind (arith, common_steps, c.push.ensures.len, c.push.ensures.capacity, c.unwrap.ensures, cases.1);
     }
 
-pub returns-clause-steps : goal.returns-clause-steps
-returns-clause-steps g c = completes_all _ _ _ c.loop-event.replies.items _ _ _ c.loop-event.invariant.completes c.in_default.ensures.cases
-
-pub returns-clause-each : goal.returns-clause-each
-returns-clause-each g c = λ j l. steps_at j c.args.events.now c.loop-event.replies.items _ _ _ (returns-clause-steps g c) l
-
-pub returns-clause-with_memory : goal.returns-clause-with_memory
-returns-clause-with_memory g c = record {
-  run = run_with_memory c.args.events.now c.loop-event.replies.items _ _ _ (returns-clause-steps g c);
-  session = after_with_memory c.args.events.now c.loop-event.replies.items _ _ _ (returns-clause-steps g c);
-}
-
-pub returns-clause-messages : goal.returns-clause-messages
-returns-clause-messages g c =
-    rings_of_prefixes c.args.options.now.root.message_buffer_capacity c.args.events.now c.loop-event.replies.items _ _ _ (returns-clause-steps g c) refl
-
-pub returns-clause-breaks : goal.returns-clause-breaks
-returns-clause-breaks g c = breaks_exactly _ _ _ _ (run_renders c.args.events.now c.loop-event.replies.items _ _ _ (returns-clause-steps g c))
-
-pub returns-clause-flushes : goal.returns-clause-flushes
-returns-clause-flushes g c = flushes_each _ _ _ _ (run_renders c.args.events.now c.loop-event.replies.items _ _ _ (returns-clause-steps g c))
-
-pub returns-clause-bytes : goal.returns-clause-bytes
-returns-clause-bytes g c = writes_attempts _ _ _ _ [] (run_renders c.args.events.now c.loop-event.replies.items _ _ _ (returns-clause-steps g c)) refl
-
-pub returns-clause-page : goal.returns-clause-page
-returns-clause-page g c = λ page above. shows_on_page _ _ _ _ above page (run_renders c.args.events.now c.loop-event.replies.items _ _ _ (returns-clause-steps g c)) refl refl (omega arith)
-
-pub returns-clause-flushed : goal.returns-clause-flushed
-returns-clause-flushed g c = stays_flushed _ _ _ _ (run_renders c.args.events.now c.loop-event.replies.items _ _ _ (returns-clause-steps g c))
+pub returns-clause-ok : goal.returns-clause-ok
+returns-clause-ok g c =
+    let es = c.args.events.now in
+    let rs = c.loop-event.replies.items in
+    let steps = completes_all _ _ _ rs _ _ _ c.loop-event.invariant.completes c.in_default.ensures.cases in
+    let renders = run_renders es rs _ _ _ steps in
+    record {
+      steps = steps;
+      each = λ j l. steps_at j es rs _ _ _ steps l;
+      with_memory = record { run = run_with_memory es rs _ _ _ steps; session = after_with_memory es rs _ _ _ steps };
+      messages = rings_of_prefixes c.args.options.now.root.message_buffer_capacity es rs _ _ _ steps refl;
+      breaks = breaks_exactly _ _ _ _ renders;
+      flushes = flushes_each _ _ _ _ renders;
+      bytes = writes_attempts _ _ _ _ [] renders refl;
+      page = λ page above. shows_on_page _ _ _ _ above page renders refl refl (omega arith);
+      flushed = stays_flushed _ _ _ _ renders;
+    }

@@ -1,10 +1,11 @@
 //! The bar of a progress.
 ghost use Rattle.std.specs.Prelude.{◌≡◌, ◌-◌, ◌≤◌, [], ◌∷◌, OnOk};
-ghost use Rattle.prodash_line.specs.Lines.{piece, in_color};
+ghost use Rattle.prodash_line.specs.Lines.{piece};
 ghost use Rattle.prodash_line.specs.ProgressRows as rows;
-ghost use Rattle.prodash_line.specs.plumbing.Writing.{Appends};
+ghost use Rattle.prodash_line.specs.ProgressRows.{numbered_cells};
+ghost use Rattle.prodash_line.specs.Writing.{Appends, AppendsIn};
 
-use crate::render::line::draw::line::{LineWriter, style_of_length};
+use crate::render::line::draw::line_writer::{LineWriter, style_of_length};
 use crate::render::line::page::Style;
 use prodash_base::progress::Step;
 use std::alloc::AllocError;
@@ -16,7 +17,7 @@ const BRACKETS: u16 = 3;
 const ARROW: u16 = 1;
 
 /// Appends the bar of a progress on the columns that are left in its row, in this style if it is
-/// coloured. It appends nothing if there are no columns. It fails if it is out of memory.
+/// coloured. It appends nothing if there are no columns. Fails if out of memory.
 pub(crate) fn push_bar(
     out: &mut LineWriter,
     colored: bool,
@@ -26,7 +27,7 @@ pub(crate) fn push_bar(
     done_at: Option<Step>,
 ) -> Result<(), AllocError>
     ensures { OnOk result
-        (Appends out.old (in_color colored (rows.bar style columns step done_at)) out.new) }
+        (AppendsIn colored out.old (rows.bar style columns step done_at) out.new) }
 {
     if columns == 0 {
         return Ok(());
@@ -56,7 +57,7 @@ fn push_bar_with(
 ) -> Result<(), AllocError>
     requires { filled ≤ cells }
     ensures { OnOk result
-        (Appends out.old (in_color colored (rows.bar_with style cells filled)) out.new) }
+        (AppendsIn colored out.old (rows.bar_with style cells filled) out.new) }
 {
     let bright = colored.then_some(style);
     let dim = colored.then_some(style.dimmed());
@@ -91,7 +92,7 @@ fn push_unbounded_bar(
     step: Step,
 ) -> Result<(), AllocError>
     ensures { OnOk result
-        (Appends out.old (in_color colored (rows.unbounded_bar style columns step)) out.new) }
+        (AppendsIn colored out.old (rows.unbounded_bar style columns step) out.new) }
 {
     let end = step.saturating_add(Step::from(columns.saturating_sub(BRACKETS)));
     let style = style_of_length(colored.then_some(style), (end - step) as usize);
@@ -107,7 +108,7 @@ fn push_unbounded_bar(
 fn push_numbered_cells(out: &mut LineWriter, step: Step, end: Step) -> Result<(), AllocError>
     requires { step ≤ end }
     ensures { OnOk result
-        (Appends out.old (piece (rows.numbered_cells step (end - step)) ∷ []) out.new) }
+        (Appends out.old (piece (numbered_cells step (end - step)) ∷ []) out.new) }
 {
     for number in (step..end).rev() {
         out.push_printable(&[numbered_cell(number)])?;

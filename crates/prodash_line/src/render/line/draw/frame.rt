@@ -1,66 +1,63 @@
 //! Frames: the lines of messages and rows, written over the lines on screen.
-ghost use Rattle.std.specs.Prelude.{◌≡◌, ℕ, List, ◌++◌, [], Some, max, length, drop, OnOk, IfOk, IfErr};
-ghost use Rattle.std.specs.Option.{option_map, option_or};
+ghost use Rattle.std.specs.Prelude.{◌≡◌, ◌++◌, Some, drop, OnOk, IfOk, IsOkUnless};
+ghost use Rattle.std.specs.Option.{option_map};
 ghost use Rattle.prodash_base.specs.Rows.{row_of, rows_of};
 ghost use Rattle.prodash_base.specs.Trackers as trackers;
 ghost use Rattle.prodash_line.specs.declared.render.line.draw.input.Input.TheVariants as inputs;
+ghost use Rattle.prodash_line.specs.declared.render.line.draw.action.Action.TheVariants as actions;
 ghost use Rattle.prodash_line.specs.Signs.{spelling};
-ghost use Rattle.prodash_line.specs.Lines.{Line};
-ghost use Rattle.prodash_line.specs.Frames.{first_width, redraw, cursor_up, widths_of, Closes, body_signs, body_widths, frame_signs, widths_after};
-ghost use Rattle.prodash_line.specs.ProgressRows.{filtered, row_lines, greatest_midpoint};
-ghost use Rattle.prodash_line.specs.MessageLines.{message_lines, widths_of_origins, latest_origin_widths};
-ghost use Rattle.prodash_line.specs.Renderer.{tick_frame, tick_body, closing_frame, resize_frame, resized, resized_body, opening_of, ending_of, drawn_rows, drawn_lines, tracker_after, midpoint_after, observed_after, next};
-ghost use Rattle.prodash_line.specs.plumbing.Observing.{throughput_by, observe_by, shown_by, observe_all};
-ghost use Rattle.prodash_line.specs.plumbing.OverwriteBytes.{overwrite_bytes, blank_bytes};
+ghost use Rattle.prodash_line.specs.Frames.{first_width, redraw, cursor_up};
+ghost use Rattle.prodash_line.specs.MessageLines.{message_lines, widths_of_origins};
+ghost use Rattle.prodash_line.specs.Renderer.{opening_of, ending_of, closing_signs, closing_bytes};
+ghost use Rattle.prodash_line.specs.Observing.{throughput_by, observe_by};
+ghost use Rattle.prodash_line.specs.OverwriteBytes.{blank_bytes};
+ghost use Rattle.prodash_line.specs.FrameWriting.{HoldsFrame, AppendsSigns, AppendsOver, Leaves, LeavesTick, LeavesInScene, FinishesRedraw, AddsRows, body_signs_in, drawing_in, shown_lines};
 
+use crate::render::line::draw::action::{Action, Composed, Drawn};
 use crate::render::line::draw::input::Options;
-use crate::render::line::draw::line::{LineWriter, text_width};
+use crate::render::line::draw::line_writer::{LineWriter, text_width};
 use crate::render::line::draw::message::{greatest_of, push_message};
 use crate::render::line::draw::row::{is_row_drawn, push_row};
-use crate::render::line::draw::state::{Composed, Drawn, Past, keep_latest};
+use crate::render::line::draw::state::{Past, keep_latest};
 use crate::render::line::page::Sign;
 use prodash_base::Refusal;
-use prodash_base::messages::{Message, Messages};
+use prodash_base::messages::{Message, MessageCopyState, Messages};
 use prodash_base::progress::{Row, Rows};
 use prodash_base::throughput::Throughput;
 use prodash_base::time::Moment;
 use prodash_base::unit::display;
 use std::alloc::{AllocError, Global};
 
+/// What the body of a frame is drawn from.
+#[derive(Clone, Copy, Drop)]
+struct Scene<'a> {
+    past: &'a Past,
+    /// The options, with the size of the terminal that the frame is drawn for.
+    options: Options,
+    /// The time of the frame.
+    at: Moment,
+    /// The rows that are drawn if the frame draws any.
+    rows: &'a [Row],
+}
+
 /// Composes the frame of a tick with a root: the messages over the lines on screen, then the rows
-/// over those that are left, if they are drawn; or blanks, if the tick closes the renderer. It
-/// fails if it is out of memory.
+/// over those that are left, if they are drawn; or blanks, if the tick closes the renderer. Fails
+/// if out of memory.
 pub(crate) fn compose(
     alloc: Global,
     out: &mut LineWriter,
     past: &Past,
     at: Moment,
     show: bool,
-    rows: &Rows,
-    messages: &Messages,
+    seen: &(Rows, Messages, MessageCopyState),
 ) -> Result<Composed, Refusal>
     ensures bytes { OnOk result
-        (let frame = tick_frame past.now at show rows.now messages.now in
-        out.new.bytes.items ≡ spelling (frame_signs past.now.widths frame)) }
-    ensures widths { IfOk result
-        (λ frame. (pushed : ℕ) →
-        let input = inputs.Tick at show (Some (rows.now, messages.now, pushed)) in
-        frame.drawn.widths.items ≡ (next past.now input).widths) }
-    ensures midpoint { IfOk result
-        (λ frame. (pushed : ℕ) →
-        let input = inputs.Tick at show (Some (rows.now, messages.now, pushed)) in
-        frame.drawn.midpoint ≡ (next past.now input).midpoint) }
-    ensures tracker { IfOk result
-        (λ frame. (pushed : ℕ) →
-        let input = inputs.Tick at show (Some (rows.now, messages.now, pushed)) in
-        option_or frame.drawn.tracker past.now.tracker ≡ (next past.now input).tracker) }
-    ensures origin_widths { IfOk result
-        (λ frame. let height = past.now.options.terminal_dimensions.1 in
-        frame.origin_widths.items
-        ≡ latest_origin_widths height past.now.origin_widths messages.now) }
-    ensures reason { IfErr result (λ e. e ≡ Refusal.Memory) }
+        (HoldsFrame past.now (inputs.Tick at show (Some seen.now)) out.new) }
+    ensures state { IfOk result (LeavesTick past.now (inputs.Tick at show (Some seen.now))) }
+    ensures reason { IsOkUnless result Refusal.Memory }
 {
     let (_, height) = past.options.terminal_dimensions;
+    let messages = seen.1.as_slice();
     begin_frame(out, past)?;
     let mut origin_widths = Vec::from_slice(alloc, &past.origin_widths)?;
     write_messages(
@@ -69,21 +66,28 @@ pub(crate) fn compose(
         &past.options,
         &mut origin_widths,
         &past.widths,
-        messages.as_slice(),
+        messages,
     )?;
     keep_latest(&mut origin_widths, usize::from(height));
-    let left = below(&past.widths, messages.as_slice().len());
-    let drawn = write_body(alloc, out, past, left, at, show, rows)?;
+    let left = below(&past.widths, messages.len());
+    let action = past.tick_action(show, &seen.0);
+    let scene = Scene {
+        past,
+        options: past.options,
+        at,
+        rows: seen.0.as_slice(),
+    };
+    let drawn = write_body(alloc, out, &scene, action, left)?;
     Ok(Composed {
         drawn,
         origin_widths,
+        action,
     })
 }
 
-/// Composes the closing frame without messages. It fails if it is out of memory.
+/// Composes the closing frame without messages. Fails if out of memory.
 pub(crate) fn compose_closing(out: &mut LineWriter, past: &Past) -> Result<(), AllocError>
-    ensures { OnOk result
-        (out.new.bytes.items ≡ spelling (frame_signs past.now.widths (closing_frame past.now))) }
+    ensures { OnOk result (out.new.bytes.items ≡ closing_bytes past.now) }
 {
     begin_frame(out, past)?;
     write_closing(out, past, &past.widths)?;
@@ -91,7 +95,7 @@ pub(crate) fn compose_closing(out: &mut LineWriter, past: &Past) -> Result<(), A
 }
 
 /// Composes the frame of a resize: the rows of the latest tick at the new size, if they are shown
-/// on a terminal. It fails if it is out of memory.
+/// on a terminal. Fails if out of memory.
 pub(crate) fn compose_resized(
     alloc: Global,
     out: &mut LineWriter,
@@ -101,44 +105,28 @@ pub(crate) fn compose_resized(
     show: bool,
 ) -> Result<Drawn, Refusal>
     ensures bytes { OnOk result
-        (let frame = resize_frame past.now at show dimensions.0 dimensions.1 in
-        out.new.bytes.items ≡ spelling (frame_signs past.now.widths frame)) }
-    ensures widths { IfOk result
-        (λ drawn. let frame = resize_frame past.now at show dimensions.0 dimensions.1 in
-        drawn.widths.items ≡ widths_after past.now.widths frame) }
-    ensures midpoint { IfOk result
-        (λ drawn. let r = resized past.now dimensions.0 dimensions.1 in
-        drawn.midpoint ≡ midpoint_after (resized_body r at show) r at) }
-    ensures tracker { IfOk result
-        (λ drawn. let r = resized past.now dimensions.0 dimensions.1 in
-        option_or drawn.tracker past.now.tracker ≡ observed_after (resized_body r at show) r at) }
-    ensures reason { IfErr result (λ e. e ≡ Refusal.Memory) }
+        (HoldsFrame past.now (inputs.Resize at show dimensions.0 dimensions.1) out.new) }
+    ensures state { IfOk result
+        (Leaves past.now (inputs.Resize at show dimensions.0 dimensions.1)) }
+    ensures reason { IsOkUnless result Refusal.Memory }
 {
     begin_frame(out, past)?;
-    if show && past.options.output_is_terminal {
-        let options = Options {
-            terminal_dimensions: dimensions,
-            ..past.options
-        };
-        redraw_rows(
-            alloc,
-            out,
-            past,
-            &options,
-            at,
-            &past.widths,
-            past.latest_rows(),
-        )
-    } else {
-        Ok(Drawn {
-            widths: Vec::from_slice(alloc, &past.widths)?,
-            midpoint: past.last_progress_midpoint,
-            tracker: None,
-        })
-    }
+    let options = Options {
+        terminal_dimensions: dimensions,
+        ..past.options
+    };
+    let scene = Scene {
+        past,
+        options,
+        at,
+        rows: past.latest_rows(),
+    };
+    let action = past.resize_action(show);
+    let drawn = write_body(alloc, out, &scene, action, &past.widths)?;
+    Ok(drawn)
 }
 
-/// Begins a frame: empties the buffer, and hides the cursor if the frame is to.
+/// Begins a frame: empties the buffer, and hides the cursor if this frame does.
 fn begin_frame(out: &mut LineWriter, past: &Past) -> Result<(), AllocError>
     ensures { OnOk result (out.new.bytes.items ≡ spelling (opening_of past.now)) }
 {
@@ -149,48 +137,35 @@ fn begin_frame(out: &mut LineWriter, past: &Past) -> Result<(), AllocError>
     Ok(())
 }
 
-/// Writes what a tick does after its messages: it closes the renderer, or draws the rows over the
-/// lines that are left on screen, or leaves those.
+/// Writes what a frame does after its messages, over the lines that are left on screen.
 fn write_body(
     alloc: Global,
     out: &mut LineWriter,
-    past: &Past,
+    scene: &Scene<'_>,
+    action: Action,
     left: &[u16],
-    at: Moment,
-    show: bool,
-    rows: &Rows,
 ) -> Result<Drawn, Refusal>
     ensures bytes { OnOk result
-        (let body = tick_body past.now at show rows.now in
-        out.new.bytes.items ≡ out.old.bytes.items ++ spelling (body_signs left.now body)) }
-    ensures widths { IfOk result
-        (λ drawn. drawn.widths.items
-        ≡ body_widths left.now (tick_body past.now at show rows.now)) }
-    ensures midpoint { IfOk result
-        (λ drawn. let r = record past.now { last_rows = Some rows.now } in
-        drawn.midpoint ≡ midpoint_after (tick_body past.now at show rows.now) r at) }
-    ensures tracker { IfOk result
-        (λ drawn. let r = record past.now { last_rows = Some rows.now } in
-        option_or drawn.tracker past.now.tracker
-        ≡ observed_after (tick_body past.now at show rows.now) r at) }
-    ensures reason { IfErr result (λ e. e ≡ Refusal.Memory) }
+        (AppendsSigns out.old (body_signs_in action scene.now left.now) out.new) }
+    ensures state { IfOk result (LeavesInScene action scene.now left.now) }
+    ensures reason { IsOkUnless result Refusal.Memory }
 {
-    let midpoint = past.last_progress_midpoint;
-    if past.closes_at(rows) {
-        write_closing(out, past, left)?;
-        Ok(Drawn {
-            widths: Vec::new(alloc),
-            midpoint,
-            tracker: None,
-        })
-    } else if past.draws(show, rows) {
-        redraw_rows(alloc, out, past, &past.options, at, left, rows.as_slice())
-    } else {
-        Ok(Drawn {
+    let midpoint = scene.past.midpoint();
+    match action {
+        Action::Leave => Ok(Drawn {
             widths: Vec::from_slice(alloc, left)?,
             midpoint,
             tracker: None,
-        })
+        }),
+        Action::Redraw => redraw_rows(alloc, out, scene, left),
+        Action::Close => {
+            write_closing(out, scene.past, left)?;
+            Ok(Drawn {
+                widths: Vec::new(alloc),
+                midpoint,
+                tracker: None,
+            })
+        }
     }
 }
 
@@ -198,8 +173,7 @@ fn write_body(
 /// shown if it is hidden, and on a terminal the row of the first line is erased.
 fn write_closing(out: &mut LineWriter, past: &Past, widths: &[u16]) -> Result<(), AllocError>
     ensures { OnOk result
-        (let body = Closes (ending_of past.now) in
-        out.new.bytes.items ≡ out.old.bytes.items ++ spelling (body_signs widths.now body)) }
+        (AppendsSigns out.old (closing_signs past.now widths.now) out.new) }
 {
     finish_redraw(out, widths, 0)?;
     write_ending(out, past)?;
@@ -208,8 +182,7 @@ fn write_closing(out: &mut LineWriter, past: &Past, widths: &[u16]) -> Result<()
 
 /// Writes the signs that end a closing frame.
 fn write_ending(out: &mut LineWriter, past: &Past) -> Result<(), AllocError>
-    ensures { OnOk result
-        (out.new.bytes.items ≡ out.old.bytes.items ++ spelling (ending_of past.now)) }
+    ensures { OnOk result (AppendsSigns out.old (ending_of past.now) out.new) }
 {
     if past.is_cursor_hidden() {
         out.push_sign(Sign::ShowCursor)?;
@@ -233,10 +206,10 @@ fn write_messages(
 ) -> Result<(), Refusal>
     ensures bytes { OnOk result
         (let lines = message_lines options.now origin_widths.old.items messages.now in
-        out.new.bytes.items ≡ out.old.bytes.items ++ overwrite_bytes widths.now lines) }
+        AppendsOver out.old widths.now lines out.new) }
     ensures origins { OnOk result
         (origin_widths.new.items ≡ origin_widths.old.items ++ widths_of_origins messages.now) }
-    ensures reason { IfErr result (λ e. e ≡ Refusal.Memory) }
+    ensures reason { IsOkUnless result Refusal.Memory }
 {
     let mut left = widths;
     let mut greatest = greatest_of(origin_widths);
@@ -252,39 +225,35 @@ fn write_messages(
     Ok(())
 }
 
-/// Redraws rows: writes the lines of those that are drawn over the lines on screen, and blanks
-/// over those that are left over, and moves the cursor back up.
+/// Redraws the rows of a scene: writes the lines of those that are drawn over the lines on screen,
+/// and blanks over those that are left over, and moves the cursor back up.
 fn redraw_rows(
     alloc: Global,
     out: &mut LineWriter,
-    past: &Past,
-    options: &Options,
-    at: Moment,
+    scene: &Scene<'_>,
     widths: &[u16],
-    rows: &[Row],
 ) -> Result<Drawn, Refusal>
     ensures bytes { OnOk result
-        (let r = record past.now { options = options.now } in
-        let lines = drawn_lines r at (rows_of rows.now) in
-        out.new.bytes.items ≡ out.old.bytes.items ++ spelling (redraw widths.now lines)) }
-    ensures widths { IfOk result
-        (λ drawn. let r = record past.now { options = options.now } in
-        drawn.widths.items ≡ widths_of (drawn_lines r at (rows_of rows.now))) }
-    ensures midpoint { IfOk result
-        (λ drawn. let r = record past.now { options = options.now } in
-        drawn.midpoint ≡ greatest_midpoint (drawn_rows r at (rows_of rows.now))) }
-    ensures tracker { IfOk result
-        (λ drawn. let r = record past.now { options = options.now } in
-        drawn.tracker ≡ tracker_after r at (rows_of rows.now)) }
-    ensures reason { IfErr result (λ e. e ≡ Refusal.Memory) }
+        (AppendsSigns out.old (redraw widths.now (drawing_in scene.now).lines) out.new) }
+    ensures state { IfOk result (LeavesInScene actions.Redraw scene.now widths.now) }
+    ensures reason { IsOkUnless result Refusal.Memory }
 {
+    let midpoint = scene.past.midpoint();
+    let rows = scene.rows;
     let mut drawn = Drawn {
         widths: Vec::new(alloc),
         midpoint: 0,
-        tracker: past.tracker_at(alloc, at, rows)?,
+        tracker: scene.past.tracker_at(alloc, scene.at, rows)?,
     };
-    let midpoint = past.last_progress_midpoint;
-    write_rows(alloc, out, &mut drawn, options, midpoint, widths, rows)?;
+    write_rows(
+        alloc,
+        out,
+        &mut drawn,
+        &scene.options,
+        midpoint,
+        widths,
+        rows,
+    )?;
     reconcile(&mut drawn.tracker, rows);
     finish_redraw(out, widths, drawn.widths.len())?;
     Ok(drawn)
@@ -302,23 +271,11 @@ fn write_rows(
     rows: &[Row],
 ) -> Result<(), Refusal>
     ensures bytes { OnOk result
-        (let left = filtered options.now.level_filter (rows_of rows.now) in
-        let shown = shown_by drawn.old.tracker left in
-        let lines = row_lines options.now midpoint shown in
-        out.new.bytes.items ≡ out.old.bytes.items ++ overwrite_bytes widths.now lines) }
-    ensures widths { OnOk result
-        (let left = filtered options.now.level_filter (rows_of rows.now) in
-        let shown = shown_by drawn.old.tracker left in
-        let lines = row_lines options.now midpoint shown in
-        drawn.new.widths.items ≡ drawn.old.widths.items ++ widths_of lines) }
-    ensures midpoint { OnOk result
-        (let left = filtered options.now.level_filter (rows_of rows.now) in
-        let shown = shown_by drawn.old.tracker left in
-        drawn.new.midpoint ≡ max drawn.old.midpoint (greatest_midpoint shown)) }
-    ensures tracker { OnOk result
-        (drawn.new.tracker
-        ≡ observe_all drawn.old.tracker (filtered options.now.level_filter (rows_of rows.now))) }
-    ensures reason { IfErr result (λ e. e ≡ Refusal.Memory) }
+        (let lines = shown_lines options.now midpoint drawn.old rows.now in
+        AppendsOver out.old widths.now lines out.new) }
+    ensures drawn { OnOk result
+        (AddsRows options.now midpoint rows.now drawn.old drawn.new) }
+    ensures reason { IsOkUnless result Refusal.Memory }
 {
     let mut left = widths;
     for row in rows {
@@ -335,7 +292,7 @@ fn write_rows(
     Ok(())
 }
 
-/// Keeps what a tracker, if there is one, has observed of these rows alone.
+/// Removes from a tracker, if there is one, what it has observed of other rows than these.
 fn reconcile(tracker: &mut Option<Throughput>, rows: &[Row])
     ensures { tracker.new ≡ option_map (λ t. trackers.reconcile t (rows_of rows.now)) tracker.old }
 {
@@ -353,7 +310,7 @@ fn observe(
     ensures value { IfOk result
         (λ throughput. throughput ≡ throughput_by tracker.old (row_of row.now)) }
     ensures after { OnOk result (tracker.new ≡ observe_by tracker.old (row_of row.now)) }
-    ensures reason { IfErr result (λ e. e ≡ Refusal.Memory) }
+    ensures reason { IsOkUnless result Refusal.Memory }
 {
     let Some(tracker) = tracker else {
         return Ok(None);
@@ -365,10 +322,7 @@ fn observe(
 /// Writes blanks over the lines on screen below the first `drawn` rows, and moves the cursor up
 /// from below all rows to the first.
 fn finish_redraw(out: &mut LineWriter, widths: &[u16], drawn: usize) -> Result<(), AllocError>
-    ensures { OnOk result
-        ((before : List ℕ) (lines : List Line) → length lines ≡ drawn
-        → out.old.bytes.items ≡ before ++ overwrite_bytes widths.now lines
-        → out.new.bytes.items ≡ before ++ spelling (redraw widths.now lines)) }
+    ensures { OnOk result (FinishesRedraw out.old widths.now drawn out.new) }
 {
     write_blanks(out, below(widths, drawn))?;
     push_up(out, drawn.max(widths.len()))?;
@@ -388,7 +342,7 @@ fn write_blanks(out: &mut LineWriter, widths: &[u16]) -> Result<(), AllocError>
 
 /// Moves the cursor up by `rows` rows, at most 65535; by none if that is 0.
 fn push_up(out: &mut LineWriter, rows: usize) -> Result<(), AllocError>
-    ensures { OnOk result (out.new.bytes.items ≡ out.old.bytes.items ++ spelling (cursor_up rows)) }
+    ensures { OnOk result (AppendsSigns out.old (cursor_up rows) out.new) }
 {
     if rows > 0 {
         out.push_sign(Sign::Up(rows.min(usize::from(u16::MAX)) as u16))?;

@@ -1,18 +1,29 @@
+//! Inputs of the renderer, its options, and its answers.
+ghost use Rattle.std.specs.Prelude.{◌≡◌};
+ghost use Rattle.prodash_line.specs.Renderer.{default_options};
+
 use prodash_base::messages::{MessageCopyState, Messages};
 use prodash_base::progress::{Level, Rows};
 use prodash_base::time::Moment;
 
 /// How frames are drawn.
+///
+/// ```rust
+/// let options = Options {
+///     terminal_dimensions: (120, 40),
+///     ..Options::default()
+/// };
+/// ```
 #[derive(Clone, Copy, Debug)]
 pub struct Options {
-    /// The lowest and the highest level of the rows that are drawn. All rows are drawn without it.
+    /// The lowest and the highest level of the rows that are drawn. `None` draws all rows.
     pub level_filter: Option<(Level, Level)>,
     /// The columns and the rows of the terminal.
     pub terminal_dimensions: (u16, u16),
-    /// Whether the renderer keeps running after a tick that sees no rows. If not, such a tick
+    /// Whether the renderer keeps running after a tick that sees no rows. Otherwise such a tick
     /// closes it.
     pub keep_running_if_progress_is_empty: bool,
-    /// Whether the output is a terminal. If not, messages alone are written.
+    /// Whether the output is a terminal. Otherwise only messages are written.
     pub output_is_terminal: bool,
     /// Whether texts are written in colours and other styles.
     pub colored: bool,
@@ -22,16 +33,35 @@ pub struct Options {
     pub hide_cursor: bool,
 }
 
-/// What the renderer draws a frame for.
+impl Default for Options {
+    /// Returns options for a coloured terminal of 80 columns and 20 rows. Rows of all levels are
+    /// drawn, messages have no timestamps, the cursor stays visible, and the renderer keeps running
+    /// without rows.
+    fn default() -> Options
+        ensures { result ≡ default_options }
+    {
+        Options {
+            level_filter: None,
+            terminal_dimensions: (80, 20),
+            keep_running_if_progress_is_empty: true,
+            output_is_terminal: true,
+            colored: true,
+            timestamp: false,
+            hide_cursor: false,
+        }
+    }
+}
+
+/// An input of the renderer, for which it draws one frame.
 #[derive(Debug, Drop)]
 pub enum Input {
-    /// Prints the new messages, and draws the rows if they are shown and have changed. Without a
-    /// root it closes the renderer, and so it does without rows, unless the renderer is to keep
+    /// Prints the new messages, and draws the rows if they are shown and have changed. Closes the
+    /// renderer if there is no root, or if there are no rows and the renderer isn't to keep
     /// running.
     Tick {
         /// The time of the tick.
         at: Moment,
-        /// Whether the rows are shown or hidden. Hidden rows are remembered, and not drawn.
+        /// Whether the rows are shown or hidden. Hidden rows are remembered but not drawn.
         show: bool,
         /// What the tick sees of a tree with a root: its rows, ascending by key; the messages that
         /// came since the state that `State::seen` returns; and the state after them.
@@ -55,11 +85,11 @@ pub enum Input {
     },
 }
 
-/// What is returned for an accepted frame.
+/// The answer to an accepted input.
 #[derive(Clone, Copy, Debug, PartialEq, Eq)]
 pub enum Answer {
-    /// The frame is written, and it is no closing frame. It may have had no bytes.
+    /// The frame was written. It may have had no bytes.
     Drawn,
-    /// The closing frame is written.
+    /// The closing frame was written.
     Ended,
 }

@@ -1,14 +1,14 @@
 //! A screen in memory.
-ghost use Rattle.std.specs.Prelude.{◌≡◌, ◌+◌, ◌<◌, ◌≤◌, [], ◌++◌, false, length, take, is_err, IsTrue, IfOk, IfErr, OnErr};
-ghost use Rattle.prodash_line.specs.Screens.{TakesPrefix};
+ghost use Rattle.std.specs.Prelude.{◌≡◌, ◌<◌, [], false, length, is_err, IfOk, OnErr, IsOkUnless};
+ghost use Rattle.prodash_line.specs.Screens.{Takes, TakesPrefix, StaysBroken, FitsRoom, memory_state};
 
 use crate::render::line::draw::screen::Screen;
 use prodash_base::Refusal;
 use std::alloc::Global;
 use std::marker::Model;
 
-/// A screen that collects bytes in memory. It doesn't break while they fit the room that it was
-/// made with; past that it breaks if a growth is refused.
+/// A screen that collects bytes in memory. Never breaks within its capacity; beyond it, the screen
+/// breaks if memory runs out.
 ///
 /// ```rust
 /// let mut screen = MemoryScreen::new(alloc, 4096)?;
@@ -35,12 +35,12 @@ impl Model for MemoryScreen {
 }
 
 impl MemoryScreen {
-    /// Returns an empty screen with room for `room` bytes.
+    /// Returns an empty screen with a capacity of `room` bytes.
     ///
-    /// `Memory`: it is out of memory.
+    /// `Memory`: out of memory.
     pub fn new(alloc: Global, room: usize) -> Result<MemoryScreen, Refusal>
         ensures ok { IfOk result (λ s. s ≡ record { bytes = []; room = room; broken = false }) }
-        ensures err { IfErr result (λ e. e ≡ Refusal.Memory) }
+        ensures reason { IsOkUnless result Refusal.Memory }
     {
         Ok(MemoryScreen {
             bytes: Vec::with_capacity(alloc, room)?,
@@ -58,25 +58,23 @@ impl MemoryScreen {
 }
 
 impl Screen for MemoryScreen {
-    ghost state = { λ s. record { bytes = s.bytes; flushed = s.bytes; broken = s.broken } };
+    ghost state = { memory_state };
 
     fn put(&mut self, bytes: &[u8]) -> Result<usize, Refusal>
         ensures ok { IfOk result
-            (λ n. (n ≤ length bytes.now) × (self.new.bytes ≡ self.old.bytes ++ take n bytes.now)) }
+            (Takes bytes.now (memory_state self.old) (memory_state self.new)) }
         ensures some { IfOk result (λ n. 0 < length bytes.now → 0 < n) }
         ensures err { OnErr result (TakesPrefix bytes.now self.old.bytes self.new.bytes) }
-        ensures reason { IfErr result (λ e. e ≡ Refusal.Broken) }
+        ensures reason { IsOkUnless result Refusal.Broken }
         ensures exact { is_err result ≡ self.new.broken }
-        ensures stays { IsTrue self.old.broken
-            → IsTrue self.new.broken × (self.new.bytes ≡ self.old.bytes) }
+        ensures stays { StaysBroken (memory_state self.old) (memory_state self.new) }
         ensures room { self.new.room ≡ self.old.room }
 
         // It takes all bytes, unless it breaks.
         ensures whole { IfOk result (λ n. n ≡ length bytes.now) }
 
-        // It doesn't break while the bytes fit its room.
-        ensures fits { length self.old.bytes + length bytes.now ≤ self.old.room
-            → self.new.broken ≡ self.old.broken }
+        // It doesn't break if the bytes fit within its capacity.
+        ensures fits { FitsRoom bytes.now self.old → self.new.broken ≡ self.old.broken }
     {
         if self.broken || self.bytes.extend_from_slice(bytes).is_err() {
             self.broken = true;
@@ -87,7 +85,7 @@ impl Screen for MemoryScreen {
 
     fn flush(&mut self) -> Result<(), Refusal>
         ensures unchanged { self.new ≡ self.old }
-        ensures reason { IfErr result (λ e. e ≡ Refusal.Broken) }
+        ensures reason { IsOkUnless result Refusal.Broken }
         ensures exact { is_err result ≡ self.new.broken }
     {
         if self.broken {

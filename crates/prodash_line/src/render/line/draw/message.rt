@@ -1,19 +1,19 @@
 //! The line of a message: its origin, aligned with those of other messages, and its text.
-ghost use Rattle.std.specs.Prelude.{◌≡◌, IfErr, OnOk};
+ghost use Rattle.std.specs.Prelude.{◌≡◌, OnOk, IsOkUnless};
 ghost use Rattle.prodash_line.specs.Lines.{in_color};
-ghost use Rattle.prodash_line.specs.MessageLines.{origin_width, time_of, text_of, drawn_message_line, greatest_width};
-ghost use Rattle.prodash_line.specs.plumbing.Writing.{Appends, Begun};
+ghost use Rattle.prodash_line.specs.MessageLines.{origin_width, drawn_time, text_of, drawn_message_line, greatest_width};
+ghost use Rattle.prodash_line.specs.Writing.{Appends, Begun};
 
 use crate::render::line::draw::input::Options;
-use crate::render::line::draw::line::LineWriter;
+use crate::render::line::draw::line_writer::LineWriter;
 use crate::render::line::draw::styles::{message_style, origin_style, time_style};
 use prodash_base::Refusal;
 use prodash_base::messages::Message;
 use prodash_base::time::format_time_for_messages;
 use std::alloc::{AllocError, Global};
 
-/// Writes the line of a message whose origin has this width, right-aligned to `width`. It fails if
-/// it is out of memory.
+/// Writes the line of a message whose origin has this width, right-aligned to `width`. Fails if out
+/// of memory.
 pub(crate) fn push_message(
     alloc: Global,
     out: &mut LineWriter,
@@ -25,7 +25,7 @@ pub(crate) fn push_message(
     requires { own_width ≡ origin_width message.now.origin }
     ensures line { OnOk result
         (Begun out.old (drawn_message_line options.now width message.now) out.new) }
-    ensures reason { IfErr result (λ e. e ≡ Refusal.Memory) }
+    ensures reason { IsOkUnless result Refusal.Memory }
 {
     out.begin();
     out.push_spaces(1)?;
@@ -42,9 +42,8 @@ fn push_time(
     message: &Message,
 ) -> Result<(), Refusal>
     ensures pieces { OnOk result
-        (let pieces = time_of options.now.timestamp message.now in
-        Appends out.old (in_color options.now.colored pieces) out.new) }
-    ensures reason { IfErr result (λ e. e ≡ Refusal.Memory) }
+        (Appends out.old (drawn_time options.now message.now) out.new) }
+    ensures reason { IsOkUnless result Refusal.Memory }
 {
     if !options.timestamp {
         return Ok(());

@@ -1,17 +1,15 @@
 //! The line of a row: its name, and with progress its values and a bar.
-ghost use Rattle.std.specs.Prelude.{◌≡◌, ◌≤◌, ◌+◌, ℕ, [], ◌∷◌, ◌++◌, true, length, Some, OnOk, IfOk, IfErr};
-ghost use Rattle.std.specs.Fmt.{decimal};
+ghost use Rattle.std.specs.Prelude.{◌≡◌, ◌≤◌, ◌+◌, ◌++◌, true, length, OnOk, IfOk, IsOkUnless};
 ghost use Rattle.prodash_base.specs.Units.{measure_of};
 ghost use Rattle.prodash_base.specs.Rows.{row_of, progress_of};
-ghost use Rattle.prodash_line.specs.Lines.{styled, in_color};
 ghost use Rattle.prodash_line.specs.ProgressRows as rows;
-ghost use Rattle.prodash_line.specs.TextStyles.{values_style};
-ghost use Rattle.prodash_line.specs.plumbing.Padding.{end_of_values, padded_values};
-ghost use Rattle.prodash_line.specs.plumbing.Writing.{is_printable, Appends, Begun};
+ghost use Rattle.prodash_line.specs.ProgressRows.{FollowsStep, fraction_values};
+ghost use Rattle.prodash_line.specs.Padding.{end_of_values, Pads};
+ghost use Rattle.prodash_line.specs.Writing.{is_printable, AppendsIn, Begun};
 
 use crate::render::line::draw::bar::push_bar;
 use crate::render::line::draw::input::Options;
-use crate::render::line::draw::line::{LineWriter, text_width};
+use crate::render::line::draw::line_writer::{LineWriter, text_width};
 use crate::render::line::draw::styles::{name_style, row_style, values_style};
 use itoa::Buffer;
 use prodash_base::Refusal;
@@ -22,7 +20,7 @@ use std::alloc::{AllocError, Global};
 
 /// Writes the line of a row, its values padded so that they end at this midpoint, with a throughput
 /// if there is one. Returns the row's own midpoint: the column at which its values end without
-/// padding, 0 if it has no progress. It fails if it is out of memory.
+/// padding, 0 if it has no progress. Fails if out of memory.
 pub(crate) fn push_row(
     alloc: Global,
     out: &mut LineWriter,
@@ -35,7 +33,7 @@ pub(crate) fn push_row(
         (Begun out.old
         (rows.drawn_row_line options.now midpoint (row_of row.now, throughput)) out.new) }
     ensures midpoint { IfOk result (λ n. n ≡ rows.midpoint_of (row_of row.now, throughput)) }
-    ensures reason { IfErr result (λ e. e ≡ Refusal.Memory) }
+    ensures reason { IsOkUnless result Refusal.Memory }
 {
     let (width, _) = options.terminal_dimensions;
     let colored = options.colored;
@@ -68,11 +66,11 @@ fn push_values(
 ) -> Result<u16, Refusal>
     ensures line { OnOk result
         (let values = rows.values_of (progress_of value.now) throughput in
-        Appends out.old (in_color colored (padded_values midpoint out.old.width values)) out.new) }
+        Pads colored midpoint out.old values out.new) }
     ensures end { IfOk result
         (λ n. let values = rows.values_of (progress_of value.now) throughput in
         n ≡ end_of_values out.old.width values) }
-    ensures reason { IfErr result (λ e. e ≡ Refusal.Memory) }
+    ensures reason { IsOkUnless result Refusal.Memory }
 {
     match value.unit {
         None => Ok(push_fraction(out, colored, midpoint, value.step, value.done_at)?),
@@ -89,11 +87,9 @@ fn push_fraction(
     done_at: Option<Step>,
 ) -> Result<u16, AllocError>
     ensures line { OnOk result
-        (let values = styled (Some values_style) (rows.fraction_of step done_at) ∷ [] in
-        Appends out.old (in_color colored (padded_values midpoint out.old.width values)) out.new) }
+        (Pads colored midpoint out.old (fraction_values step done_at) out.new) }
     ensures end { IfOk result
-        (λ n. let values = styled (Some values_style) (rows.fraction_of step done_at) ∷ [] in
-        n ≡ end_of_values out.old.width values) }
+        (λ n. n ≡ end_of_values out.old.width (fraction_values step done_at)) }
 {
     let mut step_digits = Buffer::new();
     let mut bound_digits = Buffer::new();
@@ -125,11 +121,11 @@ fn push_in_unit(
 ) -> Result<u16, Refusal>
     ensures line { OnOk result
         (let values = rows.values_in (measure_of unit) (progress_of value.now) throughput in
-        Appends out.old (in_color colored (padded_values midpoint out.old.width values)) out.new) }
+        Pads colored midpoint out.old values out.new) }
     ensures end { IfOk result
         (λ n. let values = rows.values_in (measure_of unit) (progress_of value.now) throughput in
         n ≡ end_of_values out.old.width values) }
-    ensures reason { IfErr result (λ e. e ≡ Refusal.Memory) }
+    ensures reason { IsOkUnless result Refusal.Memory }
 {
     let mut values = String::new(alloc);
     let mut name = String::new(alloc);
@@ -160,7 +156,7 @@ fn push_in_unit(
     Ok(own)
 }
 
-/// Whether a row is drawn: its level is in the filter, if there is one.
+/// Returns whether the filter of levels, if there is one, lets a row through.
 pub(crate) fn is_row_drawn(levels: Option<(Level, Level)>, row: &Row) -> bool
     ensures { result ≡ rows.is_row_drawn levels (row_of row.now) }
 {
@@ -173,8 +169,7 @@ pub(crate) fn is_row_drawn(levels: Option<(Level, Level)>, row: &Row) -> bool
 
 /// Returns what follows the digits of a step: a slash and the digits of the bound, if there is one.
 fn format_bound(digits: &mut Buffer, done_at: Option<Step>) -> (&'static str, &str)
-    ensures text { (step : ℕ)
-        → rows.fraction_of step done_at ≡ decimal step ++ (result.0.now ++ result.1.now) }
+    ensures text { FollowsStep done_at (result.0.now ++ result.1.now) }
     ensures slash { is_printable result.0.now ≡ true }
     ensures bound { is_printable result.1.now ≡ true }
     ensures short { length result.0.now + length result.1.now ≤ 41 }
@@ -185,10 +180,10 @@ fn format_bound(digits: &mut Buffer, done_at: Option<Step>) -> (&'static str, &s
     }
 }
 
-/// Appends the name of a row behind as many spaces as its level.
+/// Appends as many spaces as the level of a row, then its name.
 fn push_head(out: &mut LineWriter, colored: bool, row: &Row) -> Result<(), AllocError>
     ensures { OnOk result
-        (Appends out.old (in_color colored (rows.head_of (row_of row.now))) out.new) }
+        (AppendsIn colored out.old (rows.head_of (row_of row.now)) out.new) }
 {
     let style = colored.then_some(name_style(&row.progress));
     out.push_spaces(u16::from(row.key.level()))?;

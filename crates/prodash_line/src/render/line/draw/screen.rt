@@ -1,10 +1,10 @@
 //! Where frames are written to.
-ghost use Rattle.std.specs.Prelude.{◌≡◌, ◌<◌, ◌≤◌, ◌++◌, length, take, is_err, IsTrue, IfOk, IfErr, OnOk, OnErr};
-ghost use Rattle.prodash_line.specs.Screens.{ScreenState, TakesPrefix, WritesFrame, BreaksDuring};
+ghost use Rattle.std.specs.Prelude.{◌≡◌, ◌<◌, length, is_err, IsTrue, IfOk, IsOkUnless, OnOk, OnErr};
+ghost use Rattle.prodash_line.specs.Screens.{ScreenState, Takes, TakesPrefix, StaysBroken, IsFlushed, WritesFrame, BreaksDuring};
 
 use prodash_base::Refusal;
 
-/// Takes the bytes of frames until it breaks. Once broken it stays broken and takes nothing.
+/// A sink for the bytes of frames. Once broken, it stays broken and takes no more bytes.
 ///
 /// A screen that hands at most 16 bytes at once to another one:
 ///
@@ -45,26 +45,23 @@ pub trait Screen {
     /// `Broken`: the screen is broken. It has taken a prefix of the bytes, and none of them if it
     /// was broken before.
     fn put(&mut self, bytes: &[u8]) -> Result<usize, Refusal>
-        ensures ok { IfOk result
-            (λ n. (n ≤ length bytes.now)
-            × ((state self.new).bytes ≡ (state self.old).bytes ++ take n bytes.now)) }
+        ensures ok { IfOk result (Takes bytes.now (state self.old) (state self.new)) }
         ensures some { IfOk result (λ n. 0 < length bytes.now → 0 < n) }
         ensures err { OnErr result
             (TakesPrefix bytes.now (state self.old).bytes (state self.new).bytes) }
-        ensures reason { IfErr result (λ e. e ≡ Refusal.Broken) }
+        ensures reason { IsOkUnless result Refusal.Broken }
         ensures exact { is_err result ≡ (state self.new).broken }
-        ensures stays { IsTrue (state self.old).broken
-            → IsTrue (state self.new).broken × ((state self.new).bytes ≡ (state self.old).bytes) };
+        ensures stays { StaysBroken (state self.old) (state self.new) };
 
     /// Flushes all bytes taken so far.
     ///
-    /// `Broken`: the screen is broken, and what was taken might not have been flushed.
+    /// `Broken`: the screen is broken, and the bytes taken may not have been flushed.
     fn flush(&mut self) -> Result<(), Refusal>
         ensures same { (state self.new).bytes ≡ (state self.old).bytes }
-        ensures flushed { OnOk result ((state self.new).flushed ≡ (state self.new).bytes) }
-        ensures reason { IfErr result (λ e. e ≡ Refusal.Broken) }
+        ensures flushed { OnOk result (IsFlushed (state self.new)) }
+        ensures reason { IsOkUnless result Refusal.Broken }
         ensures exact { is_err result ≡ (state self.new).broken }
-        ensures stays { IsTrue (state self.old).broken → IsTrue (state self.new).broken };
+        ensures stays { StaysBroken (state self.old) (state self.new) };
 
     /// Returns whether the screen is broken.
     fn is_broken(&self) -> bool
@@ -78,7 +75,7 @@ pub trait Screen {
 pub(crate) fn write_frame<S: Screen>(screen: &mut S, frame: &[u8]) -> Result<(), Refusal>
     ensures ok { OnOk result (WritesFrame frame.now (S.state screen.old) (S.state screen.new)) }
     ensures err { OnErr result (BreaksDuring frame.now (S.state screen.old) (S.state screen.new)) }
-    ensures reason { IfErr result (λ e. e ≡ Refusal.Broken) }
+    ensures reason { IsOkUnless result Refusal.Broken }
 {
     if frame.is_empty() {
         return Ok(());

@@ -1,13 +1,14 @@
 //! What the renderer keeps from frame to frame.
-ghost use Rattle.std.specs.Prelude.{◌≡◌, ◌⊎◌, [], Some, IfSome, IfOk, IfErr};
-ghost use Rattle.std.specs.Option.{option_or};
+ghost use Rattle.std.specs.Prelude.{◌≡◌, [], Some, IfSome, IfOk, IsOkUnless};
 ghost use Rattle.prodash_base.specs.Rows.{rows_of};
-ghost use Rattle.prodash_line.specs.Renderer.{new_renderer, is_drawn, closes_at, hides_cursor, is_cursor_hidden, latest_rows, resized};
-ghost use Rattle.prodash_line.specs.MessageLines.{last_of};
-ghost use Rattle.prodash_line.specs.plumbing.Observing.{tracker_at};
+ghost use Rattle.prodash_line.specs.Renderer.{IsEndRefusal, new_renderer, is_drawn, closes_at, hides_cursor, is_cursor_hidden, latest_rows, resized, tick_action, resize_action, answer_of};
+ghost use Rattle.prodash_line.specs.FrameWriting.{keeping, remembering};
+ghost use Rattle.prodash_base.specs.Rings.{keep_last};
+ghost use Rattle.prodash_line.specs.Observing.{tracker_at};
 
-use crate::render::line::draw::input::Options;
-use crate::render::line::draw::line::LineWriter;
+use crate::render::line::draw::action::{Action, Composed, Drawn};
+use crate::render::line::draw::input::{Answer, Options};
+use crate::render::line::draw::line_writer::LineWriter;
 use prodash_base::Refusal;
 use prodash_base::messages::MessageCopyState;
 use prodash_base::progress::{Row, Rows};
@@ -39,18 +40,18 @@ pub(crate) struct Past {
     /// The width of each line on screen.
     pub(crate) widths: Vec<u16>,
     /// The greatest midpoint of the frame drawn last, 0 before the first.
-    pub(crate) last_progress_midpoint: u16,
+    last_progress_midpoint: u16,
     /// The rows at the latest accepted tick with a root.
     last_rows: Option<Rows>,
     /// The widths of the latest origins, at most as many as the terminal has rows.
     pub(crate) origin_widths: Vec<u16>,
     /// What the latest accepted tick with a root saw of the messages.
     seen: Option<MessageCopyState>,
-    /// The tracker of throughput, if throughput is shown.
+    /// Measures throughput, if it is shown.
     tracker: Option<Throughput>,
     /// Whether a frame has hidden the cursor.
     cursor_hidden: bool,
-    /// Why every further frame is refused, if it is.
+    /// Why every further frame is refused, if so.
     ending: Option<Ending>,
 }
 
@@ -61,27 +62,6 @@ pub(crate) enum Ending {
     Closed,
     /// The screen broke during a frame.
     Broken,
-}
-
-/// What the body of a frame leaves to the next one.
-#[derive(Drop)]
-pub(crate) struct Drawn {
-    /// The width of each line on screen.
-    pub(crate) widths: Vec<u16>,
-    /// The greatest midpoint of the frame drawn last.
-    pub(crate) midpoint: u16,
-    /// The tracker, if there is one, after a frame that draws rows. A frame that draws none leaves
-    /// the tracker as it was.
-    pub(crate) tracker: Option<Throughput>,
-}
-
-/// What a composed frame leaves to the next one.
-#[derive(Drop)]
-pub(crate) struct Composed {
-    /// What its body leaves.
-    pub(crate) drawn: Drawn,
-    /// The widths of the latest origins.
-    pub(crate) origin_widths: Vec<u16>,
 }
 
 impl Ending {
@@ -135,8 +115,8 @@ impl Model for State {
 }
 
 impl State {
-    /// Returns the state of a renderer that has drawn nothing yet. `throughput` says whether it
-    /// measures throughput, for the units that show it.
+    /// Returns the state of a renderer that has drawn nothing yet. If `throughput` is set, it
+    /// measures throughput for the units that show it.
     pub fn new(alloc: Global, options: Options, throughput: bool) -> State
         ensures { result ≡ new_renderer options throughput }
     {
@@ -150,10 +130,10 @@ impl State {
     ///
     /// # Errors
     ///
-    /// `Memory`, if out of memory.
+    /// `Memory`: out of memory.
     pub fn deep_clone(&self, alloc: Global) -> Result<State, Refusal>
         ensures ok { IfOk result (λ copy. copy ≡ self.now) }
-        ensures err { IfErr result (λ e. e ≡ Refusal.Memory) }
+        ensures reason { IsOkUnless result Refusal.Memory }
     {
         Ok(State {
             past: self.past.deep_clone(alloc)?,
@@ -161,8 +141,8 @@ impl State {
         })
     }
 
-    /// Returns what the latest accepted tick with a root saw of the messages, or none before the
-    /// first. The next tick is given the messages that came since.
+    /// Returns what the latest accepted tick with a root saw of the messages, `None` before the
+    /// first. The next tick takes the messages that came since.
     pub fn seen(&self) -> Option<MessageCopyState>
         ensures { result ≡ self.now.seen }
     {
@@ -170,18 +150,17 @@ impl State {
     }
 
     /// Returns the refusal of every further frame: `Closed` after a closing frame, `Broken` after
-    /// the screen broke during a frame; or none if the next frame is drawn.
+    /// the screen broke during a frame, `None` while frames are drawn.
     pub fn ended(&self) -> Option<Refusal>
         ensures value { result ≡ self.now.ended }
-        ensures reason { IfSome result
-            (λ refusal. (refusal ≡ Refusal.Closed) ⊎ (refusal ≡ Refusal.Broken)) }
+        ensures reason { IfSome result IsEndRefusal }
     {
         self.past.ended()
     }
 }
 
 impl Past {
-    /// Returns what there is before the first frame.
+    /// Returns the renderer before its first frame.
     fn new(alloc: Global, options: Options, throughput: bool) -> Past
         ensures { result ≡ new_renderer options throughput }
     {
@@ -205,7 +184,7 @@ impl Past {
     /// Returns an equal copy.
     fn deep_clone(&self, alloc: Global) -> Result<Past, Refusal>
         ensures ok { IfOk result (λ copy. copy ≡ self.now) }
-        ensures err { IfErr result (λ e. e ≡ Refusal.Memory) }
+        ensures reason { IsOkUnless result Refusal.Memory }
     {
         Ok(Past {
             options: self.options,
@@ -223,15 +202,14 @@ impl Past {
     /// Returns the refusal of every further frame, if there is one.
     fn ended(&self) -> Option<Refusal>
         ensures value { result ≡ self.now.ended }
-        ensures reason { IfSome result
-            (λ refusal. (refusal ≡ Refusal.Closed) ⊎ (refusal ≡ Refusal.Broken)) }
+        ensures reason { IfSome result IsEndRefusal }
     {
         self.ending.map(Ending::refusal)
     }
 
     /// Whether a tick draws these rows: they are shown on a terminal, and the latest accepted tick
     /// with a root saw other rows, or there was none.
-    pub(crate) fn draws(&self, show: bool, rows: &Rows) -> bool
+    fn draws(&self, show: bool, rows: &Rows) -> bool
         ensures { result ≡ is_drawn self.now show rows.now }
     {
         show && self.options.output_is_terminal
@@ -241,12 +219,44 @@ impl Past {
             }
     }
 
-    /// Whether a tick that sees these rows closes the renderer: there are none, and it isn't to
-    /// keep running.
-    pub(crate) fn closes_at(&self, rows: &Rows) -> bool
+    /// Whether a tick that sees these rows closes the renderer: there are none, and the renderer
+    /// isn't to keep running.
+    fn closes_at(&self, rows: &Rows) -> bool
         ensures { result ≡ closes_at self.now rows.now }
     {
         !self.options.keep_running_if_progress_is_empty && rows.as_slice().is_empty()
+    }
+
+    /// Returns what the frame of a tick that sees these rows does after its messages.
+    pub(crate) fn tick_action(&self, show: bool, rows: &Rows) -> Action
+        ensures { result ≡ tick_action self.now show rows.now }
+    {
+        if self.closes_at(rows) {
+            Action::Close
+        } else if self.draws(show, rows) {
+            Action::Redraw
+        } else {
+            Action::Leave
+        }
+    }
+
+    /// Returns what the frame of a resize does: it draws the rows of the latest tick if they are
+    /// shown on a terminal.
+    pub(crate) fn resize_action(&self, show: bool) -> Action
+        ensures { result ≡ resize_action self.now show }
+    {
+        if show && self.options.output_is_terminal {
+            Action::Redraw
+        } else {
+            Action::Leave
+        }
+    }
+
+    /// Returns the greatest midpoint of the frame drawn last.
+    pub(crate) fn midpoint(&self) -> u16
+        ensures { result ≡ self.now.midpoint }
+    {
+        self.last_progress_midpoint
     }
 
     /// Whether the next frame hides the cursor: no frame has, and it is to be hidden on a terminal.
@@ -273,10 +283,10 @@ impl Past {
         }
     }
 
-    /// Returns a copy of the tracker, if there is one. It is to observe these rows.
+    /// Returns a copy of the tracker, if there is one. It will observe these rows.
     fn copied_tracker(&self, alloc: Global, rows: &[Row]) -> Result<Option<Throughput>, Refusal>
         ensures ok { IfOk result (λ tracker. tracker ≡ self.now.tracker) }
-        ensures reason { IfErr result (λ e. e ≡ Refusal.Memory) }
+        ensures reason { IsOkUnless result Refusal.Memory }
     {
         match &self.tracker {
             None => Ok(None),
@@ -284,7 +294,7 @@ impl Past {
         }
     }
 
-    /// Returns a copy of the tracker, if there is one, at a moment. It is to observe these rows.
+    /// Returns a copy of the tracker, if there is one, at a moment. It will observe these rows.
     pub(crate) fn tracker_at(
         &self,
         alloc: Global,
@@ -292,7 +302,7 @@ impl Past {
         rows: &[Row],
     ) -> Result<Option<Throughput>, Refusal>
         ensures ok { IfOk result (λ tracker. tracker ≡ tracker_at at self.now.tracker) }
-        ensures reason { IfErr result (λ e. e ≡ Refusal.Memory) }
+        ensures reason { IsOkUnless result Refusal.Memory }
     {
         let mut tracker = self.copied_tracker(alloc, rows)?;
         if let Some(tracker) = &mut tracker {
@@ -301,37 +311,35 @@ impl Past {
         Ok(tracker)
     }
 
-    /// Keeps whether the cursor is hidden once a frame is written.
+    /// Records whether the cursor is hidden once a frame is written.
     pub(crate) fn keep_cursor(&mut self)
         ensures { self.new ≡ record self.old { cursor_hidden = is_cursor_hidden self.old } }
     {
         self.cursor_hidden = self.is_cursor_hidden();
     }
 
-    /// Keeps what a frame has left that is written, and what its tick saw of the tree.
-    pub(crate) fn remember(&mut self, frame: Composed, rows: Rows, seen: MessageCopyState)
-        ensures { self.new ≡ record self.old {
-          widths = frame.drawn.widths.items;
-          midpoint = frame.drawn.midpoint;
-          tracker = option_or frame.drawn.tracker self.old.tracker;
-          last_rows = Some rows;
-          origin_widths = frame.origin_widths.items;
-          seen = Some seen;
-        } }
+    /// Records what the written frame of a tick left, and what the tick saw of the tree. A closing
+    /// frame ends the renderer. Returns the answer to the tick.
+    pub(crate) fn remember(&mut self, frame: Composed, rows: Rows, seen: MessageCopyState) -> Answer
+        ensures state { self.new ≡ remembering frame rows seen self.old }
+        ensures answer { result ≡ answer_of frame.action }
     {
         self.keep(frame.drawn);
         self.last_rows = Some(rows);
         self.origin_widths = frame.origin_widths;
         self.seen = Some(seen);
+        match frame.action {
+            Action::Close => {
+                self.ending = Some(Ending::Closed);
+                Answer::Ended
+            }
+            Action::Leave | Action::Redraw => Answer::Drawn,
+        }
     }
 
-    /// Keeps what the body of a frame has left that is written.
+    /// Records what the body of a written frame left.
     fn keep(&mut self, drawn: Drawn)
-        ensures { self.new ≡ record self.old {
-          widths = drawn.widths.items;
-          midpoint = drawn.midpoint;
-          tracker = option_or drawn.tracker self.old.tracker;
-        } }
+        ensures { self.new ≡ keeping drawn self.old }
     {
         self.widths = drawn.widths;
         self.last_progress_midpoint = drawn.midpoint;
@@ -340,13 +348,9 @@ impl Past {
         }
     }
 
-    /// Sets the size of the terminal, and keeps what the frame has left that is written.
+    /// Sets the size of the terminal, and records what the written frame left.
     pub(crate) fn resize(&mut self, dimensions: (u16, u16), drawn: Drawn)
-        ensures { self.new ≡ record (resized self.old dimensions.0 dimensions.1) {
-          widths = drawn.widths.items;
-          midpoint = drawn.midpoint;
-          tracker = option_or drawn.tracker self.old.tracker;
-        } }
+        ensures { self.new ≡ keeping drawn (resized self.old dimensions.0 dimensions.1) }
     {
         self.options.terminal_dimensions = dimensions;
         self.keep(drawn);
@@ -371,7 +375,7 @@ impl Past {
 
 /// Removes all widths but the last `count`.
 pub(crate) fn keep_latest(widths: &mut Vec<u16>, count: usize)
-    ensures { widths.new.items ≡ last_of count widths.old.items }
+    ensures { widths.new.items ≡ keep_last count widths.old.items }
 {
     let gone = widths.len().saturating_sub(count);
     widths.drain(..gone);

@@ -1,8 +1,6 @@
 //! The codes of styles.
-ghost use Rattle.std.specs.Prelude.{◌≡◌, ℕ, List, [], ◌∷◌, ◌++◌, filter_map, MatchOption, IsTrue, ◌↔◌};
-ghost use Rattle.prodash_line.specs.declared.render.line.page.style.Color.{Color};
-ghost use Rattle.prodash_line.specs.declared.render.line.page.style.Style.{Style};
-ghost use Rattle.prodash_line.specs.Styles.{color_code, style_codes};
+ghost use Rattle.std.specs.Prelude.{◌≡◌, [], filter_map, MatchOption, IsTrue, ◌↔◌};
+ghost use Rattle.prodash_line.specs.Styles.{color_code, style_codes, NoColor, AddsNone, AddsCode};
 
 use super::style::{Color, Style};
 
@@ -21,8 +19,7 @@ fn color_code(color: Color) -> u8
 
 /// Returns the colour that has this code.
 fn color_of(code: u16) -> Option<Color>
-    ensures { MatchOption result ((color : Color) → color_code color ≡ code → ⊥)
-        (λ color. color_code color ≡ code) }
+    ensures { MatchOption result (NoColor code) (λ color. color_code color ≡ code) }
 {
     match code {
         31 => Some(Color::Red),
@@ -48,12 +45,9 @@ pub(super) fn codes_of(style: Style) -> [Option<u8>; 4]
 
 /// Returns the style with one code more, if that comes after all that the style has.
 pub(super) fn with_code(style: Style, code: u16) -> Option<Style>
-    ensures { MatchOption result
-        ((other : Style) (rest : List ℕ)
-        → style_codes other ≡ style_codes style ++ code ∷ rest → ⊥)
-        (λ more. style_codes more ≡ style_codes style ++ code ∷ []) }
+    ensures { MatchOption result (AddsNone style code) (AddsCode style code) }
 {
-    // Has it this code, or one that comes after it?
+    // Whether the style has this code, or one that comes after it.
     let has_color = style.color.is_some() || style.on_yellow;
     let has_dim = style.dim || has_color;
     let has_bold = style.bold || has_dim;
@@ -67,7 +61,7 @@ pub(super) fn with_code(style: Style, code: u16) -> Option<Style>
 }
 
 impl Style {
-    /// Returns true if the style has no code.
+    /// Returns whether the style has no code.
     pub fn is_plain(self) -> bool
         ensures { IsTrue result ↔ (style_codes self ≡ []) }
     {

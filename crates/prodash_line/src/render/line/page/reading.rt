@@ -1,12 +1,9 @@
 //! Reads bytes as signs.
-ghost use Rattle.std.specs.Prelude.{◌≡◌, ◌≢◌, ℕ, [], ◌<◌, ◌≤◌, ◌^◌, List, ◌∷◌, ◌++◌, length, take, drop, MatchOption};
+ghost use Rattle.std.specs.Prelude.{◌≡◌, List, ◌++◌, length, drop, MatchOption};
 ghost use Rattle.std.specs.Char.{encode_utf8};
-ghost use Rattle.std.specs.Fmt.{decimal};
 ghost use Rattle.std.specs.List.{prefix_len};
-ghost use Rattle.std.specs.Str.{IsUtf8};
-ghost use Rattle.prodash_line.specs.Signs.{spelling_of, spelling, sequence, IsProper};
-ghost use Rattle.prodash_line.specs.Styles.{style_codes, style_parameters};
-ghost use Rattle.prodash_line.specs.Reading.{NoCharAt, NoSignAt, IsSignAt, NoSequenceAt, NoStyle, MakesNone, Reads, Gives, AreProper, is_parameter};
+ghost use Rattle.prodash_line.specs.Signs.{spelling};
+ghost use Rattle.prodash_line.specs.Reading.{NoCharAt, NoSignAt, IsSignAt, NoSequenceAt, IsSequenceAt, NoLongerText, NoNumber, IsNumber, NoStyle, IsStyle, MakesNone, Makes, Reads, GivesSpelled, AreProper, is_parameter};
 ghost use Rattle.prodash_line.specs.declared.render.line.page.sign.Sign.{Sign};
 
 use super::codes::with_code;
@@ -19,7 +16,7 @@ use std::alloc::{AllocError, AllocFailed, Global};
 pub enum Fault {
     /// The bytes before this index spell signs, and no sign begins at it.
     At(usize),
-    /// The call ran out of memory.
+    /// Out of memory.
     Memory,
 }
 
@@ -46,8 +43,7 @@ impl<T: Drop> From<AllocFailed<T>> for Fault {
 /// Returns the longest prefix that is text.
 fn text_prefix(bytes: &[u8]) -> &str
     ensures begins { bytes.now ≡ result.now ++ drop (length result.now) bytes.now }
-    ensures longest { (m : ℕ) → length result.now < m → m ≤ length bytes.now
-        → IsUtf8 (take m bytes.now) → ⊥ }
+    ensures longest { NoLongerText bytes.now (length result.now) }
 {
     match str::from_utf8(bytes) {
         Ok(text) => text,
@@ -70,9 +66,7 @@ fn char_at(bytes: &[u8]) -> Option<(char, &[u8])>
 
 /// Returns the number from 1 to 65535 that the digits spell, without leading zeros.
 fn number_of(digits: &[u8]) -> Option<u16>
-    ensures { MatchOption result
-        ((n : ℕ) → 0 < n → n < 2 ^ 16 → decimal n ≡ digits.now → ⊥)
-        (λ n. (0 < n) × (decimal n ≡ digits.now)) }
+    ensures { MatchOption result (NoNumber digits.now) (IsNumber digits.now) }
 {
     if digits.is_empty() || digits[0] <= b'0' {
         return None;
@@ -82,8 +76,7 @@ fn number_of(digits: &[u8]) -> Option<u16>
 
 /// Returns the style whose codes these are, which has at least one.
 fn style_of(parameters: &[u8]) -> Option<Style>
-    ensures { MatchOption result (NoStyle parameters.now)
-        (λ style. (style_codes style ≢ []) × (style_parameters style ≡ parameters.now)) }
+    ensures { MatchOption result (NoStyle parameters.now) (IsStyle parameters.now) }
 {
     let mut style = Style::new();
     for digits in parameters.split(|b| *b == b';') {
@@ -94,8 +87,8 @@ fn style_of(parameters: &[u8]) -> Option<Style>
 
 /// Returns the sign whose sequence has these parameters and this final byte.
 fn sign_of(parameters: &[u8], final_byte: u8) -> Option<Sign>
-    ensures { MatchOption result (MakesNone parameters.now final_byte)
-        (λ s. IsProper s × (spelling_of s ≡ sequence parameters.now final_byte)) }
+    ensures { MatchOption result
+        (MakesNone parameters.now final_byte) (Makes parameters.now final_byte) }
 {
     let is_two = parameters == b"2".as_slice();
     let is_cursor = parameters == b"?25".as_slice();
@@ -128,7 +121,7 @@ fn parameters_len(bytes: &[u8]) -> usize
 /// after it.
 fn sequence_at(bytes: &[u8]) -> Option<(Sign, &[u8])>
     ensures { MatchOption result (NoSequenceAt bytes.now)
-        (λ x. IsSignAt (27 ∷ 91 ∷ bytes.now) x.0 x.1.now) }
+        (λ x. IsSequenceAt bytes.now x.0 x.1.now) }
 {
     let len = parameters_len(bytes);
     if len >= bytes.len() {
@@ -159,7 +152,7 @@ fn sign_at(bytes: &[u8]) -> Option<(Sign, &[u8])>
     }
 }
 
-/// Reads all of the bytes as signs.
+/// Reads bytes as signs.
 ///
 /// ```rust
 /// // A character, a line feed, and up by one row.
@@ -168,15 +161,13 @@ fn sign_at(bytes: &[u8]) -> Option<(Sign, &[u8])>
 /// let fault = read(alloc, b"a\t");
 /// ```
 ///
-/// `At(n)`: the first `n` bytes are the longest prefix that signs spell. `Memory`: it is out of
-/// memory.
+/// `At(n)`: the first `n` bytes are the longest prefix that signs spell. `Memory`: out of memory.
 pub fn read(alloc: Global, bytes: &[u8]) -> Result<Vec<Sign>, Fault>
     // What is read are proper signs that spell the bytes, and a fault is at the end of the longest
     // prefix that such signs spell.
     ensures reads { Reads bytes.now result }
     // If proper signs spell the bytes, they are read, unless it is out of memory.
-    ensures only { (signs : List Sign) → AreProper signs → spelling signs ≡ bytes.now
-        → Gives signs result }
+    ensures only { GivesSpelled bytes.now result }
 {
     let mut signs = Vec::new(alloc);
     let mut rest = bytes;

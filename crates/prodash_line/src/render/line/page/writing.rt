@@ -1,6 +1,5 @@
 //! Spells signs as bytes.
-ghost use Rattle.std.specs.Prelude.{◌≡◌, ◌++◌, IfErr, IfOk, OnOk};
-ghost use Rattle.prodash_base.specs.declared.refusal.Refusal.TheVariants.{Memory};
+ghost use Rattle.std.specs.Prelude.{◌≡◌, ◌++◌, IfOk, IsOkUnless, OnOk};
 ghost use Rattle.prodash_line.specs.Signs.{sequence, spelling, spelling_of};
 ghost use Rattle.prodash_line.specs.Styles.{style_parameters};
 
@@ -11,7 +10,7 @@ use itoa::Buffer;
 use prodash_base::Refusal;
 use std::alloc::{AllocError, Global};
 
-/// Appends a control sequence. It fails if it is out of memory.
+/// Appends a control sequence. Fails if out of memory.
 fn push_sequence(out: &mut Vec<u8>, parameters: &[u8], final_byte: u8) -> Result<(), AllocError>
     ensures { OnOk result (out.new.items ≡ out.old.items ++ sequence parameters.now final_byte) }
 {
@@ -21,7 +20,7 @@ fn push_sequence(out: &mut Vec<u8>, parameters: &[u8], final_byte: u8) -> Result
     Ok(())
 }
 
-/// Appends the codes of a style. It fails if it is out of memory.
+/// Appends the codes of a style. Fails if out of memory.
 fn push_codes(out: &mut Vec<u8>, style: Style) -> Result<(), AllocError>
     ensures { OnOk result (out.new.items ≡ out.old.items ++ style_parameters style) }
 {
@@ -36,7 +35,7 @@ fn push_codes(out: &mut Vec<u8>, style: Style) -> Result<(), AllocError>
     Ok(())
 }
 
-/// Appends the control sequence that begins a style. It fails if it is out of memory.
+/// Appends the control sequence that begins a style. Fails if out of memory.
 fn push_open(out: &mut Vec<u8>, style: Style) -> Result<(), AllocError>
     ensures { OnOk result
         (out.new.items ≡ out.old.items ++ sequence (style_parameters style) 109) }
@@ -47,7 +46,7 @@ fn push_open(out: &mut Vec<u8>, style: Style) -> Result<(), AllocError>
     Ok(())
 }
 
-/// Appends the bytes of a sign. It fails if it is out of memory.
+/// Appends the bytes of a sign. Fails if out of memory.
 pub(crate) fn push_sign(out: &mut Vec<u8>, sign: Sign) -> Result<(), AllocError>
     ensures { OnOk result (out.new.items ≡ out.old.items ++ spelling_of sign) }
 {
@@ -72,10 +71,10 @@ pub(crate) fn push_sign(out: &mut Vec<u8>, sign: Sign) -> Result<(), AllocError>
 
 /// Returns the bytes that spell the signs.
 ///
-/// `Memory`: it is out of memory.
+/// `Memory`: out of memory.
 pub fn spell(alloc: Global, signs: &[Sign]) -> Result<Vec<u8>, Refusal>
-    ensures bytes { IfOk result (λ bytes. bytes.items ≡ spelling signs.now) }
-    ensures refusal { IfErr result (λ e. e ≡ Memory) }
+    ensures ok { IfOk result (λ bytes. bytes.items ≡ spelling signs.now) }
+    ensures reason { IsOkUnless result Refusal.Memory }
 {
     let mut out = Vec::new(alloc);
     for sign in signs {

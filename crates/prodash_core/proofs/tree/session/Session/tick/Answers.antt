@@ -6,4 +6,4 @@ pub returns-in-Some : goal.returns-in-Some
 returns-in-Some g c = frame_refused _ _ _ _ (c.in-Some.ensures.value ∙ ap (λ w. w.renderer.ended) c.self.view_is) c.in-Some.ensures.reason
 
 pub returns-in-Err : goal.returns-in-Err
-returns-in-Err g c = frame_out_of_memory _ _ _ _ (c.in_default.ensures.value ∙ ap (λ w. w.renderer.ended) c.self.view_is) c.in-Err.ensures.err
+returns-in-Err g c = frame_out_of_memory _ _ _ _ (c.in_default.ensures.value ∙ ap (λ w. w.renderer.ended) c.self.view_is) c.in-Err.ensures.reason

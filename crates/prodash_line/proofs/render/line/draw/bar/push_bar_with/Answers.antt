@@ -1,10 +1,10 @@
 use Rattle.std.proofs.Common.{◌≡◌, ℕ, [], ◌∷◌, Option, replicate, ap, ◌∙◌}
 use Rattle.std.specs.Bool.{then_some}
-use Rattle.prodash_line.specs.declared.render.line.draw.line.LineWriter.{LineWriter}
+use Rattle.prodash_line.specs.declared.render.line.draw.line_writer.LineWriter.{LineWriter}
 use Rattle.prodash_line.specs.declared.render.line.page.style.Style.{Style}
 use Rattle.prodash_line.specs.Lines.{styled}
 use Rattle.prodash_line.specs.TextStyles.{dimmed}
-use Rattle.prodash_line.specs.plumbing.Writing.{Appends}
+use Rattle.prodash_line.specs.Writing.{Appends}
 use Rattle.prodash_line.proofs.LineWriting.{appends_as, appends_then}
 use Rattle.prodash_line.proofs.render.line.draw.bar.push_bar_with.Goals as goal
 

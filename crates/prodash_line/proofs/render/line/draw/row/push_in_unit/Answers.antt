@@ -1,6 +1,6 @@
 use Rattle.std.proofs.Common.{rules, ◌≡◌, ℕ, List, [], ◌∷◌, Option, Some, chars, refl, ap, ◌∙◌, arith}
 use Rattle.prodash_base.specs.Kinds.{kind_shown}
-use Rattle.prodash_base.specs.Displays.{values_text, unit_text}
+use Rattle.prodash_base.specs.Displays.{amount, values_text, unit_text}
 use Rattle.prodash_base.specs.Units.{measure_of}
 use Rattle.prodash_base.specs.Rows.{RowProgress, progress_of}
 use Rattle.prodash_base.specs.declared.unit.units.Unit.{Unit}
@@ -10,15 +10,15 @@ use Rattle.prodash_line.specs.declared.render.line.page.style.Style.{Style}
 use Rattle.prodash_line.specs.TextStyles.{values_style}
 use Rattle.prodash_line.specs.Lines.{piece, styled, spaces}
 use Rattle.prodash_line.specs.ProgressRows.{values_in}
-use Rattle.prodash_line.specs.plumbing.Padding.{end_of_values}
+use Rattle.prodash_line.specs.Padding.{end_of_values}
 use Rattle.prodash_line.proofs.LineWriting.{appends_then, appends_as}
 use Rattle.prodash_line.proofs.RowLines.{unit_end, padded_appends}
 use Rattle.prodash_line.proofs.render.line.draw.row.push_in_unit.Goals as goal
 
-texts : (style shown : Option Style) (unit : Unit) (p : RowProgress) (t : Option Throughput) (values name : List ℕ) → style ≡ shown → values ≡ values_text (kind_shown unit.kind) unit.mode p.counter p.bound t
-    → name ≡ unit_text (kind_shown unit.kind) unit.mode p.counter p.bound t
+texts : (style shown : Option Style) (unit : Unit) (p : RowProgress) (t : Option Throughput) (values name : List ℕ) → style ≡ shown → values ≡ values_text (kind_shown unit.kind) unit.mode (amount p.counter p.bound t)
+    → name ≡ unit_text (kind_shown unit.kind) unit.mode (amount p.counter p.bound t)
     → styled style (chars values) ∷ spaces 1 ∷ piece (chars name) ∷ []
-    ≡ styled shown (chars (values_text (kind_shown unit.kind) unit.mode p.counter p.bound t)) ∷ spaces 1 ∷ piece (chars (unit_text (kind_shown unit.kind) unit.mode p.counter p.bound t)) ∷ []
+    ≡ styled shown (chars (values_text (kind_shown unit.kind) unit.mode (amount p.counter p.bound t))) ∷ spaces 1 ∷ piece (chars (unit_text (kind_shown unit.kind) unit.mode (amount p.counter p.bound t))) ∷ []
 texts style shown unit p t values name s v u = λ i. styled (s i) (chars (v i)) ∷ spaces 1 ∷ piece (chars (u i)) ∷ []
 
 pub returns-clause-end : goal.returns-clause-end

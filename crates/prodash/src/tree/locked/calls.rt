@@ -1,0 +1,209 @@
+//! The calls on a tree, made by the thread that holds its lock.
+ghost use Rattle.std.specs.Prelude.{◌≡◌, ◌↔◌, ◌-◌, [], Err, IsTrue, OnOk, OnErr, IfOk, IfErr, is_some, option_map, string_bytes, IsOkUnless};
+ghost use Rattle.std.specs.FinMap as finite;
+ghost use Rattle.prodash_base.specs.Adjacency.{IsAscending, paths_of};
+ghost use Rattle.prodash_base.specs.Path.{child, next_id};
+ghost use Rattle.prodash_base.specs.Refusals.{RefusesMessage};
+ghost use Rattle.prodash_base.specs.Rings.{new_ring, messages_since, is_push_limit_reached};
+ghost use Rattle.prodash_base.specs.Rows.{rows_of};
+ghost use Rattle.prodash_core.specs.Tables.{new_entry};
+ghost use Rattle.prodash.specs.Locks.{NoSlots, SameFreeSlots, Inserts, Removes, ChangesNothing, ListsTasks, name_in, message_from, with_message, begun_at};
+
+use crate::messages::{Message, MessageCopyState, MessageLevel, MessageRingBuffer};
+use crate::progress::{AtomicStep, Id, Key, Row, Step, key};
+use crate::time::Moment;
+use crate::tree::locked::Locked;
+use crate::tree::slots::{Slot, Slots};
+use crate::tree::steps::Steps;
+use crate::unit::Unit;
+use prodash_base::Refusal;
+use prodash_core::tree::{Counted, TreeCore};
+use slab::Slab;
+use std::alloc::Global;
+use std::sync::Arc;
+
+impl Locked {
+    /// Returns a tree without tasks, which has one owner.
+    pub(crate) fn new(alloc: Global, message_buffer_capacity: usize) -> Result<Locked, Refusal>
+        ensures owners { IfOk result (λ t. t.owners ≡ 1) }
+        ensures number { IfOk result (λ t. t.next_child ≡ 0) }
+        ensures table { IfOk result (λ t. t.table ≡ finite.empty) }
+        ensures slots { IfOk result (λ t. NoSlots t.slots) }
+        ensures ring { IfOk result (λ t. t.ring ≡ new_ring message_buffer_capacity) }
+        ensures reason { IsOkUnless result Refusal.Memory }
+    {
+        Ok(Locked {
+            owners: 1,
+            next_child: 0,
+            table: TreeCore::new(alloc),
+            slots: Slots {
+                slots: Slab::new(alloc),
+            },
+            ring: MessageRingBuffer::with_capacity(alloc, message_buffer_capacity)?,
+        })
+    }
+
+    /// Returns a tree with one owner, and copies of the tasks, the slots, the counters and the
+    /// messages.
+    pub(crate) fn deep_clone(&self, alloc: Global) -> Result<Locked, Refusal>
+        ensures owners { IfOk result (λ t. t.owners ≡ 1) }
+        ensures number { IfOk result (λ t. t.next_child ≡ self.now.next_child) }
+        ensures table { IfOk result (λ t. t.table ≡ self.now.table) }
+        ensures slots { IfOk result (λ t. SameFreeSlots self.now.slots t.slots) }
+        ensures ring { IfOk result (λ t. t.ring ≡ self.now.ring) }
+        ensures reason { IsOkUnless result Refusal.Memory }
+    {
+        Ok(Locked {
+            owners: 1,
+            next_child: self.next_child,
+            table: self.table.clone()?,
+            slots: Slots {
+                slots: self.slots.slots.clone()?,
+            },
+            ring: self.ring.deep_clone(alloc)?,
+        })
+    }
+
+    /// Inserts a task without progress, and a slot for its item with one owner of a new counter.
+    /// Returns the number of the slot, and the item's own steps.
+    pub(crate) fn insert(
+        &mut self,
+        alloc: Global,
+        key: Key,
+        name: &str,
+        id: Id,
+    ) -> Result<(usize, Steps), Refusal>
+        ensures ok { IfOk result (λ made. Inserts self.old key (new_entry name.now id) made.0
+            self.old.next_child self.new) }
+        ensures err { OnErr result (ChangesNothing self.old self.new) }
+        ensures reason { IsOkUnless result Refusal.Memory }
+    {
+        let counter = Arc::new(alloc, AtomicStep::new(0))?;
+        let steps = Steps::new(Arc::try_clone(&counter)?);
+        self.slots.slots.reserve(1)?;
+        self.table.insert(alloc, key, name, id)?;
+        let slot = self.slots.slots.insert_reserved(Slot { counter, alloc });
+        Ok((slot, steps))
+    }
+
+    /// Adds a child to the root. Returns its key, and what `insert` returns.
+    pub(crate) fn add_child(
+        &mut self,
+        alloc: Global,
+        name: &str,
+        id: Id,
+    ) -> Result<(Key, usize, Steps), Refusal>
+        ensures key { IfOk result (λ made. made.0 ≡ child [] self.old.next_child) }
+        ensures ok { IfOk result (λ made. Inserts self.old made.0 (new_entry name.now id) made.1
+            (next_id self.old.next_child) self.new) }
+        ensures err { OnErr result (ChangesNothing self.old self.new) }
+        ensures reason { IsOkUnless result Refusal.Memory }
+    {
+        let key = Key::default().add_child(self.next_child);
+        let (slot, steps) = self.insert(alloc, key, name, id)?;
+        self.next_child = key::next_id(self.next_child);
+        Ok((key, slot, steps))
+    }
+
+    /// Removes the task at the key of an item, if there is one, and frees the item's slot.
+    pub(crate) fn remove(&mut self, key: Key, slot: usize)
+        ensures { Removes self.old key slot self.new }
+    {
+        self.slots.slots.try_remove(slot);
+        self.table.remove(key);
+    }
+
+    /// Counts one owner of the root fewer.
+    pub(crate) fn remove_owner(&mut self)
+        ensures { self.new ≡ record self.old { owners = self.old.owners - 1 } }
+    {
+        self.owners = self.owners.saturating_sub(1);
+    }
+
+    /// Replaces the contents of `out` with the rows, in ascending order of their keys.
+    pub(crate) fn rows(&self, alloc: Global, out: &mut Vec<Row>) -> Result<(), Refusal>
+        ensures ascending { OnOk result (IsAscending (paths_of out.new.items)) }
+        ensures tasks { OnOk result (ListsTasks self.now (rows_of out.new.items)) }
+        ensures err { OnErr result (out.new.items ≡ out.old.items) }
+        ensures reason { IsOkUnless result Refusal.Memory }
+    {
+        *out = self.table.rows(alloc, &self.slots)?.into_vec();
+        Ok(())
+    }
+
+    /// Replaces the contents of `rows` as the call `rows` does, and those of `messages` with the
+    /// messages that are new since an earlier copy. Returns the state for the next copy.
+    pub(crate) fn rows_and_new_messages(
+        &self,
+        alloc: Global,
+        rows: &mut Vec<Row>,
+        messages: &mut Vec<Message>,
+        previous: Option<MessageCopyState>,
+    ) -> Result<MessageCopyState, Refusal>
+        ensures ascending { OnOk result (IsAscending (paths_of rows.new.items)) }
+        ensures tasks { OnOk result (ListsTasks self.now (rows_of rows.new.items)) }
+        ensures messages { OnOk result
+            (messages.new.items ≡ messages_since self.now.ring previous) }
+        ensures state { IfOk result (λ state. state ≡ self.now.ring.pushed) }
+        ensures err_rows { OnErr result (rows.new.items ≡ rows.old.items) }
+        ensures err_messages { OnErr result (messages.new.items ≡ messages.old.items) }
+        ensures reason { IsOkUnless result Refusal.Memory }
+    {
+        let mut snapshot = Vec::new(alloc);
+        self.rows(alloc, &mut snapshot)?;
+        let state = self.ring.copy_new(alloc, messages, previous)?;
+        *rows = snapshot;
+        Ok(state)
+    }
+
+    /// Begins the progress of the task at a key, whose item has a slot. Returns whether there is a
+    /// task.
+    pub(crate) fn init(
+        &mut self,
+        key: Key,
+        slot: usize,
+        max: Option<Step>,
+        unit: Option<Unit>,
+    ) -> bool
+        ensures found { result ≡ is_some (finite.get self.old.table key) }
+        ensures after { self.new ≡ begun_at self.old key slot max unit }
+    {
+        self.table.init(key, Counted::begin(slot, max, unit))
+    }
+
+    /// Returns a copy of the name of the task at a key, if there is one.
+    pub(crate) fn name(&self, alloc: Global, key: Key) -> Result<Option<String>, Refusal>
+        ensures ok { IfOk result (λ name. option_map string_bytes name ≡ name_in self.now key) }
+        ensures reason { IsOkUnless result Refusal.Memory }
+    {
+        match self.table.name(key) {
+            None => Ok(None),
+            Some(name) => Ok(Some(String::from_str(alloc, name)?)),
+        }
+    }
+
+    /// Sends a message of the task at a key.
+    pub(crate) fn message(
+        &mut self,
+        alloc: Global,
+        key: Key,
+        at: Moment,
+        level: MessageLevel,
+        text: &str,
+    ) -> Result<(), Refusal>
+        ensures ok { OnOk result (self.new
+            ≡ with_message self.old (message_from self.old key at level text.now)) }
+        ensures too_many { (result ≡ Err Refusal.TooManyMessages)
+            ↔ IsTrue (is_push_limit_reached self.old.ring) }
+        ensures err { OnErr result (self.new ≡ self.old) }
+        ensures reason { IfErr result RefusesMessage }
+    {
+        let Locked {
+            ref table,
+            ref mut ring,
+            ..
+        } = *self;
+        let origin = table.name(key).unwrap_or("");
+        ring.push_overwrite(alloc, at, level, origin, text)
+    }
+}

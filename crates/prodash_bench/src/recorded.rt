@@ -1,0 +1,134 @@
+ghost use Rattle.std.specs.Prelude.{◌≡◌};
+
+use prodash::messages::MessageLevel;
+use prodash::progress::UNKNOWN;
+use prodash::tree::recorded::{Journal, Ledgers, RecordedItem, RecordedRoot, TreeLedger};
+use prodash::tree::root::Options;
+use prodash::tree::{Event, Handle, RootOptions, TreeState};
+use prodash::{Refusal, Text};
+use prodash_programs::Fault;
+use std::alloc::Global;
+use std::marker::Brand;
+use std::sync::Wait;
+use std::sync::ledger::Ledger;
+
+/// How calls ended.
+#[derive(Clone, Copy)]
+struct Counts {
+    accepted: u64,
+    sum: u128,
+    refused: u64,
+}
+
+/// Makes calls of many kinds on a recorded tree, and prints how many were refused for want of
+/// memory. The journal must have just the accepted calls: as many as the item counts, with the same
+/// sum and replies.
+pub(crate) fn run<R: Wait + Print>(rt: &R, alloc: Global) -> Result<(), Fault> {
+    let counts = record::<Brand, Brand, R>(rt, alloc, Ledgers::new())?;
+    match println!(rt; "{} refused", counts.refused) {
+        Ok(()) => Ok(()),
+        Err(_) => Err(Fault::Output),
+    }
+}
+
+/// Makes the calls, and returns how they ended.
+fn record<C: TreeLedger, S: Ledger, R: Wait>(
+    rt: &R,
+    alloc: Global,
+    ledgers: Ledgers,
+) -> Result<Counts, Fault>
+    requires calls { (ledgers.calls.name ≡ C.name) × (ledgers.calls.parts ≡ C.parts) }
+    requires sums { (ledgers.sums.name ≡ S.name) × (ledgers.sums.parts ≡ S.parts) }
+    requires capacity { C.message_buffer_capacity ≡ 20 }
+{
+    let root = RecordedRoot::<C, S>::new(alloc, ledgers, &Options::default())?;
+    let mut item = root.share(rt)?;
+    let mut shares = Vec::with_capacity(alloc, 1)?;
+    let counts = make_calls(rt, alloc, &mut item);
+    let share = item.give_back();
+    let is_counted = share.calls() == counts.accepted && share.sum() == counts.sum;
+    shares.push(share)?;
+    let Ok(journal) = root.close(rt, shares) else {
+        return Err(Fault::Journal);
+    };
+    let is_whole = journal.entries().len() as u64 == counts.accepted;
+    if is_counted && is_whole && replays(alloc, &journal)? {
+        Ok(counts)
+    } else {
+        Err(Fault::Journal)
+    }
+}
+
+/// Makes 70 calls. One that is refused, or whose event can't be made, isn't made again.
+fn make_calls<C: TreeLedger, S: Ledger>(
+    rt: &impl Wait,
+    alloc: Global,
+    item: &mut RecordedItem<C, S>,
+) -> Counts {
+    let mut counts = Counts {
+        accepted: 0,
+        sum: 0,
+        refused: 0,
+    };
+    for call in 0..70u64 {
+        let kind = call % 10;
+        let Ok(event) = event(alloc, kind, call / 10 + 1) else {
+            continue;
+        };
+        if event.is_frame() {
+            continue;
+        }
+        match item.call(rt, alloc, event) {
+            Ok(_) => {
+                counts.accepted = counts.accepted.wrapping_add(1);
+                counts.sum = counts.sum.wrapping_add(if kind == 3 { 3 } else { 0 });
+            }
+            Err(Refusal::Memory) => counts.refused = counts.refused.wrapping_add(1),
+            Err(_) => {}
+        }
+    }
+    counts
+}
+
+/// Returns an event of one of ten kinds.
+fn event(alloc: Global, kind: u64, item: Handle) -> Result<Event, Refusal> {
+    Ok(match kind {
+        0 => Event::AddChild {
+            parent: 0,
+            name: Text::from_str(alloc, "task")?,
+            id: UNKNOWN,
+        },
+        1 => Event::SetName {
+            item,
+            name: Text::from_str(alloc, "job")?,
+        },
+        2 => Event::Message {
+            item,
+            at: 5,
+            level: MessageLevel::Info,
+            text: Text::from_str(alloc, "begins")?,
+        },
+        3 => Event::IncBy { item, step: 3 },
+        4 => Event::Init {
+            item,
+            max: Some(10),
+            unit: None,
+        },
+        5 => Event::Name { item },
+        6 => Event::Snapshot,
+        7 => Event::CopyMessages,
+        8 => Event::CopyNew { previous: None },
+        _ => Event::NumTasks,
+    })
+}
+
+/// Returns whether a new tree gives the events of a journal its replies.
+fn replays<C: TreeLedger>(alloc: Global, journal: &Journal<C>) -> Result<bool, Refusal> {
+    let mut tree = TreeState::new(alloc, &RootOptions::default())?;
+    for (event, reply) in journal.entries() {
+        if event.is_frame() || tree.apply(alloc, event)? != *reply {
+            return Ok(false);
+        }
+    }
+    Ok(true)
+}

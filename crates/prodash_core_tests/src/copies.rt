@@ -1,0 +1,42 @@
+//! Copies of sessions. What is applied to a session or its copy leaves the other as it was.
+use crate::runs::options;
+use crate::transcripts::assert_session;
+use prodash_core::tree::Session;
+use std::test::Fail;
+
+/// Before the copy is made.
+const BEFORE: &str = r#"add 0 task -> Made(1)
+init 1 10 - -> Done
+set 1 3 -> Done
+tick 0 -> Drawn -> " task 3/10 [=======>-------------------]\n\u{1b}[1A""#;
+
+/// Of the copy after that, and then of the session.
+const AFTER: &str = r#"messages -> Messages(Messages [])
+snapshot -> Rows(Rows [Row [0] "task" 3/10])
+info 1 0 one -> Done
+set 1 4 -> Done
+tick 0 -> Drawn -> " task one                               \n task 4/10 [==========>----------------]\n\u{1b}[1A"
+drop 1 -> Done
+add 0 next -> Made(2)"#;
+
+/// Of the copy of a new session.
+const NEW: &str = r#"add 0 task -> Made(1)
+info 1 0 one -> Done
+messages -> Messages(Messages [Message 0 Info "task" "one"])"#;
+
+#[test]
+fn copies_are_apart(rt: HostRuntime) -> Result<(), Fail> {
+    let alloc = rt.alloc();
+    let mut session = Session::new(alloc, &options(20))?;
+    assert_session(&rt, alloc, &mut session, BEFORE)?;
+    let mut copy = session.deep_clone(alloc)?;
+    assert_session(&rt, alloc, &mut copy, AFTER)?;
+    assert_session(&rt, alloc, &mut session, AFTER)
+}
+
+#[test]
+fn copies_of_new_sessions_take_messages(rt: HostRuntime) -> Result<(), Fail> {
+    let alloc = rt.alloc();
+    let mut copy = Session::new(alloc, &options(20))?.deep_clone(alloc)?;
+    assert_session(&rt, alloc, &mut copy, NEW)
+}

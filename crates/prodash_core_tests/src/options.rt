@@ -1,0 +1,255 @@
+use crate::fixtures::{TERMINAL, assert_same};
+use crate::transcripts::event_of;
+use prodash_base::Refusal;
+use prodash_core::tree::{Event, Reply, RootOptions, SessionOptions, run};
+use prodash_line::render::line::draw::{MemoryScreen, Options};
+use std::alloc::Global;
+use std::process::Abort;
+use std::test::Fail;
+
+/// The same for an output that is no terminal.
+const PLAIN: Options = Options {
+    output_is_terminal: false,
+    ..TERMINAL
+};
+
+/// A renderer that closes once there is no task.
+const STOPS: Options = Options {
+    keep_running_if_progress_is_empty: false,
+    ..TERMINAL
+};
+
+const STOPS_PLAIN: Options = Options {
+    keep_running_if_progress_is_empty: false,
+    ..PLAIN
+};
+
+/// A renderer that hides the cursor.
+const HIDES: Options = Options {
+    hide_cursor: true,
+    ..TERMINAL
+};
+
+const HIDES_PLAIN: Options = Options {
+    hide_cursor: true,
+    ..PLAIN
+};
+
+const HIDES_AND_STOPS: Options = Options {
+    hide_cursor: true,
+    ..STOPS
+};
+
+/// Only rows of the second level, on 30 columns.
+const SECOND: Options = Options {
+    level_filter: Some((2, 2)),
+    terminal_dimensions: (30, 20),
+    ..TERMINAL
+};
+
+const FIRST_TWO: Options = Options {
+    level_filter: Some((1, 2)),
+    ..TERMINAL
+};
+
+const STOPS_RUNS: &str =
+    r#"# a tick without tasks prints its messages and closes the renderer, shown or hidden
+add 0 t; info 1 0 one; drop 1; tick 0 -> Ended
+" t one\n\u{1b}[2K\r"
+
+add 0 t; info 1 0 one; drop 1; hold 0 -> Ended
+" t one\n\u{1b}[2K\r"
+
+add 0 a; add 0 b; tick 0; info 1 0 x; drop 1; drop 2; hold 0 -> Ended
+" a\n b\n\u{1b}[2A a x\n  \n\u{1b}[1A\u{1b}[2K\r"
+
+hold 0; add 0 a; tick 0 -> Refused(Closed)
+"\u{1b}[2K\r"
+
+resize 0 40 4 -> Drawn
+"""#;
+
+const HIDES_AND_STOPS_RUNS: &str = r#"add 0 t; info 1 0 one; drop 1; tick 0 -> Ended
+"\u{1b}[?25l t one\n\u{1b}[?25h\u{1b}[2K\r""#;
+
+const STOPS_PLAIN_RUNS: &str = r#"add 0 t; info 1 0 one; drop 1; tick 0 -> Ended
+" t one\n""#;
+
+const TERMINAL_RUNS: &str = r#"add 0 t; info 1 0 one; drop 1; tick 0 -> Drawn
+" t one\n"
+
+# a resize draws the rows of the latest tick at the new size if it shows them
+add 0 task; init 1 10 -; set 1 3; tick 0; resize 0 30 4 -> Drawn
+" task 3/10 [=======>-------------------]\n\u{1b}[1A task 3/10 [====>------------]          \n"
+"\u{1b}[1A"
+
+add 0 task; init 1 10 -; set 1 3; tick 0; set 1 4; resize 0 30 4 -> Drawn
+" task 3/10 [=======>-------------------]\n\u{1b}[1A task 3/10 [====>------------]          \n"
+"\u{1b}[1A"
+
+add 0 task; init 1 10 -; set 1 3; tick 0; resize hidden 30 4; tick 0 -> Drawn
+" task 3/10 [=======>-------------------]\n\u{1b}[1A"
+
+add 0 t; resize 0 30 4; tick 0 -> Drawn
+" t\n\u{1b}[1A"
+
+# and prints no message
+add 0 t; tick 0; info 1 0 x; resize 0 30 4; tick 0 -> Drawn
+" t\n\u{1b}[1A t\n\u{1b}[1A t x\n"
+
+add 0 t; info 1 0 x; hold 0; resize 0 30 4 -> Drawn
+" t x\n t\n\u{1b}[1A"
+
+# as many origins count as the new size has rows
+add 0 task; add 0 ab; info 1 0 x; hold 0; resize hidden 40 0; info 2 0 y; hold 0 -> Drawn
+" task x\n ab y\n"
+
+add 0 task; add 0 ab; info 1 0 x; hold 0; resize hidden 40 1; info 2 0 y; hold 0 -> Drawn
+" task x\n   ab y\n"
+
+quit 0; resize 0 30 4 -> Refused(Closed)
+"\u{1b}[2K\r""#;
+
+const PLAIN_RUNS: &str = r#"# without a terminal messages alone are written
+add 0 t; info 1 0 one; tick 0 -> Drawn
+" t one\n"
+
+add 0 t; tick 0; info 1 0 one; tick 0; resize 0 30 4 -> Drawn
+" t one\n"
+
+add 0 t; tick 0; quit 0 -> Ended
+""
+
+droproot; tick 0 -> Ended
+""
+
+quit 0; resize 0 30 4 -> Refused(Closed)
+"""#;
+
+const HIDES_RUNS: &str =
+    r#"# the first frame hides the cursor, whatever it draws, and the closing one shows it
+hold 0 -> Drawn
+"\u{1b}[?25l"
+
+add 0 t -> Made(1)
+""
+
+hold 0; tick 0 -> Drawn
+"\u{1b}[?25l"
+
+add 0 t; tick 0; quit 0 -> Ended
+"\u{1b}[?25l t\n\u{1b}[1A  \n\u{1b}[1A\u{1b}[?25h\u{1b}[2K\r"
+
+add 0 t; info 1 0 x; hold 0 -> Drawn
+"\u{1b}[?25l t x\n"
+
+quit 0 -> Ended
+"\u{1b}[?25l\u{1b}[?25h\u{1b}[2K\r"
+
+droproot; hold 0 -> Ended
+"\u{1b}[?25l\u{1b}[?25h\u{1b}[2K\r"
+
+resize hidden 30 4; hold 0 -> Drawn
+"\u{1b}[?25l"
+
+resize 0 30 4; quit 0 -> Ended
+"\u{1b}[?25l\u{1b}[?25h\u{1b}[2K\r""#;
+
+const HIDES_PLAIN_RUNS: &str = r#"hold 0; quit 0 -> Ended
+"""#;
+
+const SECOND_RUNS: &str =
+    r#"# rows whose level is not in the filter are not drawn, and change no midpoint
+add 0 a; add 1 b; tick 0 -> Drawn
+"  b\n\u{1b}[1A"
+
+add 0 a; tick 0 -> Drawn
+""
+
+add 0 a; add 1 b; add 0 c; tick 0; drop 2; tick 0 -> Drawn
+"  b\n\u{1b}[1A   \n\u{1b}[1A"
+
+add 0 a; add 1 b; tick 0; drop 1; tick 0 -> Drawn
+"  b\n\u{1b}[1A  b\n\u{1b}[1A"
+
+add 0 longer; init 1 9 -; add 1 b; init 2 10 -; set 2 3; tick 0; set 2 4; tick 0 -> Drawn
+"  b 3/10 [=====>-------------]\n\u{1b}[1A  b 4/10 [=======>-----------]\n\u{1b}[1A""#;
+
+const FIRST_TWO_RUNS: &str = r#"add 0 a; add 1 b; add 2 c; tick 0 -> Drawn
+" a\n  b\n\u{1b}[2A""#;
+
+/// Returns the replies of a run, and its screen.
+fn run_with(
+    alloc: Global,
+    draw: Options,
+    events: &[Event],
+) -> Result<(Vec<Reply>, MemoryScreen), Refusal> {
+    let options = SessionOptions {
+        root: RootOptions::default(),
+        draw,
+        throughput: false,
+    };
+    let mut screen = MemoryScreen::new(alloc, 0)?;
+    let replies = run(alloc, &options, events, &mut screen)?;
+    Ok((replies, screen))
+}
+
+/// Asserts that a run replies and draws as its lines say. The first line has its events, ` -> `, and
+/// the reply to the last of them. The others have the bytes of its frames as string literals.
+fn assert_run(rt: &impl Abort, alloc: Global, draw: Options, run: &str) -> Result<(), Fail> {
+    let (asked, drawn) = run.split_once('\n').ok_or("no bytes")?;
+    let (lines, told) = asked.split_once(" -> ").ok_or("no reply")?;
+    let mut events = Vec::new(alloc);
+    for line in lines.split("; ") {
+        events.push(event_of(alloc, line)?)?;
+    }
+    let (replies, screen) = run_with(alloc, draw, &events)?;
+    let last = format!(in alloc; "{:?}", replies.last())?;
+    let want = format!(in alloc; "Some({told})")?;
+    assert_same(rt, last.as_str(), want.as_str(), asked);
+    assert_bytes(rt, alloc, screen.bytes(), drawn)
+}
+
+/// Asserts that bytes are those of string literals, one on each line.
+fn assert_bytes(rt: &impl Abort, alloc: Global, bytes: &[u8], parts: &str) -> Result<(), Fail> {
+    let mut want = String::new(alloc);
+    for part in parts.lines() {
+        want.push_str(part.trim_matches('"'))?;
+    }
+    let bytes = str::from_utf8(bytes).ok().ok_or("not UTF-8")?;
+    let got = format!(in alloc; "{bytes:?}")?;
+    assert_same(rt, got.as_str().trim_matches('"'), want.as_str(), parts);
+    Ok(())
+}
+
+/// Asserts that runs with these options reply and draw as their lines say. An empty line separates
+/// two runs. A line with `#` above a run says what it and those after it show.
+pub(crate) fn assert_runs(
+    rt: &impl Abort,
+    alloc: Global,
+    draw: Options,
+    runs: &str,
+) -> Result<(), Fail> {
+    for run in runs.split("\n\n") {
+        let run = match run.split_once('\n') {
+            Some((comment, rest)) if comment.starts_with('#') => rest,
+            _ => run,
+        };
+        assert_run(rt, alloc, draw, run)?;
+    }
+    Ok(())
+}
+
+#[test]
+fn options_have_exact_bytes(rt: HostRuntime) -> Result<(), Fail> {
+    let alloc = rt.alloc();
+    assert_runs(&rt, alloc, STOPS, STOPS_RUNS)?;
+    assert_runs(&rt, alloc, HIDES_AND_STOPS, HIDES_AND_STOPS_RUNS)?;
+    assert_runs(&rt, alloc, STOPS_PLAIN, STOPS_PLAIN_RUNS)?;
+    assert_runs(&rt, alloc, TERMINAL, TERMINAL_RUNS)?;
+    assert_runs(&rt, alloc, PLAIN, PLAIN_RUNS)?;
+    assert_runs(&rt, alloc, HIDES, HIDES_RUNS)?;
+    assert_runs(&rt, alloc, HIDES_PLAIN, HIDES_PLAIN_RUNS)?;
+    assert_runs(&rt, alloc, SECOND, SECOND_RUNS)?;
+    assert_runs(&rt, alloc, FIRST_TWO, FIRST_TWO_RUNS)
+}

@@ -1,0 +1,137 @@
+ghost use Rattle.std.specs.Prelude.{◌≡◌};
+
+use crate::fixtures::{ShortRow, assert_same, key_at, messages, rows};
+use crate::transcripts::event_of;
+use prodash_base::Refusal;
+use prodash_base::messages::{MessageCopyState, Messages};
+use prodash_base::progress::{Key, Rows, State, Step, UNKNOWN};
+use prodash_base::unit::{Bytes, Kind, Unit, dynamic};
+use prodash_core::tree::{Counted, Counters, Event, RootOptions, TreeCore, TreeState};
+use std::alloc::Global;
+use std::process::Abort;
+use std::test::Fail;
+
+/// Counters that are their own numbers.
+#[derive(Drop)]
+struct OwnNumbers;
+
+impl Counters<u64> for OwnNumbers {
+    ghost shows = { λ _ counter n. n ≡ counter };
+
+    fn number(&self, counter: u64) -> Step {
+        counter
+    }
+}
+
+type Table = TreeCore<u64>;
+
+fn assert_init(rt: &impl Abort, table: &mut Table, key: Key, to: Option<Counted<u64>>, want: bool) {
+    assert_same(rt, table.init(key, to), want, "init");
+}
+
+fn assert_remove(rt: &impl Abort, table: &mut Table, key: Key, want: bool) {
+    assert_same(rt, table.remove(key), want, "remove");
+}
+
+fn assert_name(rt: &impl Abort, table: &Table, key: Key, want: Option<&str>) {
+    assert_same(rt, table.name(key), want, "name");
+}
+
+fn assert_unit(rt: &impl Abort, table: &Table, key: Key, want: Option<Unit>) {
+    assert_same(rt, table.unit(key), want, "unit");
+}
+
+/// The tasks that are inserted, one of them twice.
+const INSERTED: &[(&[u32], &str)] = &[(&[1], "c"), (&[0, 1], "x"), (&[0, 1], "b"), (&[0], "a")];
+
+const LEFT: &[ShortRow] = &[(&[0], "a", None), (&[0, 1], "b", Some((3, Some(10))))];
+
+#[test]
+fn a_table_has_one_entry_for_a_key(rt: HostRuntime) -> Result<(), Fail> {
+    let (b, c) = (key_at(&[0, 1]), key_at(&[1]));
+    let mut table: Table = TreeCore::new(rt.alloc());
+    for (path, name) in INSERTED {
+        table.insert(rt.alloc(), key_at(path), name, UNKNOWN)?;
+    }
+    let progress = Some(Counted {
+        counter: 3,
+        done_at: Some(10),
+        unit: None,
+        state: State::Running,
+    });
+    assert_init(&rt, &mut table, b, progress, true);
+    assert_remove(&rt, &mut table, c, true);
+    assert_remove(&rt, &mut table, c, false);
+    assert_init(&rt, &mut table, c, progress, false);
+    assert_name(&rt, &table, b, Some("b"));
+    assert_name(&rt, &table, c, None);
+    let want = rows(rt.alloc(), LEFT)?;
+    assert_same(&rt, table.rows(rt.alloc(), &OwnNumbers)?, want, "rows");
+    Ok(())
+}
+
+const EVENTS: &str = "add 0 a
+add 1 b
+init 2 10 -
+set 2 3
+info 1 0 x
+info 2 0 y";
+
+const ROWS: &[ShortRow] = &[(&[0], "a", None), (&[0, 0], "b", Some((3, Some(10))))];
+
+/// Applies an event that is no frame.
+fn apply(alloc: Global, tree: &mut TreeState, event: &Event) -> Result<(), Refusal> {
+    if event.is_frame() {
+        return Err(Refusal::Closed);
+    }
+    tree.apply(alloc, event)?;
+    Ok(())
+}
+
+/// A tree after all events.
+fn grown(alloc: Global) -> Result<TreeState, Fail> {
+    let mut tree = TreeState::new(alloc, &RootOptions::default())?;
+    for line in EVENTS.lines() {
+        apply(alloc, &mut tree, &event_of(alloc, line)?)?;
+    }
+    Ok(tree)
+}
+
+/// What a frame sees of a tree if the one before has seen the first message.
+fn snapshot(alloc: Global, tree: &TreeState) -> Result<(Rows, Messages, MessageCopyState), Fail> {
+    let previous = Some(MessageCopyState::new(1));
+    Ok(
+        tree.snapshot_and_new_messages(alloc, previous)?
+            .ok_or("no root")?,
+    )
+}
+
+#[test]
+fn a_tree_needs_no_renderer(rt: HostRuntime) -> Result<(), Fail> {
+    let alloc = rt.alloc();
+    let tree = grown(alloc)?;
+    assert_same(&rt, tree.rows(alloc)?, rows(alloc, ROWS)?, "rows");
+    let new = messages(alloc, &[("b", "y")])?;
+    let want = (rows(alloc, ROWS)?, new, MessageCopyState::new(2));
+    assert_same(&rt, snapshot(alloc, &tree)?, want, "snapshot");
+    Ok(())
+}
+
+#[test]
+fn a_table_keeps_units(rt: HostRuntime) -> Result<(), Fail> {
+    let (a, b) = (key_at(&[0]), key_at(&[1]));
+    let unit = Some(dynamic(Kind::Bytes(Bytes)));
+    let mut table: Table = TreeCore::new(rt.alloc());
+    table.insert(rt.alloc(), a, "a", UNKNOWN)?;
+    let counted = Some(Counted {
+        counter: 1,
+        done_at: None,
+        unit,
+        state: State::Running,
+    });
+    assert_unit(&rt, &table, a, None);
+    assert_init(&rt, &mut table, a, counted, true);
+    assert_unit(&rt, &table, a, unit);
+    assert_unit(&rt, &table, b, None);
+    Ok(())
+}

@@ -1,0 +1,116 @@
+//! Transcripts: lines of an event, ` -> `, and the reply to it as `Debug` writes it; if the event
+//! writes a frame, ` -> ` and its bytes as a string literal follow.
+use crate::fixtures::assert_same;
+use prodash_base::messages::MessageCopyState;
+use prodash_core::tree::{Event, Handle, Reply, Session, TreeState};
+use prodash_line::render::line::draw::MemoryScreen;
+use prodash_script::{number, parse};
+use std::alloc::Global;
+use std::process::Abort;
+use std::test::Fail;
+
+/// Parses an event. Besides the lines of `prodash_script` there are those of a resize that shows no
+/// rows, and of the queries of the tree and of an item.
+pub(crate) fn event_of(alloc: Global, line: &str) -> Result<Event, Fail> {
+    if let Some(event) = parse(alloc, line)? {
+        return Ok(event);
+    }
+    Ok(unwritten_event(line).ok_or("not an event")?)
+}
+
+/// Parses an event that has no line in a script.
+fn unwritten_event(line: &str) -> Option<Event> {
+    let Some((word, rest)) = line.split_once(' ') else {
+        return query(line);
+    };
+    if let Some(size) = rest.strip_prefix("hidden ") {
+        return hidden_resize(size);
+    }
+    if word == "new" {
+        let previous = number(rest).map(MessageCopyState::new);
+        return Some(Event::CopyNew { previous });
+    }
+    query_of(word, number(rest)?)
+}
+
+/// Parses the columns and rows of a resize that shows no rows.
+fn hidden_resize(size: &str) -> Option<Event> {
+    let (columns, rows) = size.split_once(' ')?;
+    Some(Event::Resize {
+        at: 0,
+        show: false,
+        columns: columns.parse::<u16>().ok()?,
+        rows: rows.parse::<u16>().ok()?,
+    })
+}
+
+fn query(word: &str) -> Option<Event> {
+    match word {
+        "tasks?" => Some(Event::NumTasks),
+        "snapshot" => Some(Event::Snapshot),
+        "messages" => Some(Event::CopyMessages),
+        _ => None,
+    }
+}
+
+fn query_of(word: &str, item: Handle) -> Option<Event> {
+    match word {
+        "name?" => Some(Event::Name { item }),
+        "id?" => Some(Event::Id { item }),
+        "step?" => Some(Event::Step { item }),
+        "max?" => Some(Event::Max { item }),
+        "unit?" => Some(Event::Unit { item }),
+        _ => None,
+    }
+}
+
+/// Returns the events of a transcript.
+pub(crate) fn events_of(alloc: Global, transcript: &str) -> Result<Vec<Event>, Fail> {
+    let mut events = Vec::new(alloc);
+    for line in transcript.lines() {
+        let (asked, _) = line.split_once(" -> ").ok_or("no reply")?;
+        events.push(event_of(alloc, asked)?)?;
+    }
+    Ok(events)
+}
+
+/// Returns what a transcript has after an event.
+fn outcome(alloc: Global, reply: &Reply, bytes: &[u8]) -> Result<String, Fail> {
+    if bytes.is_empty() {
+        return Ok(format!(in alloc; "{reply:?}")?);
+    }
+    let bytes = str::from_utf8(bytes).ok().ok_or("not UTF-8")?;
+    Ok(format!(in alloc; "{reply:?} -> {bytes:?}")?)
+}
+
+/// Asserts that a session replies and draws as in the transcript.
+pub(crate) fn assert_session(
+    rt: &impl Abort,
+    alloc: Global,
+    session: &mut Session,
+    transcript: &str,
+) -> Result<(), Fail> {
+    for line in transcript.lines() {
+        let (asked, told) = line.split_once(" -> ").ok_or("no reply")?;
+        let mut screen = MemoryScreen::new(alloc, 0)?;
+        let reply = session.apply(alloc, &event_of(alloc, asked)?, &mut screen);
+        let got = outcome(alloc, &reply, screen.bytes())?;
+        assert_same(rt, got.as_str(), told, asked);
+    }
+    Ok(())
+}
+
+/// Asserts that a tree replies to an event of no frame as a transcript says.
+pub(crate) fn assert_reply(
+    rt: &impl Abort,
+    alloc: Global,
+    tree: &mut TreeState,
+    event: &Event,
+    told: &str,
+) -> Result<(), Fail> {
+    assert!(rt; !event.is_frame());
+    let reply = tree.apply(alloc, event).unwrap_or_else(Reply::Refused);
+    let got = format!(in alloc; "{reply:?}")?;
+    assert_same(rt, got.as_str(), told, event);
+    Ok(())
+}

@@ -1,6 +1,0 @@
-use Rattle.std.proofs.Common.{refl}
-use Rattle.prodash_line.proofs.LineWriting.{begins}
-use Rattle.prodash_line.proofs.render.line.draw.line.LineWriter.begin.Goals as goal
-
-pub returns : goal.returns
-returns c = begins c.args.self.now _ refl refl

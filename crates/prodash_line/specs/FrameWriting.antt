@@ -1,0 +1,95 @@
+-- What composing a frame writes, and what it leaves to the next frame.
+use Rattle.std.specs.Prelude.{◌≡◌, ℕ, List, ◌++◌, length, Some, max}
+use Rattle.std.specs.Option.{option_or}
+use Rattle.prodash_base.specs.Rows.{PathRow, rows_of}
+use Rattle.prodash_base.specs.declared.progress.Row.{Row}
+use Rattle.prodash_line.specs.declared.render.line.draw.input.Input.{Input}
+use Rattle.prodash_line.specs.declared.render.line.draw.input.Options.{Options}
+use Rattle.prodash_line.specs.declared.render.line.draw.action.Action.{Action}
+use Rattle.prodash_line.specs.declared.render.line.draw.action.Drawn.{Drawn}
+use Rattle.prodash_line.specs.declared.render.line.draw.action.Composed.{Composed}
+use Rattle.prodash_line.specs.declared.render.line.draw.frame.Scene.{Scene}
+use Rattle.prodash_line.specs.declared.render.line.draw.line_writer.LineWriter.{LineWriter}
+use Rattle.prodash_line.specs.declared.render.line.page.sign.Sign.{Sign}
+use Rattle.prodash_line.specs.Signs.{spelling}
+use Rattle.prodash_line.specs.Lines.{Line}
+use Rattle.prodash_line.specs.Frames.{Body, redraw, body_signs, widths_of}
+use Rattle.prodash_line.specs.ProgressRows.{DrawnRow, filtered, row_lines, greatest_midpoint}
+use Rattle.prodash_line.specs.Renderer.{Renderer, Drawing, FrameState, drawing_of, body_of, ending_of, state_after, state_at, action_at, remember, frame_bytes, ended_after}
+use Rattle.prodash_line.specs.OverwriteBytes.{overwrite_bytes}
+use Rattle.prodash_line.specs.Observing.{shown_by, observe_all}
+
+-- the buffer holds the frame of an input
+abbrev pub HoldsFrame : Renderer → Input → LineWriter → Type 0
+HoldsFrame r input out = out.bytes.items ≡ frame_bytes r input
+
+-- these signs follow the bytes of old
+abbrev pub AppendsSigns : LineWriter → List Sign → LineWriter → Type 0
+AppendsSigns old signs new = new.bytes.items ≡ old.bytes.items ++ spelling signs
+
+-- these lines, over lines on screen of these widths, follow the bytes of old
+abbrev pub AppendsOver : LineWriter → List ℕ → List Line → LineWriter → Type 0
+AppendsOver old widths lines new = new.bytes.items ≡ old.bytes.items ++ overwrite_bytes widths lines
+
+-- if this many lines, over lines on screen of these widths, end the bytes of old, those of new end with the whole redraw of the lines
+abbrev pub FinishesRedraw : LineWriter → List ℕ → ℕ → LineWriter → Type 0
+FinishesRedraw old widths count new =
+    (before : List ℕ) (lines : List Line) → length lines ≡ count → old.bytes.items ≡ before ++ overwrite_bytes widths lines
+    → new.bytes.items ≡ before ++ spelling (redraw widths lines)
+
+-- what a body has left; one that draws no rows leaves the renderer's tracker
+abbrev pub state_by : Renderer → Drawn → FrameState
+state_by r drawn = record { widths = drawn.widths.items; midpoint = drawn.midpoint; tracker = option_or drawn.tracker r.tracker }
+
+-- the renderer that keeps what a body has left
+abbrev pub keeping : Drawn → Renderer → Renderer
+keeping drawn r = record r { widths = drawn.widths.items; midpoint = drawn.midpoint; tracker = option_or drawn.tracker r.tracker }
+
+-- the renderer that keeps what the frame of a tick has left, and the rows and how many messages had been pushed
+abbrev pub remembering : Composed → List PathRow → ℕ → Renderer → Renderer
+remembering frame rows pushed r = record (keeping frame.drawn r) {
+  last_rows = Some rows;
+  origin_widths = frame.origin_widths.items;
+  seen = Some pushed;
+  ended = ended_after frame.action r.ended;
+}
+
+-- it is what the frame of an input leaves
+abbrev pub Leaves : Renderer → Input → Drawn → Type 0
+Leaves r input drawn = state_by r drawn ≡ state_at r input
+
+-- what the frame of a tick leaves, with the widths of the latest origins, and what it does after its messages
+pub record LeavesTick (r : Renderer) (input : Input) (frame : Composed) : Type 0 where
+  pub state : Leaves r input frame.drawn
+  pub origin_widths : frame.origin_widths.items ≡ (remember r input).origin_widths
+  pub action : frame.action ≡ action_at r input
+
+-- the rows of a scene, drawn with its options at its moment
+abbrev pub drawing_in : Scene → Drawing
+drawing_in scene = drawing_of (record scene.past.now { options = scene.options }) scene.at (rows_of scene.rows.now)
+
+-- the body of a frame that does this in a scene
+abbrev pub body_in : Action → Scene → Body
+body_in action scene = body_of action (drawing_in scene) (ending_of scene.past.now)
+
+-- its signs, over the lines that are left on screen
+abbrev pub body_signs_in : Action → Scene → List ℕ → List Sign
+body_signs_in action scene left = body_signs left (body_in action scene)
+
+-- it is what an action in a scene leaves, over lines on screen of these widths
+abbrev pub LeavesInScene : Action → Scene → List ℕ → Drawn → Type 0
+LeavesInScene action scene widths drawn = state_by scene.past.now drawn ≡ state_after action scene.past.now (drawing_in scene) widths
+
+-- rows that are drawn by a tracker, if there is one, each with the throughput that it gives
+abbrev pub shown_rows : Options → Drawn → List Row → List DrawnRow
+shown_rows options drawn rows = shown_by drawn.tracker (filtered options.level_filter (rows_of rows))
+
+-- and their lines
+abbrev pub shown_lines : Options → ℕ → Drawn → List Row → List Line
+shown_lines options midpoint drawn rows = row_lines options midpoint (shown_rows options drawn rows)
+
+-- these rows have been drawn besides those of old, aligned to this midpoint
+pub record AddsRows (options : Options) (aligned : ℕ) (rows : List Row) (old new : Drawn) : Type 0 where
+  pub widths : new.widths.items ≡ old.widths.items ++ widths_of (shown_lines options aligned old rows)
+  pub midpoint : new.midpoint ≡ max old.midpoint (greatest_midpoint (shown_rows options old rows))
+  pub tracker : new.tracker ≡ observe_all old.tracker (filtered options.level_filter (rows_of rows))

@@ -1,0 +1,36 @@
+-- The bytes of lines over those on screen.
+use Rattle.std.specs.Prelude.{◌≡◌, ℕ, ◌-◌, List, [], ◌∷◌, ◌++◌, drop, replicate}
+use Rattle.prodash_line.specs.declared.render.line.draw.line_writer.LineWriter.{LineWriter}
+use Rattle.prodash_line.specs.Lines.{Line, columns_of}
+use Rattle.prodash_line.specs.Frames.{first_width}
+use Rattle.prodash_line.specs.Writing.{line_bytes, Begun}
+
+-- n spaces, and a line feed
+abbrev pub row_end : ℕ → List ℕ
+row_end n = replicate n 32 ++ 10 ∷ []
+
+-- the bytes of a line over one of this width
+abbrev pub overwrite_line_bytes : ℕ → Line → List ℕ
+overwrite_line_bytes width line = line_bytes line ++ row_end (width - columns_of line)
+
+-- the bytes of lines, each over the line on screen in its row
+abbrev pub overwrite_bytes : List ℕ → List Line → List ℕ
+overwrite_bytes widths [] = []
+overwrite_bytes widths (line ∷ lines) = overwrite_line_bytes (first_width widths) line ++ overwrite_bytes (drop 1 widths) lines
+
+-- the bytes of an empty line over each line on screen
+abbrev pub blank_bytes : List ℕ → List ℕ
+blank_bytes [] = []
+blank_bytes (width ∷ widths) = overwrite_line_bytes width [] ++ blank_bytes widths
+
+-- this line, over one of this width, follows the bytes of old
+pub record Overwrites (old : LineWriter) (width : ℕ) (line : Line) (new : LineWriter) : Type 0 where
+  pub bytes : new.bytes.items ≡ old.bytes.items ++ overwrite_line_bytes width line
+
+-- whatever line has been begun is ended, over one of this width
+abbrev pub EndsOver : LineWriter → ℕ → LineWriter → Type 0
+EndsOver old width new = (before : LineWriter) (line : Line) → Begun before line old → Overwrites before width line new
+
+-- whatever line has been begun is this many columns wide
+abbrev pub IsLineWidth : LineWriter → ℕ → Type 0
+IsLineWidth w n = (before : LineWriter) (line : Line) → Begun before line w → n ≡ columns_of line

@@ -1,0 +1,52 @@
+-- What a line writer has written.
+use Rattle.std.specs.Prelude.{◌≡◌, ℕ, zero, suc, ◌+◌, Bool, List, [], ◌++◌, Option, Some, None}
+use Rattle.std.specs.List.{list_all}
+use Rattle.std.specs.Int.{is_in_range}
+use Rattle.prodash_line.specs.declared.render.line.draw.line_writer.LineWriter.{LineWriter}
+use Rattle.prodash_line.specs.declared.render.line.page.sign.Sign.TheVariants.{Open, Reset}
+use Rattle.prodash_line.specs.declared.render.line.page.style.Style.{Style}
+use Rattle.prodash_line.specs.Signs.{spelling_of, spelling}
+use Rattle.prodash_line.specs.Lines.{Line, capped, columns_of, in_color}
+use Rattle.prodash_line.specs.Frames.{line_signs}
+
+-- are all of them printable ASCII characters?
+abbrev pub is_printable : List ℕ → Bool
+is_printable text = list_all (is_in_range 0x20 0x7E) text
+
+-- the bytes of a line
+unfoldable pub line_bytes : Line → List ℕ
+line_bytes line = spelling (line_signs line)
+
+-- after these bytes, the writer has written this line
+pub record Writes (before : List ℕ) (line : Line) (w : LineWriter) : Type 0 where
+  pub bytes : w.bytes.items ≡ before ++ line_bytes line
+  pub width : w.width ≡ columns_of line
+
+-- the style that a text of n bytes is written in: none if it is empty
+abbrev pub style_of_length : Option Style → ℕ → Option Style
+style_of_length None n = None
+style_of_length (Some style) zero = None
+style_of_length (Some style) (suc n) = Some style
+
+-- the bytes that begin a style
+abbrev pub open_bytes : Option Style → List ℕ
+open_bytes None = []
+open_bytes (Some style) = spelling_of (Open style)
+
+-- the bytes that end it
+abbrev pub reset_bytes : Option Style → List ℕ
+reset_bytes None = []
+reset_bytes (Some style) = spelling_of Reset
+
+-- whatever line was there, these pieces follow it
+pub record Appends (old : LineWriter) (pieces : Line) (new : LineWriter) : Type 0 where
+  pub bytes : new.bytes.items ≡ old.bytes.items ++ line_bytes pieces
+  pub width : (columns : ℕ) → old.width ≡ capped columns → new.width ≡ capped (columns + columns_of pieces)
+
+-- they follow it in colour, or without styles
+abbrev pub AppendsIn : Bool → LineWriter → Line → LineWriter → Type 0
+AppendsIn colored old pieces new = Appends old (in_color colored pieces) new
+
+-- this line follows the bytes of old
+pub record Begun (old : LineWriter) (line : Line) (new : LineWriter) : Type 0 where
+  pub writes : Writes old.bytes.items line new

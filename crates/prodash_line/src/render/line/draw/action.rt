@@ -1,0 +1,37 @@
+//! What a frame does after its messages, and what it leaves to the next one.
+
+use prodash_base::throughput::Throughput;
+
+/// What a frame does after its messages.
+#[derive(Clone, Copy, Debug, PartialEq, Eq)]
+pub(crate) enum Action {
+    /// It leaves the lines on screen.
+    Leave,
+    /// It draws rows in their place.
+    Redraw,
+    /// It blanks them and closes the renderer.
+    Close,
+}
+
+/// What the body of a frame leaves to the next one.
+#[derive(Drop)]
+pub(crate) struct Drawn {
+    /// The width of each line on screen.
+    pub(crate) widths: Vec<u16>,
+    /// The greatest midpoint of the frame drawn last.
+    pub(crate) midpoint: u16,
+    /// The tracker, if there is one, after a frame that draws rows. A frame that draws none leaves
+    /// the tracker as it was.
+    pub(crate) tracker: Option<Throughput>,
+}
+
+/// What the composed frame of a tick leaves to the next one.
+#[derive(Drop)]
+pub(crate) struct Composed {
+    /// What its body leaves.
+    pub(crate) drawn: Drawn,
+    /// The widths of the latest origins.
+    pub(crate) origin_widths: Vec<u16>,
+    /// What it does after its messages.
+    pub(crate) action: Action,
+}

@@ -1,0 +1,10 @@
+//! What the programs share: their faults, the parsing of arguments, and the writing of output.
+#![tactic(auto)]
+
+mod command_line;
+mod fault;
+mod output;
+
+pub use command_line::{arguments, dimension};
+pub use fault::Fault;
+pub use output::{report, write_all};

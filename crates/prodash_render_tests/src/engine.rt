@@ -1,0 +1,592 @@
+//! The engine: its steps over a root of the tests' own, and the threads of a renderer.
+ghost use Rattle.std.specs.Prelude.{◌≡◌, ◌∷◌, [], Some, IsOkUnless};
+ghost use Rattle.prodash_base.specs.Rows.{row_of};
+
+use crate::fixtures::{FakeScreen, TASK_FRAME, TERMINAL, assert_same, key_at, row};
+use crate::waiting::{
+    Collected, Collector, SteppedClock, is_collected_soon, is_set_soon, is_so_soon,
+};
+use prodash::messages::{Message, MessageCopyState};
+use prodash::progress::Row;
+use prodash::render::line::draw::Answer;
+use prodash::render::line::engine::{Engine, EngineEvent};
+use prodash::render::line::{JoinHandle, Options, StreamKind, render};
+use prodash::tree::{Item, Root as TreeRoot, Steps};
+use prodash::unit::display::Mode;
+use prodash::unit::label_and_mode;
+use prodash::{Refusal, Root, WeakRoot};
+use std::alloc::Global;
+use std::process::Abort;
+use std::rt;
+use std::sync::atomic::{AtomicU64, Ordering};
+use std::sync::{Arc, Wait};
+use std::test::*;
+use std::thread::{self, Threads};
+use std::time::Duration;
+
+/// A weak root that finds its root.
+const FINDS: u64 = 0;
+
+const FINDS_NONE: u64 = 1;
+
+/// The root has as many owners as there can be.
+const IS_FULL: u64 = 2;
+
+/// There is no memory for one more owner.
+const HAS_NO_MEMORY: u64 = 3;
+
+/// It finds a root that has no memory for its rows.
+const LOOKS_IN_VAIN: u64 = 4;
+
+/// A root that has one task, and no messages.
+#[derive(Drop)]
+struct OneTask {
+    row: Row,
+    has_memory: bool,
+}
+
+impl Root for OneTask {
+    ghost looks = { λ root previous rows messages next.
+        (rows ≡ row_of root.row ∷ []) × (messages ≡ []) × (next ≡ 0) };
+
+    type WeakRoot = WeakTask;
+
+    fn messages_capacity(&self) -> usize {
+        0
+    }
+
+    fn num_tasks(&self) -> usize {
+        1
+    }
+
+    fn sorted_snapshot(&self, alloc: Global, out: &mut Vec<Row>) -> Result<(), Refusal> {
+        if !self.has_memory {
+            return Err(Refusal::Memory);
+        }
+        let mut rows = Vec::new(alloc);
+        rows.push(self.row.clone()?)?;
+        *out = rows;
+        Ok(())
+    }
+
+    fn copy_messages(&self, alloc: Global, out: &mut Vec<Message>) -> Result<(), Refusal> {
+        *out = Vec::new(alloc);
+        Ok(())
+    }
+
+    fn copy_new_messages(
+        &self,
+        alloc: Global,
+        out: &mut Vec<Message>,
+        _previous: Option<MessageCopyState>,
+    ) -> Result<MessageCopyState, Refusal> {
+        *out = Vec::new(alloc);
+        Ok(MessageCopyState::new(0))
+    }
+
+    fn snapshot_and_new_messages(
+        &self,
+        alloc: Global,
+        rows: &mut Vec<Row>,
+        messages: &mut Vec<Message>,
+        _previous: Option<MessageCopyState>,
+    ) -> Result<MessageCopyState, Refusal> {
+        if !self.has_memory {
+            return Err(Refusal::Memory);
+        }
+        let mut list = Vec::new(alloc);
+        list.push(self.row.clone()?)?;
+        *rows = list;
+        *messages = Vec::new(alloc);
+        Ok(MessageCopyState::new(0))
+    }
+
+    fn downgrade(&self) -> Result<WeakTask, Refusal> {
+        Err(Refusal::Memory)
+    }
+}
+
+/// What finds a root that has this task, or does what it is told to do.
+#[derive(Drop)]
+struct WeakTask {
+    row: Row,
+    /// What it does next.
+    next: Arc<AtomicU64>,
+    /// How often it was asked.
+    asked: Arc<AtomicU64>,
+}
+
+impl WeakTask {
+    /// What finds the root of `task` at 3 of 10.
+    fn new(alloc: Global, next: &Arc<AtomicU64>) -> Result<WeakTask, Refusal> {
+        Ok(WeakTask {
+            row: row(alloc, key_at(&[0]), "task", Some((3, Some(10))))?,
+            next: Arc::try_clone(next)?,
+            asked: Arc::new(alloc, AtomicU64::new(0))?,
+        })
+    }
+
+    fn found(&self, has_memory: bool) -> Result<Option<OneTask>, Refusal>
+        ensures { IsOkUnless result Refusal.Memory }
+    {
+        Ok(Some(OneTask {
+            row: self.row.clone()?,
+            has_memory,
+        }))
+    }
+}
+
+impl WeakRoot for WeakTask {
+    type Root = OneTask;
+
+    fn upgrade(&self) -> Result<Option<OneTask>, Refusal> {
+        let next = self.next.load(Ordering::SeqCst);
+        self.asked.fetch_add(1, Ordering::SeqCst);
+        match next {
+            FINDS => self.found(true),
+            FINDS_NONE => Ok(None),
+            IS_FULL => Err(Refusal::TooManyHandles),
+            HAS_NO_MEMORY => Err(Refusal::Memory),
+            _ => self.found(false),
+        }
+    }
+}
+
+/// What is asked of an engine.
+#[derive(Clone, Copy, Debug)]
+enum Ask {
+    /// A tick that shows the rows, and what the weak root does then.
+    Tick(u64),
+    /// A resize to 30 columns and 4 rows, which shows the rows.
+    Resize,
+    Quit,
+}
+
+/// What is asked, what is returned, and the bytes that it writes.
+type Step = (Ask, Result<Answer, Refusal>, &'static str);
+
+/// `task` at 3 of 10, on 30 columns where it was on 40.
+const RESIZED_FRAME: &str = " task 3/10 [====>------------]          \n\x1b[1A";
+
+/// The closing frame after that.
+const CLOSING_FRAME: &str = "                              \n\x1b[1A\x1b[2K\r";
+
+/// How many bytes the screen takes before it breaks, and the steps of an engine.
+#[rattlefmt::skip]
+const STEPS: &[(usize, &[Step])] = &[
+    (200, &[
+        (Ask::Tick(IS_FULL), Err(Refusal::TooManyHandles), ""),
+        (Ask::Tick(HAS_NO_MEMORY), Err(Refusal::Memory), ""),
+        (Ask::Tick(LOOKS_IN_VAIN), Err(Refusal::Memory), ""),
+        (Ask::Tick(FINDS), Ok(Answer::Drawn), TASK_FRAME),
+        (Ask::Tick(FINDS), Ok(Answer::Drawn), ""),
+        (Ask::Resize, Ok(Answer::Drawn), RESIZED_FRAME),
+        (Ask::Tick(FINDS_NONE), Ok(Answer::Ended), CLOSING_FRAME),
+        // the refusal of a closed renderer comes first
+        (Ask::Tick(HAS_NO_MEMORY), Err(Refusal::Closed), ""),
+        (Ask::Tick(IS_FULL), Err(Refusal::Closed), ""),
+        (Ask::Quit, Err(Refusal::Closed), ""),
+    ]),
+    // a screen that is about to break breaks once there is a frame to write
+    (5, &[
+        (Ask::Tick(HAS_NO_MEMORY), Err(Refusal::Memory), ""),
+        (Ask::Tick(FINDS), Err(Refusal::Broken), " task"),
+        (Ask::Tick(IS_FULL), Err(Refusal::Broken), ""),
+        (Ask::Resize, Err(Refusal::Broken), ""),
+    ]),
+    (200, &[
+        (Ask::Quit, Ok(Answer::Ended), "\x1b[2K\r"),
+        (Ask::Tick(FINDS), Err(Refusal::Closed), ""),
+    ]),
+];
+
+/// Steps, and once more if out of memory, since nothing has changed then.
+fn step<W: WeakRoot>(
+    engine: &mut Engine<FakeScreen, W>,
+    next: &AtomicU64,
+    ask: Ask,
+) -> Result<Answer, Refusal>
+where
+    W::Root: Root + Drop,
+{
+    let event = match ask {
+        Ask::Tick(outcome) => {
+            next.store(outcome, Ordering::SeqCst);
+            EngineEvent::Tick { at: 0, show: true }
+        }
+        Ask::Resize => EngineEvent::Resize {
+            at: 0,
+            show: true,
+            columns: 30,
+            rows: 4,
+        },
+        Ask::Quit => EngineEvent::Quit { at: 0 },
+    };
+    match engine.step(event) {
+        Err(Refusal::Memory) => engine.step(event),
+        result => result,
+    }
+}
+
+/// Asserts that an engine returns what it is to return, and writes what it is to write.
+fn assert_each<W: WeakRoot + Drop>(
+    rt: &impl Abort,
+    alloc: Global,
+    screen: FakeScreen,
+    weak: W,
+    next: &AtomicU64,
+    steps: &[Step],
+) -> Result<(), Refusal>
+where
+    W::Root: Root + Drop,
+{
+    let mut engine = Engine::new(alloc, screen, weak, TERMINAL, false)?;
+    let mut before = 0;
+    for (ask, result, bytes) in steps {
+        let got = step(&mut engine, next, *ask);
+        assert_same(rt, got, *result, *ask);
+        let taken = engine.screen().bytes.as_slice();
+        assert_same(rt, taken.get(before..), Some(bytes.as_bytes()), *ask);
+        before = taken.len();
+    }
+    Ok(())
+}
+
+fn assert_steps(rt: &impl Abort, alloc: Global, room: usize, steps: &[Step]) -> Result<(), Fail> {
+    let next = Arc::new(alloc, AtomicU64::new(FINDS))?;
+    let weak = WeakTask::new(alloc, &next)?;
+    let screen = FakeScreen::new(alloc, 200, room, true)?;
+    assert_each(rt, alloc, screen, weak, &next, steps)?;
+    Ok(())
+}
+
+#[test]
+fn steps_draw_or_are_refused(rt: HostRuntime) -> Result<(), Fail> {
+    for (room, steps) in STEPS {
+        assert_steps(&rt, rt.alloc(), *room, steps)?;
+    }
+    Ok(())
+}
+
+/// When a task has taken how many steps of 100.
+const STEPS_TAKEN: &[(u64, u64)] = &[
+    (0, 0),
+    (400_000_000, 10),
+    (800_000_000, 20),
+    (1_200_000_000, 30),
+    (1_600_000_000, 50),
+];
+
+/// The last frame, with the rate of the latest second.
+const MEASURED_FRAME: &str = " t 50/100 items |33/s| [=======>-------]\n\x1b[1A";
+
+/// Ticks an engine that measures throughput. Returns the bytes that it has written.
+fn measured<W: WeakRoot + Drop>(alloc: Global, weak: W, task: &Steps) -> Result<Vec<u8>, Refusal>
+where
+    W::Root: Root + Drop,
+{
+    let screen = FakeScreen::new(alloc, 200, 1000, true)?;
+    let mut engine = Engine::new(alloc, screen, weak, TERMINAL, true)?;
+    for (at, step) in STEPS_TAKEN {
+        task.set(*step);
+        engine.step(EngineEvent::Tick {
+            at: *at,
+            show: true,
+        })?;
+    }
+    let mut bytes = Vec::new(alloc);
+    bytes.extend_from_slice(engine.screen().bytes.as_slice())?;
+    Ok(bytes)
+}
+
+#[test]
+fn frames_show_throughput(rt: HostRuntime) -> Result<(), Fail> {
+    let alloc: Global = rt.alloc();
+    let root = TreeRoot::new(rt, alloc)?;
+    let item = root.add_child(alloc, "t")?;
+    let unit = label_and_mode("items", Mode::with_throughput());
+    item.init(Some(100), Some(unit));
+    let bytes = measured(alloc, root.downgrade()?, item.steps())?;
+    let is_last = bytes.ends_with(MEASURED_FRAME.as_bytes());
+    assert_same(&rt, is_last, true, bytes.as_slice());
+    drop(item);
+    Ok(())
+}
+
+/// The nanoseconds from one frame to the next.
+const FRAME: u64 = 1_000_000;
+
+/// Frames of 40 columns and 20 rows.
+fn options() -> Options {
+    Options {
+        terminal_dimensions: (40, 20),
+        colored: false,
+        nanoseconds_per_frame: FRAME,
+        ..Options::default()
+    }
+}
+
+/// `task` at 4 of 10, on 40 columns.
+const NEXT_FRAME: &str = " task 4/10 [==========>----------------]\n\x1b[1A";
+
+/// The same on 30 columns.
+const NEXT_NARROW: &str = " task 4/10 [======>----------]\n\x1b[1A";
+
+/// The closing frame on 40 columns.
+const CLOSING_WIDE: &str = "                                        \n\x1b[1A\x1b[2K\r";
+
+/// A tree, its task, its renderer with its clock, and what its writer collects.
+#[derive(Drop)]
+struct Drawn<R: Wait + Threads + rt::Clock + Clone + Drop> {
+    root: TreeRoot<R>,
+    item: Item<R>,
+    collected: Arc<Collected>,
+    clock: Arc<SteppedClock<R>>,
+    handle: JoinHandle<R>,
+}
+
+/// A renderer of a task at 3 of 10, which has drawn it, or holds that write if it isn't open. Its
+/// ticker sleeps until the clock lets it go on.
+fn make_drawn<R: Wait + Threads + rt::Clock + Clone + Drop + Send + Sync + 'static>(
+    rt: &R,
+    alloc: Global,
+    is_open: bool,
+) -> Result<Drawn<R>, Fail> {
+    let root = TreeRoot::new(rt.clone()?, alloc)?;
+    let item = root.add_child(alloc, "task")?;
+    item.init(Some(10), None);
+    item.set(3);
+    let collected = Collected::new(alloc, is_open)?;
+    let out = Collector {
+        rt: rt.clone()?,
+        alloc,
+        collected: Arc::try_clone(&collected)?,
+    };
+    let clock = SteppedClock::new(alloc, rt.clone()?)?;
+    let (weak, theirs) = (root.downgrade()?, Arc::try_clone(&clock)?);
+    let handle = render(rt.clone()?, alloc, out, weak, theirs, options())?;
+    let is_drawn = if is_open {
+        is_collected_soon(rt, &collected, TASK_FRAME)
+    } else {
+        is_set_soon(rt, &collected.has_begun)
+    };
+    if !is_drawn || !clock.has_begun_soon(1) {
+        return Err(Fail::new("no first frame"));
+    }
+    Ok(Drawn {
+        root,
+        item,
+        collected,
+        clock,
+        handle,
+    })
+}
+
+/// Asserts that these frames are written.
+fn assert_frames(rt: &(impl Abort + Wait), collected: &Collected, frames: &[&str]) {
+    let bytes = collected.bytes.lock(rt);
+    let is_drawn = has_frames(bytes.as_slice(), frames);
+    assert_same(rt, is_drawn, true, bytes.as_slice());
+}
+
+/// Asserts that these frames are written soon.
+fn assert_drawn<R: Wait + rt::Clock + Abort>(rt: &R, collected: &Collected, frames: &[&str]) {
+    let is_drawn = is_so_soon(
+        rt,
+        &|| has_frames(collected.bytes.lock(rt).as_slice(), frames),
+    );
+    assert_same(rt, is_drawn, true, frames.len());
+}
+
+/// Whether bytes are those of these frames.
+fn has_frames(bytes: &[u8], frames: &[&str]) -> bool {
+    let mut rest = bytes;
+    for frame in frames {
+        match rest.strip_prefix(frame.as_bytes()) {
+            Some(after) => rest = after,
+            None => return false,
+        }
+    }
+    rest.is_empty()
+}
+
+/// Asserts that the threads of a renderer end soon, and drop their clock.
+fn assert_ended<R: rt::Clock + Abort + Drop>(rt: &R, clock: &Arc<SteppedClock<R>>) {
+    clock.end(u64::MAX);
+    let is_ended = is_so_soon(rt, &|| Arc::strong_count(clock) == 1);
+    assert_same(rt, is_ended, true, "the ticker ends");
+}
+
+/// While the first frame is held, `render` has returned, and the tree and the handle are used. Then
+/// comes the size that was asked for last, the last frame, and the closing frame.
+#[test]
+fn a_thread_draws(rt: HostRuntime) -> Result<(), Fail> {
+    let mut it = make_drawn(&rt, rt.alloc(), false)?;
+    assert_same(&rt, it.root.num_tasks(), 1, "tasks");
+    it.item.set(4);
+    it.handle.resize(50, 5);
+    it.handle.resize(30, 4);
+    it.handle.shutdown();
+    it.collected.is_open.store(true, Ordering::SeqCst);
+    it.handle.shutdown_and_wait();
+    let frames = [TASK_FRAME, RESIZED_FRAME, NEXT_NARROW, CLOSING_FRAME];
+    assert_frames(&rt, &it.collected, &frames);
+    assert_ended(&rt, &it.clock);
+    drop(it.item);
+    Ok(())
+}
+
+/// The first frame comes at once, that of a size too, and each other after a sleep of the interval.
+#[test]
+fn frames_are_an_interval_apart(rt: HostRuntime) -> Result<(), Fail> {
+    let it = make_drawn(&rt, rt.alloc(), true)?;
+    let length = it.clock.length.load(Ordering::SeqCst);
+    assert_same(&rt, length, FRAME, "length of a sleep");
+    // in this time the event loop comes to wait
+    thread::sleep(&rt, Duration::from_millis(50));
+    it.handle.resize(30, 4);
+    assert_drawn(&rt, &it.collected, &[TASK_FRAME, RESIZED_FRAME]);
+    it.item.set(4);
+    it.clock.end(1);
+    assert_drawn(
+        &rt,
+        &it.collected,
+        &[TASK_FRAME, RESIZED_FRAME, NEXT_NARROW],
+    );
+    it.handle.shutdown_and_wait();
+    assert_frames(
+        &rt,
+        &it.collected,
+        &[TASK_FRAME, RESIZED_FRAME, NEXT_NARROW, CLOSING_FRAME],
+    );
+    assert_ended(&rt, &it.clock);
+    drop(it.item);
+    Ok(())
+}
+
+/// A handle that is dropped draws a last frame and the closing frame, and waits for them.
+#[test]
+fn a_drop_closes(rt: HostRuntime) -> Result<(), Fail> {
+    let it = make_drawn(&rt, rt.alloc(), true)?;
+    it.item.set(4);
+    drop(it.handle);
+    assert_frames(&rt, &it.collected, &[TASK_FRAME, NEXT_FRAME, CLOSING_WIDE]);
+    drop(it.item);
+    Ok(())
+}
+
+/// A renderer that is left to itself runs until its root is gone.
+#[test]
+fn a_detached_renderer_ends_with_its_root(rt: HostRuntime) -> Result<(), Fail> {
+    let it = make_drawn(&rt, rt.alloc(), true)?;
+    it.handle.detach();
+    it.item.set(4);
+    it.clock.end(1);
+    assert_drawn(&rt, &it.collected, &[TASK_FRAME, NEXT_FRAME]);
+    drop(it.root);
+    assert_ended(&rt, &it.clock);
+    assert_drawn(&rt, &it.collected, &[TASK_FRAME, NEXT_FRAME, CLOSING_WIDE]);
+    drop(it.item);
+    Ok(())
+}
+
+/// A disconnected handle asks for nothing, and still waits.
+#[test]
+fn a_disconnected_handle_waits(rt: HostRuntime) -> Result<(), Fail> {
+    let mut it = make_drawn(&rt, rt.alloc(), true)?;
+    it.handle.disconnect();
+    it.handle.resize(30, 4);
+    it.handle.shutdown();
+    it.item.set(4);
+    it.clock.end(1);
+    assert_drawn(&rt, &it.collected, &[TASK_FRAME, NEXT_FRAME]);
+    drop(it.root);
+    it.clock.end(u64::MAX);
+    it.handle.wait();
+    assert_frames(&rt, &it.collected, &[TASK_FRAME, NEXT_FRAME, CLOSING_WIDE]);
+    drop(it.item);
+    Ok(())
+}
+
+/// A forgotten renderer closes, and the drop of its handle doesn't wait for the frame that is held.
+#[test]
+fn a_forgotten_renderer_closes(rt: HostRuntime) -> Result<(), Fail> {
+    let mut it = make_drawn(&rt, rt.alloc(), false)?;
+    it.handle.forget();
+    drop(it.handle);
+    it.collected.is_open.store(true, Ordering::SeqCst);
+    assert_drawn(&rt, &it.collected, &[TASK_FRAME, CLOSING_WIDE]);
+    drop(it.item);
+    Ok(())
+}
+
+/// A handle that waits doesn't end its renderer, which ends with its root.
+#[test]
+fn a_wait_ends_nothing(rt: HostRuntime) -> Result<(), Fail> {
+    let it = make_drawn(&rt, rt.alloc(), true)?;
+    let Drawn {
+        root,
+        item,
+        collected,
+        clock,
+        handle,
+    } = it;
+    let theirs = Arc::try_clone(&collected)?;
+    let worker = thread::spawn(&rt, move || {
+        // in this time the handle waits
+        thread::sleep(&rt, Duration::from_millis(100));
+        item.set(4);
+        clock.end(1);
+        let is_drawn = is_so_soon(
+            &rt,
+            &|| has_frames(theirs.bytes.lock(&rt).as_slice(), &[TASK_FRAME, NEXT_FRAME]),
+        );
+        drop(root);
+        clock.end(u64::MAX);
+        is_drawn
+    })?;
+    handle.wait();
+    assert_frames(&rt, &collected, &[TASK_FRAME, NEXT_FRAME, CLOSING_WIDE]);
+    assert_same(&rt, worker.join(&rt), true, "drawn before the end");
+    Ok(())
+}
+
+/// Waits until a root was looked for this often.
+fn assert_asked<R: rt::Clock + Abort>(rt: &R, asked: &AtomicU64, count: u64) {
+    let is_asked = is_so_soon(rt, &|| asked.load(Ordering::SeqCst) >= count);
+    assert_same(rt, is_asked, true, "looked for a root");
+}
+
+/// Ticks that find no memory, and a root of too many owners, draw nothing and end nothing.
+#[test]
+fn refused_ticks_are_skipped(rt: HostRuntime) -> Result<(), Fail> {
+    let alloc: Global = rt.alloc();
+    let next = Arc::new(alloc, AtomicU64::new(HAS_NO_MEMORY))?;
+    let weak = WeakTask::new(alloc, &next)?;
+    let asked = Arc::try_clone(&weak.asked)?;
+    let collected = Collected::new(alloc, true)?;
+    let out = Collector {
+        rt,
+        alloc,
+        collected: Arc::try_clone(&collected)?,
+    };
+    let clock = SteppedClock::new(alloc, rt)?;
+    let handle = render(rt, alloc, out, weak, Arc::try_clone(&clock)?, options())?;
+    assert_asked(&rt, &asked, 1);
+    next.store(IS_FULL, Ordering::SeqCst);
+    clock.end(1);
+    assert_asked(&rt, &asked, 2);
+    next.store(FINDS, Ordering::SeqCst);
+    clock.end(2);
+    assert_drawn(&rt, &collected, &[TASK_FRAME]);
+    handle.shutdown_and_wait();
+    assert_ended(&rt, &clock);
+    Ok(())
+}
+
+#[test]
+fn options_are_not_configured(rt: HostRuntime) {
+    let options = options().auto_configure(StreamKind::Stderr);
+    assert_same(&rt, options.colored, false, "colours");
+    assert_same(&rt, options.output_is_terminal, true, "terminal");
+}

@@ -1,0 +1,14 @@
+//! What the files of tests share: what they build inputs with, and an assertion.
+pub(crate) use prodash_fixtures::{FakeScreen, TASK_FRAME, TERMINAL, key_at, row};
+use std::fmt::Debug;
+use std::process::Abort;
+
+/// Asserts that both are equal; `of` names the row of a table. A call is proved in a tenth of the
+/// time that `assert_eq!` takes.
+pub(crate) fn assert_same<T, N>(rt: &impl Abort, got: T, want: T, of: N)
+where
+    T: PartialEq + Debug + Drop,
+    N: Debug + Drop,
+{
+    assert_eq!(rt; got, want, "of {of:?}");
+}

@@ -1,0 +1,18 @@
+//! Tests of engines, renderers and logs, and of calls while another thread holds a lock. Nothing
+//! uses this crate.
+#![tactic(auto)]
+
+#[cfg(test)]
+mod engine;
+#[cfg(test)]
+mod fixtures;
+#[cfg(test)]
+mod held_lock;
+#[cfg(test)]
+mod initial_delay;
+#[cfg(test)]
+mod logs;
+#[cfg(test)]
+mod stacks;
+#[cfg(test)]
+mod waiting;

@@ -1,0 +1,19 @@
+//! Events as lines of text: `parse` reads a line, `to_line` writes it, `request_of` reads a line of
+//! a script, and `Lines` reads lines from a stream.
+#![tactic(auto)]
+
+mod reading;
+mod request;
+mod script;
+mod stream;
+mod units;
+mod words;
+mod writing;
+
+pub use reading::{REASON, add, parse, parse_with};
+pub use request::Request;
+pub use script::{NO_ITEM, Names, request_of};
+pub use stream::{LIMIT, Lines, Next};
+pub use units::unit_of;
+pub use words::{Numbers, Words, number};
+pub use writing::to_line;

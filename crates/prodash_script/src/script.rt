@@ -1,0 +1,98 @@
+//! What a line asks for: an event, whose items may have words for names.
+ghost use Rattle.std.specs.Prelude.{IfOk};
+ghost use Rattle.prodash_script.specs.Requests.{AsksForNoFrame};
+
+use crate::reading::{add, parse_with};
+use crate::request::Request;
+use crate::words::{Words, number};
+use prodash_base::time::Moment;
+use prodash_core::tree::Handle;
+use std::alloc::{AllocError, Global};
+use std::collections::BTreeMap;
+use std::str;
+
+/// The handle of each word, without its `@`.
+pub type Names = BTreeMap<String, Handle>;
+
+/// A handle that no item has.
+pub const NO_ITEM: Handle = u64::MAX;
+
+/// The words of a script: a handle is a number, or a word after `@`; a moment is a number, or `-`
+/// for now.
+#[derive(Clone, Copy)]
+struct Script<'a> {
+    names: &'a Names,
+    now: Moment,
+}
+
+impl<'a> Words for Script<'a> {
+    fn handle(&self, word: &str) -> Option<Handle> {
+        match name_of(word) {
+            Some(name) => Some(self.names.get(name).copied().unwrap_or(NO_ITEM)),
+            None => number(word),
+        }
+    }
+
+    fn moment(&self, word: &str) -> Option<Moment> {
+        if word == "-" {
+            return Some(self.now);
+        }
+        number(word)
+    }
+}
+
+/// Returns the name in a word that begins with `@`, if it isn't empty.
+fn name_of(word: &str) -> Option<&str> {
+    word.strip_prefix('@').filter(|name| !name.is_empty())
+}
+
+/// Returns what a line of a script asks for, given the names of its items. A name that no item has
+/// is read as `NO_ITEM`. A line that draws a frame is a fault.
+///
+/// # Errors
+///
+/// `AllocError`, if there is no memory for the request.
+pub fn request_of(
+    alloc: Global,
+    names: &Names,
+    now: Moment,
+    line: &[u8],
+) -> Result<Request, AllocError>
+    ensures { IfOk result AsksForNoFrame }
+{
+    let Ok(line) = str::from_utf8(line) else {
+        return Ok(Request::Fault);
+    };
+    let script = Script { names, now };
+    if let Some(rest) = line.strip_prefix("add @") {
+        return named(alloc, script, rest);
+    }
+    match parse_with(alloc, &script, line)? {
+        Some(event) => {
+            if event.is_frame() {
+                return Ok(Request::Fault);
+            }
+            Ok(Request::Apply(event))
+        }
+        None => Ok(Request::Fault),
+    }
+}
+
+/// Parses the arguments `WORD H NAME`, after the `@` of the word.
+fn named(alloc: Global, script: Script<'_>, rest: &str) -> Result<Request, AllocError>
+    ensures { IfOk result AsksForNoFrame }
+{
+    let Some((name, rest)) = rest.split_once(' ') else {
+        return Ok(Request::Fault);
+    };
+    if name.is_empty() {
+        return Ok(Request::Fault);
+    }
+    match add(alloc, &script, rest)? {
+        Some(event) => {
+            let name = String::from_str(alloc, name)?;
+            Ok(Request::Name(name, event))
+        }
+        None => Ok(Request::Fault),
+    }
+}

@@ -1,0 +1,38 @@
+use prodash_base::unit::display::Mode;
+use prodash_base::unit::human::Formatter;
+use prodash_base::unit::{
+    Bytes, Duration, Human, Kind, Range, Unit, dynamic, label, label_and_mode,
+};
+
+/// All words of units.
+const WORDS: [&str; 9] = [
+    "-", "items", "items%", "%items", "items/s", "steps", "bytes", "duration", "objects",
+];
+
+/// Parses the word of a unit; `-` is no unit. Returns `None` if it is not such a word.
+pub fn unit_of(word: &str) -> Option<Option<Unit>> {
+    let percentage = Mode::with_percentage();
+    let unit = match word {
+        "-" => return Some(None),
+        "items" => label("items"),
+        "items%" => label_and_mode("items", percentage),
+        "%items" => label_and_mode("items", percentage.show_before_value()),
+        "items/s" => label_and_mode("items", Mode::with_throughput()),
+        "steps" => dynamic(Kind::Range(Range::new("steps"))),
+        "bytes" => dynamic(Kind::Bytes(Bytes)),
+        "duration" => dynamic(Kind::Duration(Duration)),
+        "objects" => dynamic(Kind::Human(Human::new(Formatter::default(), "objects"))),
+        _ => return None,
+    };
+    Some(Some(unit))
+}
+
+/// Returns the word of a unit, or `None` if it has none.
+pub(crate) fn word_of(unit: Option<Unit>) -> Option<&'static str> {
+    for word in &WORDS {
+        if unit_of(word) == Some(unit) {
+            return Some(*word);
+        }
+    }
+    None
+}

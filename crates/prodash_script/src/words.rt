@@ -1,0 +1,33 @@
+use prodash_base::time::Moment;
+use prodash_core::tree::Handle;
+
+/// The handles and moments that the words of a line name.
+pub trait Words {
+    /// Returns the handle that a word names, or `None` if it can't name one.
+    fn handle(&self, word: &str) -> Option<Handle>;
+
+    /// Returns the moment that a word names, or `None` if it can't name one.
+    fn moment(&self, word: &str) -> Option<Moment>;
+}
+
+/// Handles and moments are named by their numbers alone.
+#[derive(Clone, Copy, Debug)]
+pub struct Numbers;
+
+impl Words for Numbers {
+    fn handle(&self, word: &str) -> Option<Handle> {
+        number(word)
+    }
+
+    fn moment(&self, word: &str) -> Option<Moment> {
+        number(word)
+    }
+}
+
+/// Parses a number of 1 to 20 decimal digits that fits in 64 bits.
+pub fn number(word: &str) -> Option<u64> {
+    if word.is_empty() || word.len() > 20 || !word.bytes().all(|b| b.is_ascii_digit()) {
+        return None;
+    }
+    word.parse::<u64>().ok()
+}

@@ -1,0 +1,246 @@
+//! Lines of events: a table has a line, `->`, and what it is read as.
+use crate::fixtures::assert_same;
+use prodash_base::unit::label;
+use prodash_core::tree::Event;
+use prodash_script::{LIMIT, Lines, Names, Next, Request, parse, request_of, to_line};
+use std::alloc::{AllocError, Global};
+use std::fmt::Write;
+use std::io::{self, Error, ErrorKind, Read};
+use std::process::Abort;
+use std::str;
+use std::test::Fail;
+
+const EVENTS: &str = r#"drop 2 -> Some(Drop { item: 2 })
+add 3 a b -> Some(AddChild { parent: 3, name: "a b", id: [0, 0, 0, 0] })
+add 3  a  -> Some(AddChild { parent: 3, name: " a ", id: [0, 0, 0, 0] })
+ add 3 a -> None
+init 1 - - -> Some(Init { item: 1, max: None, unit: None })
+init 1 10 - -> Some(Init { item: 1, max: Some(10), unit: None })
+init 1 100 item -> None
+name 1 a b -> Some(SetName { item: 1, name: "a b" })
+name 1  -> Some(SetName { item: 1, name: "" })
+name 1  a  -> Some(SetName { item: 1, name: " a " })
+max 1 - -> Some(SetMax { item: 1, max: None })
+max 1 10 -> Some(SetMax { item: 1, max: Some(10) })
+max 1 0 -> Some(SetMax { item: 1, max: Some(0) })
+set 1 3 -> Some(Set { item: 1, step: 3 })
+set 1 +3 -> None
+set 1 18446744073709551615 -> Some(Set { item: 1, step: 18446744073709551615 })
+inc 1 3 -> Some(IncBy { item: 1, step: 3 })
+blocked 1 -> Some(Blocked { item: 1, reason: "replay", eta: None })
+halted 1 -> Some(Halted { item: 1, reason: "replay", eta: None })
+running 1 -> Some(Running { item: 1 })
+info 1 7 x y -> Some(Message { item: 1, at: 7, level: Info, text: "x y" })
+info 1 7  x  -> Some(Message { item: 1, at: 7, level: Info, text: " x " })
+done 1 7  -> Some(Message { item: 1, at: 7, level: Success, text: "" })
+fail 1 7 x -> Some(Message { item: 1, at: 7, level: Failure, text: "x" })
+droproot -> Some(DropRoot)
+droproot  -> None
+tick 5 -> Some(Tick { at: 5, show: true })
+hold 5 -> Some(Tick { at: 5, show: false })
+resize 5 30 4 -> Some(Resize { at: 5, show: true, columns: 30, rows: 4 })
+resize 5 65535 0 -> Some(Resize { at: 5, show: true, columns: 65535, rows: 0 })
+resize 5 65536 4 -> None
+resize 5 30 65536 -> None
+resize 5 30 -> None
+resize 30 -> None
+resize 5 30 4 2 -> None
+quit 5 -> Some(Quit { at: 5 })
+"#;
+
+fn assert_event(rt: &impl Abort, alloc: Global, line: &str, want: &str) -> Result<(), AllocError> {
+    let event = parse(alloc, line)?;
+    let got = format!(in alloc; "{event:?}")?;
+    assert_same(rt, got.as_str(), want, line);
+    Ok(())
+}
+
+#[test]
+fn reads_events(rt: HostRuntime) -> Result<(), Fail> {
+    for row in EVENTS.lines() {
+        let (line, want) = row.split_once(" -> ").ok_or("no event")?;
+        assert_event(&rt, rt.alloc(), line, want)?;
+    }
+    assert_event(&rt, rt.alloc(), "droproot\r", "None")?;
+    Ok(())
+}
+
+/// Lines of which each says an event, in the only form that `to_line` writes.
+const LINES: &[&str] = &[
+    "add 0 a b",
+    "add 3 ",
+    "add 3  a ",
+    "drop 2",
+    "init 1 - -",
+    "init 1 10 items",
+    "init 1 10 items%",
+    "init 1 10 %items",
+    "init 1 - items/s",
+    "init 1 - steps",
+    "init 1 - bytes",
+    "init 1 - duration",
+    "init 1 18446744073709551615 objects",
+    "name 1 a",
+    "name 1  a ",
+    "max 1 -",
+    "max 1 7",
+    "set 1 3",
+    "inc 1 3",
+    "blocked 1",
+    "halted 1",
+    "running 1",
+    "info 1 7 x y",
+    "done 1 7 ",
+    "fail 1 7 x",
+    "fail 1 7  x ",
+    "droproot",
+    "tick 5",
+    "hold 5",
+    "resize 5 30 4",
+    "quit 5",
+];
+
+#[test]
+fn writes_the_lines_that_it_reads(rt: HostRuntime) -> Result<(), Fail> {
+    for line in LINES {
+        let event = parse(rt.alloc(), line)?.ok_or("no event")?;
+        let written = to_line(rt.alloc(), &event)?.ok_or("no line")?;
+        assert_same(&rt, written.as_str(), *line, "written");
+    }
+    Ok(())
+}
+
+#[test]
+fn writes_no_line_for_a_unit_without_a_word(rt: HostRuntime) -> Result<(), Fail> {
+    let event = Event::Init {
+        item: 1,
+        max: None,
+        unit: Some(label("other")),
+    };
+    assert_same(&rt, to_line(rt.alloc(), &event)?.is_none(), true, "no line");
+    Ok(())
+}
+
+/// What a line of a script asks for if `a` names the handle 7 and it is 5.
+fn asked(alloc: Global, line: &[u8]) -> Result<Request, AllocError> {
+    let mut names = Names::new(alloc);
+    names.insert(String::from_str(alloc, "a")?, 7)?;
+    request_of(alloc, &names, 5, line)
+}
+
+fn assert_request(
+    rt: &impl Abort,
+    alloc: Global,
+    line: &[u8],
+    want: &str,
+) -> Result<(), AllocError> {
+    let request = asked(alloc, line)?;
+    let got = format!(in alloc; "{request:?}")?;
+    assert_same(rt, got.as_str(), want, want);
+    Ok(())
+}
+
+const REQUESTS: &str = r#"set @a 3 -> Apply(Set { item: 7, step: 3 })
+set 1 3 -> Apply(Set { item: 1, step: 3 })
+drop @b -> Apply(Drop { item: 18446744073709551615 })
+info @a - x -> Apply(Message { item: 7, at: 5, level: Info, text: "x" })
+add 0 @a -> Apply(AddChild { parent: 0, name: "@a", id: [0, 0, 0, 0] })
+add @b @a x y -> Name("b", AddChild { parent: 7, name: "x y", id: [0, 0, 0, 0] })
+ -> Fault
+set @ 3 -> Fault
+add @b -> Fault
+add @b x -> Fault
+add @ 0 x -> Fault
+tick 0 -> Fault
+quit - -> Fault
+"#;
+
+#[test]
+fn reads_requests(rt: HostRuntime) -> Result<(), Fail> {
+    for row in REQUESTS.lines() {
+        let (line, want) = row.split_once(" -> ").ok_or("no request")?;
+        assert_request(&rt, rt.alloc(), line.as_bytes(), want)?;
+    }
+    // not UTF-8
+    assert_request(&rt, rt.alloc(), b"set @a \xff", "Fault")?;
+    Ok(())
+}
+
+/// Asserts that a stream gives these in turn: of a line its text.
+fn assert_lines(rt: &impl Abort, alloc: Global, stream: &[u8], want: &str) -> Result<(), Fail> {
+    let mut lines = Lines::new(alloc, stream);
+    let mut got = String::new(alloc);
+    for _ in 0..3 {
+        match lines.advance()? {
+            Next::Line => writeln!(got, "Line {}", str::from_utf8(lines.line())?)?,
+            next => writeln!(got, "{next:?}")?,
+        }
+    }
+    assert_same(rt, got.as_str(), want, "lines");
+    Ok(())
+}
+
+/// Streams, and what they give.
+const STREAMS: &[[&str; 2]] = &[
+    ["", "End\nEnd\nEnd\n"],
+    ["\n", "Line \nEnd\nEnd\n"],
+    ["a", "CutOff\nEnd\nEnd\n"],
+    ["a\nb", "Line a\nCutOff\nEnd\n"],
+    ["a\nb\n", "Line a\nLine b\nEnd\n"],
+];
+
+#[test]
+fn tells_a_last_line_that_is_cut_off(rt: HostRuntime) -> Result<(), Fail> {
+    for [stream, want] in STREAMS {
+        assert_lines(&rt, rt.alloc(), stream.as_bytes(), want)?;
+    }
+    Ok(())
+}
+
+/// A stream of a line of this many bytes and of another.
+fn two_lines(alloc: Global, bytes: usize) -> Result<Vec<u8>, AllocError> {
+    let mut stream = vec![in alloc; b'a'; bytes]?;
+    stream.extend_from_slice(b"\nb\n")?;
+    Ok(stream)
+}
+
+#[test]
+fn drops_long_lines(rt: HostRuntime) -> Result<(), Fail> {
+    let stream = two_lines(rt.alloc(), LIMIT + 1)?;
+    assert_lines(&rt, rt.alloc(), &stream, "TooLong\nLine b\nEnd\n")
+}
+
+#[test]
+fn keeps_the_longest_line(rt: HostRuntime) -> Result<(), Fail> {
+    let stream = two_lines(rt.alloc(), LIMIT)?;
+    let mut lines = Lines::new(rt.alloc(), stream.as_slice());
+    assert_same(&rt, lines.advance()?, Next::Line, "line");
+    assert_same(&rt, Some(lines.line()), stream.get(..LIMIT), "bytes");
+    Ok(())
+}
+
+/// A stream of one line, whose first read and whose second are interrupted.
+#[derive(Drop)]
+struct Interrupted {
+    reads: u8,
+}
+
+impl Read for Interrupted {
+    fn read(&mut self, bytes: &mut [u8]) -> io::Result<usize> {
+        self.reads = self.reads.saturating_add(1);
+        match self.reads {
+            1 | 2 => Err(Error::from(ErrorKind::Interrupted)),
+            3 => b"a\n".as_slice().read(bytes),
+            _ => Ok(0),
+        }
+    }
+}
+
+#[test]
+fn goes_on_after_a_read_that_is_interrupted(rt: HostRuntime) -> Result<(), Fail> {
+    let mut lines = Lines::new(rt.alloc(), Interrupted { reads: 0 });
+    assert_same(&rt, lines.advance()?, Next::Line, "line");
+    assert_same(&rt, lines.line(), b"a", "bytes");
+    assert_same(&rt, lines.advance()?, Next::End, "end");
+    Ok(())
+}
