@@ -189,6 +189,20 @@ Rows are hidden until the delay has passed, and messages are not.
    \x1b[2ma\x1b[0m \x1b[1;37mone\x1b[0m (esc)
   \x1b[2K\r (no-eol) (esc)
 
+Of 200,000 items that are added and dropped one after another below one item none takes the row of
+one that stays.
+
+  $ {
+  >   printf 'add @task 0 task\nadd @first @task first\ninit @first 3 -\n'
+  >   yes 'add @part @task part
+  > drop @part' | head -n 400000
+  >   printf 'add @last @task last\ninit @last 3 -\nset @last 2\n'
+  > } | until_shown 2/3 prodash-live --no-color --columns 40 --terminal always 2>frames
+  $ tail -n 7 frames | head -n 3 | sed 's/^.\[.*A//; s/ *$//'
+   task
+    first 0/3 [>-------------------------]
+    last  2/3 [================>---------]
+
 Frames per second
 ==================
 

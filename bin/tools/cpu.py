@@ -1,4 +1,7 @@
-"""What `rt ci` spends its processor time on: proofs, tests or edits, and of which crates. It runs them side by side, so their times are read from /proc."""
+"""What the gate spends its processor time on: proofs, tests or edits, and of which crates.
+
+These run side by side, so their times are read from /proc.
+"""
 import collections
 import os
 import threading
@@ -25,7 +28,8 @@ class Sampler:
             self.sample()
 
     def sample(self):
-        found = {pid: it for pid in filter(str.isdigit, os.listdir("/proc")) for it in [read_process(pid)] if it}
+        pids = filter(str.isdigit, os.listdir("/proc"))
+        found = {pid: it for pid in pids for it in [read_process(pid)] if it}
         for pid, (_, began, seconds) in found.items():
             if self.is_below(pid, found):
                 what = kind_and_crate(pid)
@@ -60,7 +64,10 @@ def read_process(pid):
 
 
 def kind_and_crate(pid):
-    """Returns whether a process works on a crate, on its tests or on an edit of it, and the crate; None for another process."""
+    """Returns what a process works on, `proofs`, `tests` or `edits`, and of which crate.
+
+    Returns None for any other process.
+    """
     try:
         folder = os.readlink(f"/proc/{pid}/cwd")
         with open(f"/proc/{pid}/cmdline", "rb") as it:

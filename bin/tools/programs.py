@@ -1,4 +1,4 @@
-"""Where the programs of the repository are built, whether they are up to date, and how they are run."""
+"""Where the programs are built, whether they are up to date, and how they are run."""
 import glob
 import os
 import signal
@@ -43,12 +43,19 @@ def is_current(program, parts):
 
 
 def date_back(program, began):
-    """Gives a program the time at which its build began, so that an edit during the build counts as newer."""
+    """Gives a program the time at which its build began.
+
+    A change of a source during the build then counts as newer.
+    """
     os.utime(program, (began, began))
 
 
 def say(text, stderr_is_output):
-    """Writes a line to standard error. If that is the output of a program and no terminal, the line goes to the terminal, if there is one."""
+    """Writes a line to standard error.
+
+    If that is the output of a program and no terminal, the line goes to the terminal, if there is
+    one.
+    """
     if not stderr_is_output or os.isatty(2):
         print(text, file=sys.stderr, flush=True)
         return
@@ -62,23 +69,27 @@ def say(text, stderr_is_output):
 def ready(name, stderr_is_output=False):
     """Returns the path of the proved program if it is up to date.
 
-    Else it builds the program without proofs, if that isn't up to date either, says so, and returns the path of that, or None if it can't
-    be built.
+    Else it builds the program without proofs, if that isn't up to date either, says so, and returns
+    the path of that, or None if it can't be built.
     """
     if is_proved(name):
         return proved(name)
-    shown = name.replace("_", "-")
-    how = "running a build without proofs" if is_built(name) else "building without proofs, which takes about a minute"
-    say(f"{shown}: {how}; bin/build proves and builds it", stderr_is_output)
-    if not is_built(name) and subprocess.run([f"{TOP}/bin/build", "--unproved", name], stdin=subprocess.DEVNULL).returncode:
-        return None
+    how = "running a build without proofs"
+    if not is_built(name):
+        how = "building without proofs, which takes about a minute"
+    say(f"{name.replace('_', '-')}: {how}; bin/build proves and builds it", stderr_is_output)
+    if not is_built(name):
+        words = [f"{TOP}/bin/build", "--unproved", name]
+        if subprocess.run(words, stdin=subprocess.DEVNULL).returncode:
+            return None
     return unproved(name)
 
 
 def run(name, words, keeps_signals=False, stderr_is_output=False):
     """Runs a program with these words in place of this one. Returns a status if it can't be built.
 
-    With keeps_signals a write to a closed pipe or past a limit is an error for the program, and doesn't end it.
+    With keeps_signals a write to a closed pipe or past a limit is an error for the program, and
+    doesn't end it.
     """
     program = ready(name, stderr_is_output)
     if program is None:

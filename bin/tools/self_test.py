@@ -1,4 +1,5 @@
 """The test of `bin/try-edits`: a small crate, and what must be said of its edits."""
+import functools
 import os
 import tempfile
 
@@ -39,19 +40,27 @@ FILES = {
     "crates.txt": "small:\n",
     "crates/small/src/lib.rt": SOURCE,
 }
-# By the name of each edit: its lines, how it must end, and what must be said of it.
+REFUSED, THROUGH, UNREAD = "refused at a goal", "GOT THROUGH", "DOES NOT READ"
+LEAST = "lesser(lesser(x, y), z)"
+# By the name of each edit: its old and its new text, how it must end, and what must be said of it.
 EDITS = {
-    "must-fail/changes_nothing": ("old:     x\nnew:     { x }", "GOT THROUGH", ""),
-    "edits/wrong_body": ("old: x < y\nnew: y < x", "refused at a goal", "small::lesser"),
-    "edits/caller_as_before": ("old:     lesser(lesser(x, y), z)\nnew:     { lesser(lesser(x, y), z) }", "GOT THROUGH", ""),
-    "edits/wrong_caller": ("old: lesser(lesser(x, y), z)\nnew: lesser(lesser(x, y), y)", "refused at a goal", "small::least"),
-    "edits/names_nothing": ("old: absent\nnew: x", "DOES NOT READ", "0 times"),
-    "edits/does_not_compile": ("old:     0\nnew:     absent", "DOES NOT READ", "src/lib.rt"),
+    "must-fail/changes_nothing": ("    x", "    { x }", THROUGH, ""),
+    "edits/lesser/wrong_body": ("x < y", "y < x", REFUSED, "small::lesser"),
+    "edits/least/caller_as_before": (f"    {LEAST}", f"    {{ {LEAST} }}", THROUGH, ""),
+    "edits/least/wrong_caller": (LEAST, "lesser(lesser(x, y), y)", REFUSED, "small::least"),
+    "edits/zero/names_nothing": ("absent", "x", UNREAD, "0 times"),
+    "edits/zero/does_not_compile": ("    0", "    absent", UNREAD, "src/lib.rt"),
+    "edits/none/names_no_function": ("result ≡ 0", "result ≡ 1", UNREAD, "small::none"),
 }
 
 
 # What is tried after `rt ci`: one edit for each function, which are asked for alone.
-AFTER_CI = ("must-fail/changes_nothing", "edits/wrong_body", "edits/wrong_caller", "edits/names_nothing")
+AFTER_CI = (
+    "must-fail/changes_nothing",
+    "edits/lesser/wrong_body",
+    "edits/least/wrong_caller",
+    "edits/zero/names_nothing",
+)
 
 
 def write(top, path, text):
@@ -60,28 +69,33 @@ def write(top, path, text):
         it.write(text)
 
 
-def run(rt, try_crates, jobs):
-    """Tries the edits of a repository made for this, both ways, and returns the exit status."""
-    tried = try_edits(rt, try_crates, jobs, EDITS, is_after_ci=False)
-    tried += try_edits(rt, try_crates, jobs, AFTER_CI, is_after_ci=True)
+def run(rt, try_crates, how, jobs):
+    """Tries the edits of a repository made for this, each way, and returns the exit status."""
+    attempt = functools.partial(try_edits, rt, try_crates, jobs)
+    tried = attempt(EDITS, how(), "")
+    tried += attempt(AFTER_CI, how(is_after_ci=True), ", after rt ci")
+    tried += attempt(AFTER_CI, how(is_after_ci=True, proved=["small\n"]), ", beside rt ci")
     print(f"self-test: {sum(tried)} passed, {len(tried) - sum(tried)} failed")
     return 0 if all(tried) else 1
 
 
-def try_edits(rt, try_crates, jobs, names, is_after_ci):
+def try_edits(rt, try_crates, jobs, names, how, when):
     """Tries these edits, and returns whether each is reported as it must be."""
     with tempfile.TemporaryDirectory(prefix="try-edits-test-") as top:
         for path, text in FILES.items():
             write(top, path, text)
         for name in names:
-            write(top, f"crates/small/{name}.edit", f"file: src/lib.rt\n{EDITS[name][0]}\n")
-        trials = try_crates(rt, kit.crates(rt, top), jobs, is_after_ci=is_after_ci) or []
+            old, new, *_ = EDITS[name]
+            text = f"file: src/lib.rt\nold: {old}\nnew: {new}\n"
+            write(top, f"crates/small/{name}.edit", text)
+        trials = try_crates(rt, kit.crates(rt, top), jobs, how) or []
     ends = {label: end for trial in trials for label, end in trial.ends.items()}
     tried = []
     for name in names:
-        _, how, part = EDITS[name]
-        label = f"small/{os.path.basename(name)}"
+        *_, end, part = EDITS[name]
+        label = f"small/{name.partition('/')[2]}"
         said = ends.get(label, ("not tried", ""))
-        tried.append(said[0] == how and part in said[1])
-        print(f"{'ok' if tried[-1] else 'FAILED'}: {label} is to be reported as: {how}{', after rt ci' if is_after_ci else ''}")
+        tried.append(said[0] == end and part in said[1])
+        passed = "ok" if tried[-1] else "FAILED"
+        print(f"{passed}: {label} is to be reported as: {end}{when}")
     return tried

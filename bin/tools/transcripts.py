@@ -1,8 +1,10 @@
-"""Runs transcripts: text files in the format of cram, whose commands have to write what the files say.
+r"""Runs transcripts: files in the format of cram, whose commands have to write what they say.
 
-A line that begins with two spaces, `$` and a space is a command, and goes on in lines with `>` in place of `$`. The indented lines below it
-are what it writes to standard output and standard error: with ` (no-eol)` if there is no line feed at the end, and with ` (esc)` if bytes
-are written as `\\x1b`. A line `[2]` is a status other than 0. All other lines are prose. One shell runs all commands of a file.
+A line that begins with two spaces, `$` and a space is a command, and goes on in lines with `>` in
+place of `$`. The indented lines below it are what it writes to standard output and standard error:
+with ` (no-eol)` if there is no line feed at the end, and with ` (esc)` if bytes are written as
+`\x1b`. A line `[2]` is a status other than 0. All other lines are prose. One shell runs all
+commands of a file.
 """
 import difflib
 import os
@@ -16,6 +18,8 @@ import time
 # How long a command may take, and how many bytes it may write.
 SECONDS, BYTES = 60, 1 << 20
 COMMAND, MORE, OUTPUT = "  $ ", "  > ", "  "
+# A script that the path has too.
+ALLOCATIONS = os.path.join(os.path.dirname(os.path.realpath(__file__)), "build-allocations")
 SHORT = {"\\": "\\\\", "\r": "\\r", "\t": "\\t"}
 
 
@@ -45,17 +49,25 @@ def read(lines):
     return parts
 
 
+def escaped(found):
+    """Returns how a transcript writes a character that isn't printed, or a backslash."""
+    return SHORT.get(found[0], f"\\x{ord(found[0]):02x}")
+
+
 def shown(line):
     """Returns a line of output as a transcript has it."""
     text = line.decode("latin-1")
     text = text[:-1] if text.endswith("\n") else f"{text} (no-eol)"
     if re.search(r"[^ -~]", text):
-        text = re.sub(r"[^ -~]|\\", lambda it: SHORT.get(it[0], f"\\x{ord(it[0]):02x}"), text) + " (esc)"
+        text = re.sub(r"[^ -~]|\\", escaped, text) + " (esc)"
     return f"{OUTPUT}{text}\n"
 
 
 def read_to(end, pipe, given):
-    """Reads a pipe until what was given has such an end. Returns all of it, and why there is no end if there is none."""
+    """Reads a pipe until what was given has such an end.
+
+    Returns all of it, and why there is no end if there is none.
+    """
     deadline = time.monotonic() + SECONDS
     while not end.search(given):
         left = deadline - time.monotonic()
@@ -81,18 +93,22 @@ def outputs(end, pipe, count):
 
 
 def run(commands, programs):
-    """Runs commands in a new folder, and returns the lines that each writes. The path begins with these programs, by name."""
+    """Runs commands in a new folder, and returns the lines that each writes.
+
+    The path begins with these programs, by name, and build-allocations.
+    """
     mark = f"end-of-command-{os.urandom(8).hex()}"
     end = re.compile(rb"%s (\d+)\n" % mark.encode())
     with tempfile.TemporaryDirectory(prefix="transcripts-") as room:
         for folder in ("bin", "work"):
             os.mkdir(f"{room}/{folder}")
-        for name, path in programs.items():
+        for name, path in {**programs, "build-allocations": ALLOCATIONS}.items():
             os.symlink(path, f"{room}/bin/{name}")
         with open(f"{room}/script", "w", encoding="utf-8") as it:
             it.writelines(f"{command.text()}echo {mark} $?\n" for command in commands)
-        how = {"cwd": f"{room}/work", "stdin": subprocess.DEVNULL, "stdout": subprocess.PIPE, "stderr": subprocess.STDOUT}
-        how["env"] = {"PATH": f"{room}/bin:{os.environ['PATH']}", "LC_ALL": "C"}
+        env = {"PATH": f"{room}/bin:{os.environ['PATH']}", "LC_ALL": "C"}
+        how = {"cwd": f"{room}/work", "env": env, "stdin": subprocess.DEVNULL}
+        how |= {"stdout": subprocess.PIPE, "stderr": subprocess.STDOUT}
         with subprocess.Popen(["sh", f"{room}/script"], start_new_session=True, **how) as shell:
             try:
                 ended = list(outputs(end, shell.stdout, len(commands)))
@@ -107,14 +123,22 @@ def run(commands, programs):
 
 
 def play(path, programs):
-    """Runs a transcript, prints how it differs, and returns how many of its commands passed and failed."""
+    """Runs a transcript, prints how it differs, and returns how many commands passed and failed."""
     with open(path, encoding="utf-8") as it:
         lines = it.readlines()
     parts = read(lines)
     commands = [it for it in parts if isinstance(it, Command)]
     written = run(commands, programs)
-    wrote = iter(written)
-    played = [line for it in parts for line in ([*it.lines, *next(wrote)] if isinstance(it, Command) else [it])]
+    wrote, played = iter(written), []
+    for it in parts:
+        played += [*it.lines, *next(wrote)] if isinstance(it, Command) else [it]
     print(end="".join(difflib.unified_diff(lines, played, path, f"{path} as it was played")))
     passed = sum(it.expected == lines for it, lines in zip(commands, written))
     return passed, len(commands) - passed
+
+
+def passes(path, programs):
+    """Runs the commands of a transcript, and returns whether each writes what it has to."""
+    with open(path, encoding="utf-8") as it:
+        commands = [part for part in read(it.readlines()) if isinstance(part, Command)]
+    return [it.expected for it in commands] == run(commands, programs)

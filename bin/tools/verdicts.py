@@ -21,7 +21,7 @@ class Verdict:
         return self.status == 0
 
     def is_refused(self):
-        """Returns whether the check came to its end, and did not prove all that it was asked for."""
+        """Returns whether the check came to its end, and didn't prove all that it was asked for."""
         return self.status == 1 and self.lines[-1].startswith(("logic=not-proved", "only="))
 
     def judges(self):
@@ -33,13 +33,16 @@ class Verdict:
         return any(it.startswith("only=") for it in self.lines)
 
     def errors(self):
-        """Returns file, goal and text of each error in a proof file that follows from no other one."""
+        """Returns file, goal and text of each error in a proof file that isn't a consequence."""
         return [it for it in ERROR.findall(self.text) if not FOLLOWS.search(it[2])]
 
     def goals_of(self, name):
-        """Returns the goals of this function that are not proved. That a callee isn't proved is none."""
+        """Returns the goals of this function that are not proved.
+
+        That a callee isn't proved is none of them.
+        """
         names = self.with_closures(name)
-        if all(self.functions[it] == "proved" for it in names):
+        if not names or all(self.functions[it] == "proved" for it in names):
             return []
         goals = []
         for it in names:

@@ -1,0 +1,253 @@
+"""How the edits of a crate are tried, in few checks that tell of each whether it is refused."""
+import os
+import shutil
+import tempfile
+import threading
+import time
+from concurrent.futures import ThreadPoolExecutor
+
+from edits import Edit, edit_files, rounds_of
+from verdicts import Verdict, is_lost_name
+
+# How an edit ends. All but the first fail the run.
+REFUSED, LOST, NO_GOAL = "refused at a goal", "REFUSED ONLY BY A LOST NAME", "REFUSED AT NO GOAL"
+THROUGH, UNREAD, UNTOLD = "GOT THROUGH", "DOES NOT READ", "COULD NOT BE JUDGED"
+ENDS = (REFUSED, LOST, NO_GOAL, THROUGH, UNREAD, UNTOLD)
+
+# The most edits of a round, the bytes that a check is likely to take, and the seconds in which it
+# takes them.
+ROUND, CHECK_BYTES, GROWTH = 200, 2_000_000_000, 20
+
+
+class Slots:
+    """Lets checks begin: at most `most` at a time, and each only if there is memory for it.
+
+    Memory that is kept free is for other programs. If none is, the first check needs none free.
+    """
+
+    def __init__(self, rt, most, kept_free=0):
+        self.rt, self.most, self.kept_free = rt, most, kept_free
+        # When each check that runs began.
+        self.begun, self.changed = [], threading.Condition()
+
+    def has_room(self):
+        if not self.begun and not self.kept_free:
+            return True
+        young = sum(time.time() - it < GROWTH for it in self.begun)
+        needed = self.kept_free + (young + 2) * CHECK_BYTES
+        return len(self.begun) < self.most and self.rt.free() > needed
+
+    def __enter__(self):
+        with self.changed:
+            # what other programs leave of the memory changes without a notice
+            while not self.has_room():
+                self.changed.wait(1)
+            self.begun.append(time.time())
+
+    def __exit__(self, *_):
+        with self.changed:
+            # which of them ended makes no difference: the oldest takes no more memory
+            self.begun.pop(0)
+            self.changed.notify_all()
+
+
+class Trial:
+    """The edits of one crate, and how each ended."""
+
+    def __init__(self, rt, crate, room, slots, how):
+        self.rt, self.crate, self.room, self.slots = rt, crate, room, slots
+        self.is_after_ci = how.is_after_ci
+        self.kept = f"{room}/{crate.name}"
+        edits = (Edit(rt, crate, it) for it in edit_files(crate, how.folders))
+        below = f"{crate.name}/{how.below}"
+        self.edits = [it for it in edits if f"{it.label}/".startswith(below)]
+        # By label: how an edit ended, and where.
+        self.ends = {}
+        self.checks, self.printing = 0, threading.Lock()
+
+    def copy_kept(self):
+        """Copies what the crate's own checks kept, so that nothing is written there."""
+        kept = f"{self.crate.folder}/out/incremental"
+        if os.path.isdir(kept):
+            shutil.copytree(kept, self.kept)
+        else:
+            os.makedirs(self.kept)
+
+    def read(self, path):
+        with open(f"{self.crate.folder}/{path}", encoding="utf-8") as it:
+            return it.read()
+
+    def say(self, text):
+        with self.printing:
+            print(text, flush=True)
+
+    def end(self, edit, how, where):
+        self.ends[edit.label] = how, where
+        self.say(f"{edit.label}: {how}{': ' + where if where else ''}")
+
+    def check(self, texts, kept, flags, jobs=1):
+        self.checks += 1
+        return Verdict(self.rt.checked(self.crate, texts, ["--jobs", str(jobs), *flags], kept))
+
+    def check_over_copy(self, texts, *flags):
+        """Checks the crate with these texts, over its own copy of the kept work."""
+        with self.slots, tempfile.TemporaryDirectory(prefix="kept-", dir=self.room) as kept:
+            shutil.copytree(self.kept, kept, dirs_exist_ok=True)
+            return self.check(texts, kept, flags)
+
+    def check_and_keep(self, texts, *flags):
+        """Checks the crate with these texts, which brings the kept work up to date.
+
+        No other check may run beside it, so it takes two processors.
+        """
+        with self.slots:
+            return self.check(texts, self.kept, flags, jobs=2)
+
+    def run(self):
+        """Tries all edits."""
+        for edit in self.edits:
+            if edit.fault:
+                self.end(edit, UNREAD, edit.fault)
+        edits = [it for it in self.edits if not it.fault]
+        if not edits:
+            return
+        alone = [it for it in edits if not it.function]
+        rounds = rounds_of([it for it in edits if it.function], ROUND, self.read)
+        said = f"{len(edits)} edits: {len(rounds)} rounds, and {len(alone)} alone"
+        self.say(f"{self.crate.name}: {said}")
+        in_first = rounds.pop(0) if self.is_after_ci and rounds else []
+        # what no round is to use is not proved
+        flags = self.flags_for(edits) if in_first else []
+        first, left = self.first_round(in_first, *flags)
+        if not first.judges() or not self.is_after_ci and not first.is_proved():
+            why = f"not proved without any edit, so none is tried: {first.lines[-1]}"
+            self.say(f"{self.crate.name}: {why}")
+            return
+        for edit in edits:
+            if edit.function and edit.function not in first.functions:
+                self.end(edit, UNREAD, f"there is no function {edit.function}")
+        left = [it for it in alone + left if it.label not in self.ends]
+        self.try_rounds(rounds, left)
+
+    def try_rounds(self, rounds, left):
+        """Tries the edits of rounds that have not ended, and then alone what these leave open."""
+        ended = {it.label for it in left} | set(self.ends)
+        rounds = [[it for it in each if it.label not in ended] for each in rounds]
+        if self.is_after_ci and rounds:
+            left = left + self.try_round(rounds.pop(0), self.check_and_keep)
+        # more tasks than slots are no harm: a check waits for its slot
+        with ThreadPoolExecutor(8) as pool:
+            left = left + [edit for it in pool.map(self.try_round, rounds) for edit in it]
+            list(pool.map(self.try_alone, left))
+
+    def first_round(self, edits, *flags):
+        """Checks the crate with these edits, which brings the kept work up to date.
+
+        Returns the verdict, and the edits that it leaves open.
+        """
+        texts, left = self.together(edits)
+        made = [it for it in edits if it not in left]
+        verdict = self.check_and_keep(texts, *flags)
+        if made and not verdict.judges():
+            bad = self.uncompilable(made)
+            if bad:
+                good = [it for it in made if it not in bad]
+                verdict, more = self.first_round(good, *flags)
+                return verdict, bad + left + more
+        return verdict, left + self.end_refused(made, verdict)
+
+    def end_refused(self, edits, verdict):
+        """Ends the edits that a round refuses, and returns the others."""
+        left = []
+        for edit in edits:
+            where = self.refusal(edit, verdict)
+            if where:
+                self.end(edit, REFUSED, where)
+            else:
+                left.append(edit)
+        return left
+
+    def flags_for(self, edits):
+        """Returns the flags that ask for the functions of these edits alone.
+
+        There are none if an edit names no function.
+        """
+        names = {it.function for it in edits}
+        if None in names:
+            return []
+        return [word for it in sorted(names) for word in ("--only", it.partition("::")[2])]
+
+    def together(self, edits):
+        """Returns the texts with these edits, and those that can't be made beside the others."""
+        texts, left = {}, []
+        for edit in edits:
+            more = edit.applied(texts, self.read)
+            if more is None:
+                left.append(edit)
+            else:
+                texts = more
+        return texts, left
+
+    def try_round(self, edits, check=None):
+        """Tries edits in one check, and returns those that it leaves open.
+
+        It goes over a copy of the kept work, unless another check is given.
+        """
+        texts, left = self.together(edits)
+        made = [it for it in edits if it not in left]
+        if len(made) < 2:
+            return edits
+        verdict = (check or self.check_over_copy)(texts, *self.flags_for(made))
+        if verdict.judges():
+            return left + self.end_refused(made, verdict)
+        bad = self.uncompilable(made)
+        if not bad:
+            return edits
+        return bad + left + self.try_round([it for it in made if it not in bad], check)
+
+    def uncompilable(self, edits):
+        """Finds by halves the edits that do not compile.
+
+        That takes seconds, since no proof is asked for.
+        """
+        if self.check_over_copy(self.together(edits)[0], "--only", "").compiles():
+            return []
+        if len(edits) == 1:
+            return edits
+        middle = len(edits) // 2
+        return self.uncompilable(edits[:middle]) + self.uncompilable(edits[middle:])
+
+    def refusal(self, edit, verdict):
+        """Returns the goal that refuses the edit: of its function, or of any if it names none."""
+        for name in [edit.function] if edit.function else verdict.functions:
+            goals = verdict.goals_of(name)
+            if goals:
+                return f"`{goals[0]}` of {name}"
+        others = [] if edit.function else [it for it in verdict.errors() if not is_lost_name(it[2])]
+        return f"`{others[0][1]}` in {others[0][0]}" if others else None
+
+    def try_alone(self, edit):
+        """Tries one edit over the whole crate."""
+        verdict = self.check_over_copy(edit.texts, *self.flags_for([edit]))
+        self.end(edit, *self.judged(edit, verdict))
+
+    def judged(self, edit, verdict):
+        """Returns how an edit that was tried alone ended, and where."""
+        if verdict.is_proved():
+            return THROUGH, ""
+        unread = next((it for it in verdict.lines if self.rt.unread(it, edit.texts)), None)
+        if unread or verdict.status == 1 and not verdict.is_refused():
+            errors = (it for it in verdict.lines if ": error" in it)
+            return UNREAD, (unread or next(errors, verdict.lines[0]))[:200]
+        if not verdict.is_refused():
+            return UNTOLD, verdict.lines[-1][:200]
+        where = self.refusal(edit, verdict)
+        if where:
+            return REFUSED, where
+        lost = [it for it in verdict.errors() if is_lost_name(it[2])]
+        if lost:
+            return LOST, f"{lost[0][0]}: {lost[0][2][:150]}"
+        # as when the borrow checker does not cover the edited body
+        functions = verdict.functions.items()
+        others = (f"{name}: {it}" for name, it in functions if it != "proved")
+        return NO_GOAL, next(others, verdict.lines[-1])[:300]
