@@ -190,18 +190,19 @@ Rows are hidden until the delay has passed, and messages are not.
   \x1b[2K\r (no-eol) (esc)
 
 Of 200,000 items that are added and dropped one after another below one item none takes the row of
-one that stays.
+one that stays. The names that stay are of one length, since a frame aligns bars with those of the
+frame before it.
 
   $ {
   >   printf 'add @task 0 task\nadd @first @task first\ninit @first 3 -\n'
   >   yes 'add @part @task part
   > drop @part' | head -n 400000
-  >   printf 'add @last @task last\ninit @last 3 -\nset @last 2\n'
+  >   printf 'add @final @task final\ninit @final 3 -\nset @final 2\n'
   > } | until_shown 2/3 prodash-live --no-color --columns 40 --terminal always 2>frames
   $ tail -n 7 frames | head -n 3 | sed 's/^.\[.*A//; s/ *$//'
    task
     first 0/3 [>-------------------------]
-    last  2/3 [================>---------]
+    final 2/3 [================>---------]
 
 Frames per second
 ==================
