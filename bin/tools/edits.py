@@ -1,8 +1,10 @@
 """Edits of a crate, and how they are put together to rounds."""
-import collections
+import difflib
 import glob
+import itertools
 import os
-import re
+
+import functions
 
 # Where edits are: those that `rt ci` tries one by one, and the others.
 FOLDERS = ("must-fail", "edits")
@@ -16,60 +18,116 @@ class Edit:
         # The folders below edits/ name the function that must be refused, as those of proofs/ do.
         # An edit of must-fail/ names none.
         modules = folder.split(os.sep)[1:]
+        self.crate, self.names = crate, modules
         self.function = "::".join([crate.name, *modules]) if modules else None
         self.label = "/".join([crate.name, *modules, name.removesuffix(".edit")])
         # The changed files by their paths, or why `rt` can't apply the edit.
         self.texts, self.fault = rt.read_edit(file, crate.folder)
-        self.steps = list(steps_in(file)) if not self.fault else []
+        # The name of the copy of its function that it changes, or None if it changes the function.
+        self.copy = None
 
-    def applied(self, texts, read):
-        """Returns the texts with this edit made too.
+    def tried_as(self):
+        """Returns the function that a round asks for."""
+        return "::".join([self.crate.name, *self.names[:-1], self.copy or self.names[-1]])
 
-        Returns None if an `old:` text isn't there exactly once.
+    def replacements(self, read):
+        """Returns path, begin, end and new text of each replacement, in the texts as they are.
+
+        Returns None if the edit can't be made in a copy and has to be.
         """
-        texts = dict(texts)
-        for path, old, new in self.steps:
-            text = texts[path] if path in texts else read(path)
-            if text.count(old) != 1:
-                return None
-            texts[path] = text.replace(old, new)
-        return texts
+        found = [(path, *it) for path, new in self.texts.items() for it in changes(read(path), new)]
+        return self.in_copy(found, read) if self.copy else found
+
+    def in_copy(self, found, read):
+        """Returns the insertion of a copy of the function that has these replacements, and the
+        files with the proofs that are kept for it.
+
+        Returns None if they are not all in the function, or if that is a trait's.
+        """
+        path, name = found[0][0], self.names[-1]
+        text = read(path)
+        span = functions.span(text, name, found[0][1])
+        if not span or any(it[0] != path or it[1] < span[0] or it[2] > span[1] for it in found):
+            return None
+        inside = [(begin - span[0], end - span[0], new) for _, begin, end, new in found]
+        wrong = replaced(text[span[0] : span[1]], inside)
+        inserted = "\n\n" + functions.renamed(wrong, name, self.copy)
+        proofs = functions.proofs_of(self.crate.folder, self.names, self.copy)
+        return [(path, span[1], span[1], inserted), *((it, 0, 0, new) for it, new in proofs)]
 
 
-def steps_in(file):
-    """Yields path, old and new text of each replacement of an edit."""
-    path, old = "", ""
-    with open(file, encoding="utf-8") as it:
-        for line in it.read().split("\n"):
-            if line.startswith("file: "):
-                path = line[len("file: ") :].strip()
-            elif line.startswith("old: "):
-                old = line[len("old: ") :]
-            elif line.startswith("new:"):
-                yield path, old, re.sub(r"\A ", "", line[len("new:") :])
+def changes(old, new):
+    """Yields begin, end and new text of each part of a text that is another in the new one."""
+    before, after = old.splitlines(keepends=True), new.splitlines(keepends=True)
+    places = [0, *itertools.accumulate(map(len, before))]
+    matcher = difflib.SequenceMatcher(None, before, after, autojunk=False)
+    for kind, begin, end, new_begin, new_end in matcher.get_opcodes():
+        if kind != "equal":
+            yield places[begin], places[end], "".join(after[new_begin:new_end])
+
+
+def replaced(text, replacements):
+    """Returns a text with replacements made, or None if two of them overlap."""
+    parts, at = [], 0
+    for begin, end, new in sorted(replacements, key=lambda it: it[:2]):
+        if begin < at:
+            return None
+        parts += [text[at:begin], new]
+        at = end
+    return "".join([*parts, text[at:]])
+
+
+class Round:
+    """Edits that can be made side by side, and the texts with all of them by their paths."""
+
+    def __init__(self, read):
+        self.read, self.edits, self.texts = read, [], {}
+        # By path: the replacements in the text as it is.
+        self.made = {}
+
+    def add(self, edit):
+        """Makes an edit too, and returns whether it can be made beside the others."""
+        more = edit.replacements(self.read)
+        made = {path: list(self.made.get(path, [])) for path, *_ in more or []}
+        for path, *replacement in more or []:
+            made[path].append(tuple(replacement))
+        texts = {path: replaced(self.read(path), it) for path, it in made.items()}
+        if not texts or None in texts.values():
+            return False
+        self.edits.append(edit)
+        self.made.update(made)
+        self.texts.update(texts)
+        return True
+
+
+def together(edits, read):
+    """Returns the texts with these edits, and those that can't be made beside the others."""
+    made = Round(read)
+    left = [it for it in edits if not made.add(it)]
+    return made.texts, left
 
 
 def rounds_of(edits, most, read):
-    """Puts edits of different functions together that can be made side by side, at most `most`.
+    """Puts edits together that can be made side by side, at most `most`.
 
-    The first round has as many edits as it can.
+    A round has one edit in each function, and the others in copies of it. Edits of a function that
+    can't be copied are in rounds of their own.
     """
-    rivals = collections.Counter(it.function for it in edits)
-    # Of each round: its edits, and the texts with them.
     rounds = []
-    for edit in sorted(edits, key=lambda it: rivals[it.function], reverse=True):
-        for it in rounds:
-            in_round, texts = it
-            if len(in_round) == most or any(other.function == edit.function for other in in_round):
-                continue
-            more = edit.applied(texts, read)
-            if more is not None:
-                in_round.append(edit)
-                it[1] = more
-                break
-        else:
-            rounds.append([[edit], edit.applied({}, read) or {}])
-    return [in_round for in_round, _ in rounds]
+    for edit in edits:
+        if not any(len(it.edits) < most and fits(edit, it) for it in rounds):
+            rounds.append(Round(read))
+            if not fits(edit, rounds[-1]):
+                # it changes nothing
+                rounds[-1].edits.append(edit)
+    return [it.edits for it in rounds]
+
+
+def fits(edit, it):
+    """Makes an edit in a round, in a copy if there are rivals, and returns whether it can be."""
+    rivals = sum(other.function == edit.function for other in it.edits)
+    edit.copy = f"{edit.names[-1]}_edited_{rivals}" if rivals else None
+    return it.add(edit)
 
 
 def edit_files(crate, folders):

@@ -3,7 +3,9 @@ import importlib.machinery
 import importlib.util
 import os
 import shutil
+import subprocess
 import sys
+import tempfile
 
 TOP = os.path.dirname(os.path.dirname(os.path.dirname(os.path.realpath(__file__))))
 
@@ -26,3 +28,22 @@ def crates(rt, top, names=()):
     if unknown:
         sys.exit(f"there is no crate {' '.join(sorted(unknown))}")
     return [it for it in found if not names or it.name in names]
+
+
+def checked(rt, crate, texts, flags, kept):
+    """Checks a copy of a crate with these texts by their paths, over what was kept in a folder.
+
+    Returns the run, as the function of this name of `rt` does. The texts may be of new files.
+    """
+    lib = rt.rtlib
+    with tempfile.TemporaryDirectory(prefix="checked-") as room:
+        for part in lib.PARTS:
+            if os.path.isdir(f"{crate.folder}/{part}"):
+                shutil.copytree(f"{crate.folder}/{part}", f"{room}/{part}")
+        for path, text in texts.items():
+            os.makedirs(os.path.dirname(f"{room}/{path}"), exist_ok=True)
+            with open(f"{room}/{path}", "w", encoding="utf-8") as it:
+                it.write(text)
+        words = [lib.RATTLE, "check", *crate.words(flags, keeps=False), "--incremental", kept]
+        how = {"stdin": subprocess.DEVNULL, "stdout": subprocess.PIPE, "stderr": subprocess.STDOUT}
+        return subprocess.run([*lib.guarded(), *words], cwd=room, errors="replace", **how)

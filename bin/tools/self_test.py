@@ -46,6 +46,8 @@ LEAST = "lesser(lesser(x, y), z)"
 EDITS = {
     "must-fail/changes_nothing": ("    x", "    { x }", THROUGH, ""),
     "edits/lesser/wrong_body": ("x < y", "y < x", REFUSED, "small::lesser"),
+    "edits/lesser/wrong_body_of_a_copy": ("{ x } else { y }", "{ y } else { x }", REFUSED, "lesser"),
+    "edits/lesser/right_body_of_a_copy": ("x < y", "x <= y", THROUGH, ""),
     "edits/least/caller_as_before": (f"    {LEAST}", f"    {{ {LEAST} }}", THROUGH, ""),
     "edits/least/wrong_caller": (LEAST, "lesser(lesser(x, y), y)", REFUSED, "small::least"),
     "edits/zero/names_nothing": ("absent", "x", UNREAD, "0 times"),
@@ -58,6 +60,8 @@ EDITS = {
 AFTER_CI = (
     "must-fail/changes_nothing",
     "edits/lesser/wrong_body",
+    "edits/lesser/wrong_body_of_a_copy",
+    "edits/lesser/right_body_of_a_copy",
     "edits/least/wrong_caller",
     "edits/zero/names_nothing",
 )

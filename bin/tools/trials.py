@@ -6,7 +6,8 @@ import threading
 import time
 from concurrent.futures import ThreadPoolExecutor
 
-from edits import Edit, edit_files, rounds_of
+import kit
+from edits import Edit, edit_files, rounds_of, together
 from verdicts import Verdict, is_lost_name
 
 # How an edit ends. All but the first fail the run.
@@ -74,8 +75,12 @@ class Trial:
             os.makedirs(self.kept)
 
     def read(self, path):
-        with open(f"{self.crate.folder}/{path}", encoding="utf-8") as it:
-            return it.read()
+        """Returns the text of a file, which is empty if it isn't there."""
+        try:
+            with open(f"{self.crate.folder}/{path}", encoding="utf-8") as it:
+                return it.read()
+        except FileNotFoundError:
+            return ""
 
     def say(self, text):
         with self.printing:
@@ -85,9 +90,11 @@ class Trial:
         self.ends[edit.label] = how, where
         self.say(f"{edit.label}: {how}{': ' + where if where else ''}")
 
-    def check(self, texts, kept, flags, jobs=1):
+    def check(self, texts, kept, flags):
+        """Checks the crate with these texts. Of more than one function it takes two processors."""
         self.checks += 1
-        return Verdict(self.rt.checked(self.crate, texts, ["--jobs", str(jobs), *flags], kept))
+        words = ["--jobs", "1" if len(flags) == 2 else "2", *flags]
+        return Verdict(kit.checked(self.rt, self.crate, texts, words, kept))
 
     def check_over_copy(self, texts, *flags):
         """Checks the crate with these texts, over its own copy of the kept work."""
@@ -98,10 +105,10 @@ class Trial:
     def check_and_keep(self, texts, *flags):
         """Checks the crate with these texts, which brings the kept work up to date.
 
-        No other check may run beside it, so it takes two processors.
+        No other check of the crate may run beside it.
         """
         with self.slots:
-            return self.check(texts, self.kept, flags, jobs=2)
+            return self.check(texts, self.kept, flags)
 
     def run(self):
         """Tries all edits."""
@@ -117,7 +124,7 @@ class Trial:
         self.say(f"{self.crate.name}: {said}")
         in_first = rounds.pop(0) if self.is_after_ci and rounds else []
         # what no round is to use is not proved
-        flags = self.flags_for(edits) if in_first else []
+        flags = self.flags_for(edits, in_first) if in_first else []
         first, left = self.first_round(in_first, *flags)
         if not first.judges() or not self.is_after_ci and not first.is_proved():
             why = f"not proved without any edit, so none is tried: {first.lines[-1]}"
@@ -145,7 +152,7 @@ class Trial:
 
         Returns the verdict, and the edits that it leaves open.
         """
-        texts, left = self.together(edits)
+        texts, left = together(edits, self.read)
         made = [it for it in edits if it not in left]
         verdict = self.check_and_keep(texts, *flags)
         if made and not verdict.judges():
@@ -160,44 +167,33 @@ class Trial:
         """Ends the edits that a round refuses, and returns the others."""
         left = []
         for edit in edits:
-            where = self.refusal(edit, verdict)
+            where = self.refusal(edit, verdict, edit.tried_as())
             if where:
                 self.end(edit, REFUSED, where)
             else:
                 left.append(edit)
         return left
 
-    def flags_for(self, edits):
-        """Returns the flags that ask for the functions of these edits alone.
+    def flags_for(self, edits, in_round=()):
+        """Returns the flags that ask for the functions of these edits, and their copies in a round.
 
         There are none if an edit names no function.
         """
-        names = {it.function for it in edits}
+        names = {it.function for it in edits} | {it.tried_as() for it in in_round}
         if None in names:
             return []
         return [word for it in sorted(names) for word in ("--only", it.partition("::")[2])]
-
-    def together(self, edits):
-        """Returns the texts with these edits, and those that can't be made beside the others."""
-        texts, left = {}, []
-        for edit in edits:
-            more = edit.applied(texts, self.read)
-            if more is None:
-                left.append(edit)
-            else:
-                texts = more
-        return texts, left
 
     def try_round(self, edits, check=None):
         """Tries edits in one check, and returns those that it leaves open.
 
         It goes over a copy of the kept work, unless another check is given.
         """
-        texts, left = self.together(edits)
+        texts, left = together(edits, self.read)
         made = [it for it in edits if it not in left]
         if len(made) < 2:
             return edits
-        verdict = (check or self.check_over_copy)(texts, *self.flags_for(made))
+        verdict = (check or self.check_over_copy)(texts, *self.flags_for(made, made))
         if verdict.judges():
             return left + self.end_refused(made, verdict)
         bad = self.uncompilable(made)
@@ -210,19 +206,19 @@ class Trial:
 
         That takes seconds, since no proof is asked for.
         """
-        if self.check_over_copy(self.together(edits)[0], "--only", "").compiles():
+        if self.check_over_copy(together(edits, self.read)[0], "--only", "").compiles():
             return []
         if len(edits) == 1:
             return edits
         middle = len(edits) // 2
         return self.uncompilable(edits[:middle]) + self.uncompilable(edits[middle:])
 
-    def refusal(self, edit, verdict):
+    def refusal(self, edit, verdict, tried_as):
         """Returns the goal that refuses the edit: of its function, or of any if it names none."""
-        for name in [edit.function] if edit.function else verdict.functions:
+        for name in [tried_as] if tried_as else verdict.functions:
             goals = verdict.goals_of(name)
             if goals:
-                return f"`{goals[0]}` of {name}"
+                return f"`{goals[0]}` of {edit.function or name}"
         others = [] if edit.function else [it for it in verdict.errors() if not is_lost_name(it[2])]
         return f"`{others[0][1]}` in {others[0][0]}" if others else None
 
@@ -241,7 +237,7 @@ class Trial:
             return UNREAD, (unread or next(errors, verdict.lines[0]))[:200]
         if not verdict.is_refused():
             return UNTOLD, verdict.lines[-1][:200]
-        where = self.refusal(edit, verdict)
+        where = self.refusal(edit, verdict, edit.function)
         if where:
             return REFUSED, where
         lost = [it for it in verdict.errors() if is_lost_name(it[2])]
