@@ -36,7 +36,7 @@ def checked(rt, crate, texts, flags, kept):
     Returns the run, as the function of this name of `rt` does. The texts may be of new files.
     """
     lib = rt.rtlib
-    with tempfile.TemporaryDirectory(prefix="checked-") as room:
+    with tempfile.TemporaryDirectory(prefix="rt-edit-") as room:
         for part in lib.PARTS:
             if os.path.isdir(f"{crate.folder}/{part}"):
                 shutil.copytree(f"{crate.folder}/{part}", f"{room}/{part}")
