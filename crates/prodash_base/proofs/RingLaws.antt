@@ -1,5 +1,5 @@
 -- The messages of a ring as the last of all that were ever pushed.
-use Rattle.std.proofs.Common.{◌≡◌, ℕ, ◌+◌, ◌-◌, min, List, [], ◌∷◌, ◌++◌, length, drop, Some, refl, ap, sym, ◌∙◌, arith, ◌≤◌, ◌<◌, Bool, true, false, append_assoc, length-append, length-drop}
+use Rattle.std.proofs.Common.{◌≡◌, ℕ, ◌+◌, ◌-◌, List, [], ◌∷◌, ◌++◌, length, drop, Some, refl, ap, sym, ◌∙◌, arith, ◌≤◌, ◌<◌, true, false, append_assoc, length-append, length-drop}
 use Rattle.std.specs.Prelude.{fold, nat_le}
 use Rattle.std.proofs.lemmas.List.{append-nil, drop-drop, drop-append-le, drop_at}
 use Rattle.std.proofs.lemmas.Bool.Decides.{nat_tests}

@@ -1,5 +1,5 @@
 -- Rings of messages: the latest of all messages that were ever pushed.
-use Rattle.std.specs.Prelude.{◌≡◌, ℕ, Bool, nat_eq, ◌+◌, ◌-◌, ◌^◌, List, [], ◌∷◌, ◌++◌, length, Option, Some, None}
+use Rattle.std.specs.Prelude.{ℕ, Bool, nat_eq, ◌+◌, ◌-◌, ◌^◌, List, [], ◌∷◌, ◌++◌, length, Option, Some, None}
 pub use Rattle.circular_buffer.specs.Buffer.{keep_last}
 use Rattle.prodash_base.specs.declared.messages.Message.{Message}
 

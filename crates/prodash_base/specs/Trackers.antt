@@ -1,5 +1,5 @@
 -- Trackers of throughput: what is observed at each path, and what a call makes of it.
-use Rattle.std.specs.Prelude.{◌≡◌, ℕ, ◌-◌, ◌∷◌, [], List, Bool, nat_eq, nat_lt, Option, Some, None, if◌then◌else◌, unwrap_or, Contains}
+use Rattle.std.specs.Prelude.{◌≡◌, ℕ, ◌-◌, ◌∷◌, [], List, Bool, nat_lt, Option, Some, None, if◌then◌else◌, unwrap_or, Contains}
 use Rattle.std.specs.List.{list_any}
 use Rattle.std.specs.Map.{keys_of}
 use Rattle.std.specs.Option.{option_map}

@@ -1,19 +1,16 @@
 -- What holds of each event: the messages that it pushes, that its reply is no refusal and owns memory only if it reads, and what the tree refuses.
-use Rattle.std.proofs.Common.{◌≡◌, ◌≢◌, ℕ, ◌∷◌, [], List, refl, Bool, true, false, cond, Ok, Err, Option, Some, None}
+use Rattle.std.proofs.Common.{rules, ◌≡◌, ◌≢◌, ℕ, ◌∷◌, [], List, refl, Bool, true, false, cond, Ok, Err, Option, Some, None}
 use Rattle.std.specs.Prelude.{fold}
 use Rattle.prodash_base.specs.Rings.{push, is_push_limit_reached}
-use Rattle.prodash_base.specs.declared.unit.units.Unit.{Unit}
 use Rattle.prodash_base.specs.declared.refusal.Refusal.TheVariants as refusals
 use Rattle.prodash_base.specs.declared.messages.Message.{Message as Said}
 use Rattle.prodash_base.specs.declared.messages.MessageLevel.{MessageLevel}
-use Rattle.prodash_core.specs.Tables.{TaskEntry}
 use Rattle.prodash_core.specs.declared.tree.slot.Slot.{Slot}
-use Rattle.prodash_core.specs.Trees.{Tree, Played, Effect, OnTree, OnRenderer, play, slot_at, item_at, for_slot, init_at, message_by, push_message}
+use Rattle.prodash_core.specs.Trees.{Tree, Played, Effect, OnTree, OnRenderer, play, for_slot, message_by, push_message}
 use Rattle.prodash_core.specs.Replies.{owns_memory}
 use Rattle.prodash_core.specs.Sessions.{is_memory}
 use Rattle.prodash_core.specs.Runs.{is_done, said_for, said_by}
 use Rattle.prodash_core.specs.declared.tree.event.Event.{Event}
-use Rattle.prodash_core.specs.declared.tree.event.Event.TheVariants as events
 use Rattle.prodash_core.specs.declared.tree.event.Reply.{Reply}
 use Rattle.prodash_core.specs.declared.tree.event.Reply.TheVariants as replies
 
@@ -37,10 +34,6 @@ for_each : (t : Tree) (said : List Said) (o : Option Slot) (f : Slot → Played)
 for_each t said None f h = λ same. cc
 for_each t said (Some slot) f h = h slot
 
-init_keeps : (t : Tree) (n : ℕ) (slot : Slot) (max : Option ℕ) (unit : Option Unit) (o : Option (TaskEntry ℕ)) → (init_at t n slot max unit o).ring ≡ t.ring
-init_keeps t n slot max unit None = refl
-init_keeps t n slot max unit (Some e) = refl
-
 pushes : (t : Tree) (m : Said) (b : Bool) → PlayedLaws t (m ∷ []) (cond b (Err refusals.TooManyMessages) (Ok (record t { ring = push t.ring m }, replies.Done)))
 pushes t m true = λ same. cc
 pushes t m false = record { ring = refl; replied = refl; reads = λ h. cc }
@@ -52,27 +45,4 @@ message_laws t at level text (Some slot) = pushes t (message_by t slot at level 
 
 -- the laws of each event
 pub play_laws : (t : Tree) (e : Event) → EffectLaws t (said_by t e) (play t e)
-play_laws t (events.AddChild parent name id) = for_each t [] (slot_at t parent) _ (λ _. record { ring = refl; replied = refl; reads = λ h. cc })
-play_laws t (events.Drop n) = for_each t [] (item_at t n) _ (λ _. record { ring = refl; replied = refl; reads = λ h. cc })
-play_laws t (events.Init n max unit) = for_each t [] (item_at t n) _ (λ slot. record { ring = init_keeps t n slot max unit _; replied = refl; reads = λ h. cc })
-play_laws t (events.SetName n name) = for_each t [] (item_at t n) _ (λ _. record { ring = refl; replied = refl; reads = λ h. cc })
-play_laws t (events.SetMax n max) = for_each t [] (item_at t n) _ (λ _. record { ring = refl; replied = refl; reads = λ h. cc })
-play_laws t (events.Set n step) = for_each t [] (item_at t n) _ (λ _. record { ring = refl; replied = refl; reads = λ h. cc })
-play_laws t (events.IncBy n step) = for_each t [] (item_at t n) _ (λ _. record { ring = refl; replied = refl; reads = λ h. cc })
-play_laws t (events.Blocked n reason eta) = for_each t [] (item_at t n) _ (λ _. record { ring = refl; replied = refl; reads = λ h. cc })
-play_laws t (events.Halted n reason eta) = for_each t [] (item_at t n) _ (λ _. record { ring = refl; replied = refl; reads = λ h. cc })
-play_laws t (events.Running n) = for_each t [] (item_at t n) _ (λ _. record { ring = refl; replied = refl; reads = λ h. cc })
-play_laws t (events.Message n at level text) = message_laws t at level text (item_at t n)
-play_laws t (events.Name n) = for_each t [] (item_at t n) _ (λ _. record { ring = refl; replied = refl; reads = λ h. cc })
-play_laws t (events.Id n) = for_each t [] (item_at t n) _ (λ _. record { ring = refl; replied = refl; reads = λ h. cc })
-play_laws t (events.Step n) = for_each t [] (item_at t n) _ (λ _. record { ring = refl; replied = refl; reads = λ h. cc })
-play_laws t (events.Max n) = for_each t [] (item_at t n) _ (λ _. record { ring = refl; replied = refl; reads = λ h. cc })
-play_laws t (events.Unit n) = for_each t [] (item_at t n) _ (λ _. record { ring = refl; replied = refl; reads = λ h. cc })
-play_laws t events.NumTasks = for_each t [] (slot_at t 0) _ (λ _. record { ring = refl; replied = refl; reads = λ h. cc })
-play_laws t events.Snapshot = for_each t [] (slot_at t 0) _ (λ _. record { ring = refl; replied = refl; reads = λ h. cc })
-play_laws t events.CopyMessages = for_each t [] (slot_at t 0) _ (λ _. record { ring = refl; replied = refl; reads = λ h. cc })
-play_laws t (events.CopyNew previous) = for_each t [] (slot_at t 0) _ (λ _. record { ring = refl; replied = refl; reads = λ h. cc })
-play_laws t events.DropRoot = for_each t [] (slot_at t 0) _ (λ _. record { ring = refl; replied = refl; reads = λ h. cc })
-play_laws t (events.Tick at show) = refl
-play_laws t (events.Resize at show columns rows) = refl
-play_laws t (events.Quit at) = refl
+play_laws t e = search (rules, for_each, message_laws)

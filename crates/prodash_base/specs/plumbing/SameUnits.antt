@@ -1,33 +1,18 @@
 -- The tests of equality of units and their parts are true exactly of equal values.
-use Rattle.std.proofs.Common.{◌≡◌, Bool, true, false, nat_eq, refl, ap}
+use Rattle.std.proofs.Common.{rules, ◌≡◌, Bool, true, false, refl}
 use Rattle.std.specs.Bool.{beq}
-use Rattle.prodash_base.specs.Numbers.{same_numbers}
-use Rattle.prodash_base.specs.Kinds.{Quantity, Label, Bytes, Duration, Human, Range, same_quantity}
+use Rattle.prodash_base.specs.Kinds.{Quantity, same_quantity}
 use Rattle.prodash_base.specs.Displays.{same_location}
 use Rattle.prodash_base.specs.Units.{same_mode, same_measure}
 use Rattle.prodash_base.specs.declared.unit.display.Location.{Location}
 use Rattle.prodash_base.specs.declared.unit.display.Location.TheVariants.{BeforeValue, AfterUnit}
-use Rattle.prodash_base.specs.plumbing.EqualityTests.{IsEqualityTest, same_pair, sound, itself, by_cases, numbers, texts, options, pairs, by_parts}
-
--- a name, with a number of decimals
-named : IsEqualityTest (same_pair (same_numbers) nat_eq)
-named = pairs texts numbers
+use Rattle.prodash_base.specs.plumbing.EqualityTests.{IsEqualityTest, sound, itself, by_cases, numbers, texts, options, pairs, by_parts}
 
 quantity_sound : (a b : Quantity) → same_quantity a b ≡ true → a ≡ b
-quantity_sound (Label name) (Label other) h = ap Label (sound texts name other h)
-quantity_sound Bytes Bytes h = refl
-quantity_sound Duration Duration h = refl
-quantity_sound (Human decimals name) (Human places other) h =
-    λ i. let both = sound named (name, decimals) (other, places) h i in Human both.1 both.0
-quantity_sound (Range name) (Range other) h = ap Range (sound texts name other h)
-quantity_sound _ _ h = cc
+quantity_sound a b h = search (rules, h, sound texts, sound numbers)
 
 quantity_itself : (a : Quantity) → same_quantity a a ≡ true
-quantity_itself (Label name) = itself texts name
-quantity_itself Bytes = refl
-quantity_itself Duration = refl
-quantity_itself (Human decimals name) = itself named (name, decimals)
-quantity_itself (Range name) = itself texts name
+quantity_itself a = search (rules, itself texts, itself numbers)
 
 quantities : IsEqualityTest same_quantity
 quantities = by_cases quantity_sound quantity_itself
