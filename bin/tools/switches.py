@@ -7,8 +7,6 @@ import os
 import re
 import struct
 
-from edits import steps_in
-
 # The folder of these edits in a crate, and the kinds of clauses before a body.
 FOLDER = "test-edits"
 CLAUSE = re.compile(r"\b(?:ensures|requires|decreases)\s*\w*\s*\Z")
@@ -46,6 +44,19 @@ class TestEdit:
         self.tests = [word for line in named for word in line.split()]
         # Where its bodies are in the switched files, by path: their first and last lines.
         self.lines = {}
+
+
+def steps_in(file):
+    """Yields path, old and new text of each replacement of an edit."""
+    path, old = "", ""
+    with open(file, encoding="utf-8") as it:
+        for line in it.read().split("\n"):
+            if line.startswith("file: "):
+                path = line[len("file: ") :].strip()
+            elif line.startswith("old: "):
+                old = line[len("old: ") :]
+            elif line.startswith("new:"):
+                yield path, old, re.sub(r"\A ", "", line[len("new:") :])
 
 
 def blanked(text):
