@@ -1,3 +1,6 @@
+ghost use Rattle.std.specs.Prelude.{◌≡◌, option_map};
+ghost use Rattle.prodash_script.specs.Words.{lookup, plain_unit, units};
+
 use prodash_base::unit::display::Mode;
 use prodash_base::unit::human::Formatter;
 use prodash_base::unit::{
@@ -10,7 +13,9 @@ const WORDS: [&str; 9] = [
 ];
 
 /// Parses the word of a unit; `-` is no unit. Returns `None` if it is not such a word.
-pub fn unit_of(word: &str) -> Option<Option<Unit>> {
+pub fn unit_of(word: &str) -> Option<Option<Unit>>
+    ensures { option_map (option_map plain_unit) result ≡ lookup units word.now }
+{
     let percentage = Mode::with_percentage();
     let unit = match word {
         "-" => return Some(None),

@@ -1,3 +1,6 @@
+ghost use Rattle.std.specs.Prelude.{◌≡◌};
+ghost use Rattle.prodash_script.specs.Words.{is_number, number_of};
+
 use prodash_base::time::Moment;
 use prodash_core::tree::Handle;
 
@@ -25,9 +28,19 @@ impl Words for Numbers {
 }
 
 /// Parses a number of 1 to 20 decimal digits that fits in 64 bits.
-pub fn number(word: &str) -> Option<u64> {
-    if word.is_empty() || word.len() > 20 || !word.bytes().all(|b| b.is_ascii_digit()) {
-        return None;
+pub fn number(word: &str) -> Option<u64>
+    ensures { result ≡ number_of word.now }
+{
+    if is_number(word) {
+        word.parse::<u64>().ok()
+    } else {
+        None
     }
-    word.parse::<u64>().ok()
+}
+
+/// Returns whether a word is 1 to 20 decimal digits.
+fn is_number(word: &str) -> bool
+    ensures { result ≡ is_number word.now }
+{
+    !word.is_empty() && word.len() <= 20 && word.bytes().all(|b| b.is_ascii_digit())
 }
