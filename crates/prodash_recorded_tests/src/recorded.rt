@@ -130,6 +130,14 @@ pub(crate) struct Task {
 }
 
 impl Words for Task {
+    ghost use Rattle.std.specs.Prelude.{Some, bytes_eq, codes, if◌then◌else◌};
+    ghost use Rattle.prodash_script.specs.Requests.{moment_in};
+    ghost use Rattle.prodash_script.specs.Words.{number_of};
+
+    ghost handle_of = { λ task word. if bytes_eq word (codes "task") then Some task.item else number_of word };
+
+    ghost moment_of = { λ task. moment_in task.now };
+
     fn handle(&self, word: &str) -> Option<Handle> {
         if word == "task" {
             return Some(self.item);

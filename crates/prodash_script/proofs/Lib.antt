@@ -1,1 +1,2 @@
+mod NamedItems
 mod Numerals

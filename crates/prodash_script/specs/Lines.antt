@@ -1,13 +1,12 @@
 -- The lines of events.
-use Rattle.std.specs.Prelude.{◌≡◌, ℕ, List, [], ◌∷◌, ◌++◌, Bool, true, false, not, nat_eq, codes, string_bytes, Option, Some, None, Result, String, IsTrue, IfOk, IfSome, ⊤}
+use Rattle.std.specs.Prelude.{◌≡◌, ℕ, List, ◌++◌, Bool, true, false, not, nat_eq, codes, string_bytes, Option, Some, None, Result, String, IsTrue, IfOk, IfSome, ⊤}
 use Rattle.std.specs.List.{list_any}
 use Rattle.std.specs.Fmt.{decimal}
 use Rattle.prodash_base.specs.declared.messages.MessageLevel.{MessageLevel}
 use Rattle.prodash_base.specs.declared.messages.MessageLevel.TheVariants.{Info, Success, Failure}
 use Rattle.prodash_base.specs.Rows.{unknown_id}
 use Rattle.prodash_core.specs.declared.tree.event.Event.{Event}
-use Rattle.prodash_core.specs.declared.tree.event.Event.TheVariants.{AddChild, Drop, Init, SetName, SetMax, Set, IncBy, Blocked, Halted, Running, Message, Name, Id, Step, Max, NumTasks, Snapshot, CopyMessages, CopyNew, DropRoot, Tick, Resize, Quit}
-use Rattle.prodash_core.specs.declared.tree.event.Event.TheVariants as events
+use Rattle.prodash_core.specs.declared.tree.event.Event.TheVariants.{AddChild, Drop, Init, SetName, SetMax, Set, IncBy, Blocked, Halted, Running, Message, DropRoot, Tick, Resize, Quit}
 
 -- two texts with a space between them
 abbrev pub spaced : List ℕ → List ℕ → List ℕ

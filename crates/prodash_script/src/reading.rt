@@ -1,5 +1,7 @@
-ghost use Rattle.std.specs.Prelude.{IfOk, IfSome};
+ghost use Rattle.std.specs.Prelude.{◌≡◌, Some, true, IfOk, IfSome, option_map};
 ghost use Rattle.prodash_script.specs.Lines.{IsAddition};
+ghost use Rattle.prodash_script.specs.Reading.{Reads, add_of, alone, blocked_of, bound_of, drop_of, halted_of, inc_of, init_of, max_of, quit_of, resize_of, running_of, set_of, tick_of, cut_at_space, first_of, message_of, name_of, plain, read_by, read_line, small_of, then_read, without_text};
+ghost use Rattle.prodash_script.specs.Words.{number_of, ref_to};
 
 use crate::units::unit_of;
 use crate::words::{Numbers, Words, number};
@@ -23,7 +25,9 @@ pub const REASON: &str = "replay";
 /// # Errors
 ///
 /// `AllocError`, if there is no memory for the event.
-pub fn parse(alloc: Global, line: &str) -> Result<Option<Event>, AllocError> {
+pub fn parse(alloc: Global, line: &str) -> Result<Option<Event>, AllocError>
+    ensures { Reads result (read_line number_of number_of line.now) }
+{
     parse_with(alloc, &Numbers, line)
 }
 
@@ -37,8 +41,11 @@ pub fn parse_with<W: Words>(
     alloc: Global,
     words: &W,
     line: &str,
-) -> Result<Option<Event>, AllocError> {
-    let Some((word, rest)) = line.split_once(' ') else {
+) -> Result<Option<Event>, AllocError>
+    ensures { Reads result
+        (read_line (W.handle_of words.now) (W.moment_of words.now) line.now) }
+{
+    let Some((word, rest)) = cut(line) else {
         return Ok(alone(line));
     };
     match word {
@@ -52,7 +59,10 @@ pub fn parse_with<W: Words>(
 }
 
 /// Parses an event whose line has no text, and which takes no memory.
-fn without_text<W: Words>(words: &W, word: &str, rest: &str) -> Option<Event> {
+fn without_text<W: Words>(words: &W, word: &str, rest: &str) -> Option<Event>
+    ensures { let table = without_text (W.handle_of words.now) (W.moment_of words.now) in
+        option_map plain result ≡ read_by table word.now rest.now }
+{
     match word {
         "drop" => drop_item(words, rest),
         "init" => init(words, rest),
@@ -71,7 +81,9 @@ fn without_text<W: Words>(words: &W, word: &str, rest: &str) -> Option<Event> {
 }
 
 /// Parses an event that is a single word.
-fn alone(word: &str) -> Option<Event> {
+fn alone(word: &str) -> Option<Event>
+    ensures { option_map plain result ≡ alone word.now }
+{
     match word {
         "droproot" => Some(Event::DropRoot),
         _ => None,
@@ -79,16 +91,30 @@ fn alone(word: &str) -> Option<Event> {
 }
 
 /// Parses a bound: a number, or `-` for none.
-fn bound(word: &str) -> Option<Option<Step>> {
+fn bound(word: &str) -> Option<Option<Step>>
+    ensures { result ≡ bound_of word.now }
+{
     if word == "-" {
         return Some(None);
     }
     Some(Some(number(word)?))
 }
 
+/// Returns the text before the first space and the text after it, or `None` if there is no space.
+#[tactic(auto, unfolding(crate::specs::Reading::cut_at_space))]
+fn cut(text: &str) -> Option<(&str, &str)>
+    ensures { option_map (λ parts. (parts.0.now, parts.1.now)) result ≡ cut_at_space text.now }
+{
+    text.split_once(' ')
+}
+
 /// Parses a handle and the text after it.
-fn handle_and_text<'a, W: Words>(words: &W, rest: &'a str) -> Option<(Handle, &'a str)> {
-    let (handle, text) = rest.split_once(' ')?;
+#[tactic(auto, unfolding(crate::specs::Reading::first_of))]
+fn handle_and_text<'a, W: Words>(words: &W, rest: &'a str) -> Option<(Handle, &'a str)>
+    ensures { option_map (λ parts. (parts.0, parts.1.now)) result
+        ≡ first_of (W.handle_of words.now) rest.now }
+{
+    let (handle, text) = cut(rest)?;
     Some((words.handle(handle)?, text))
 }
 
@@ -98,7 +124,8 @@ fn handle_and_text<'a, W: Words>(words: &W, rest: &'a str) -> Option<(Handle, &'
 ///
 /// `AllocError`, if there is no memory for the event.
 pub fn add<W: Words>(alloc: Global, words: &W, rest: &str) -> Result<Option<Event>, AllocError>
-    ensures { IfOk result (λ found. IfSome found IsAddition) }
+    ensures adds { IfOk result (λ found. IfSome found IsAddition) }
+    ensures read { Reads result (add_of (W.handle_of words.now) rest.now) }
 {
     let Some((parent, name)) = handle_and_text(words, rest) else {
         return Ok(None);
@@ -111,7 +138,9 @@ pub fn add<W: Words>(alloc: Global, words: &W, rest: &str) -> Result<Option<Even
 }
 
 /// Parses the arguments `H NAME`.
-fn set_name<W: Words>(alloc: Global, words: &W, rest: &str) -> Result<Option<Event>, AllocError> {
+fn set_name<W: Words>(alloc: Global, words: &W, rest: &str) -> Result<Option<Event>, AllocError>
+    ensures { Reads result (name_of (W.handle_of words.now) rest.now) }
+{
     let Some((item, name)) = handle_and_text(words, rest) else {
         return Ok(None);
     };
@@ -122,16 +151,23 @@ fn set_name<W: Words>(alloc: Global, words: &W, rest: &str) -> Result<Option<Eve
 }
 
 /// Parses the argument `H`.
-fn drop_item<W: Words>(words: &W, rest: &str) -> Option<Event> {
+fn drop_item<W: Words>(words: &W, rest: &str) -> Option<Event>
+    ensures { option_map plain result
+        ≡ drop_of (W.handle_of words.now) rest.now }
+{
     Some(Event::Drop {
         item: words.handle(rest)?,
     })
 }
 
 /// Parses the arguments `H MAX UNIT`.
-fn init<W: Words>(words: &W, rest: &str) -> Option<Event> {
+#[tactic(auto, unfolding(crate::specs::Reading::first_of))]
+fn init<W: Words>(words: &W, rest: &str) -> Option<Event>
+    ensures { option_map plain result
+        ≡ init_of (W.handle_of words.now) rest.now }
+{
     let (item, rest) = handle_and_text(words, rest)?;
-    let (max, unit) = rest.split_once(' ')?;
+    let (max, unit) = cut(rest)?;
     Some(Event::Init {
         item,
         max: bound(max)?,
@@ -140,7 +176,10 @@ fn init<W: Words>(words: &W, rest: &str) -> Option<Event> {
 }
 
 /// Parses the arguments `H MAX`.
-fn set_max<W: Words>(words: &W, rest: &str) -> Option<Event> {
+fn set_max<W: Words>(words: &W, rest: &str) -> Option<Event>
+    ensures { option_map plain result
+        ≡ max_of (W.handle_of words.now) rest.now }
+{
     let (item, max) = handle_and_text(words, rest)?;
     Some(Event::SetMax {
         item,
@@ -149,7 +188,10 @@ fn set_max<W: Words>(words: &W, rest: &str) -> Option<Event> {
 }
 
 /// Parses the arguments `H N`.
-fn set<W: Words>(words: &W, rest: &str) -> Option<Event> {
+fn set<W: Words>(words: &W, rest: &str) -> Option<Event>
+    ensures { option_map plain result
+        ≡ set_of (W.handle_of words.now) rest.now }
+{
     let (item, step) = handle_and_text(words, rest)?;
     Some(Event::Set {
         item,
@@ -158,7 +200,10 @@ fn set<W: Words>(words: &W, rest: &str) -> Option<Event> {
 }
 
 /// Parses the arguments `H N`.
-fn inc_by<W: Words>(words: &W, rest: &str) -> Option<Event> {
+fn inc_by<W: Words>(words: &W, rest: &str) -> Option<Event>
+    ensures { option_map plain result
+        ≡ inc_of (W.handle_of words.now) rest.now }
+{
     let (item, step) = handle_and_text(words, rest)?;
     Some(Event::IncBy {
         item,
@@ -167,7 +212,10 @@ fn inc_by<W: Words>(words: &W, rest: &str) -> Option<Event> {
 }
 
 /// Parses the argument `H`.
-fn blocked<W: Words>(words: &W, rest: &str) -> Option<Event> {
+fn blocked<W: Words>(words: &W, rest: &str) -> Option<Event>
+    ensures { option_map plain result
+        ≡ blocked_of (W.handle_of words.now) rest.now }
+{
     Some(Event::Blocked {
         item: words.handle(rest)?,
         reason: REASON,
@@ -176,7 +224,10 @@ fn blocked<W: Words>(words: &W, rest: &str) -> Option<Event> {
 }
 
 /// Parses the argument `H`.
-fn halted<W: Words>(words: &W, rest: &str) -> Option<Event> {
+fn halted<W: Words>(words: &W, rest: &str) -> Option<Event>
+    ensures { option_map plain result
+        ≡ halted_of (W.handle_of words.now) rest.now }
+{
     Some(Event::Halted {
         item: words.handle(rest)?,
         reason: REASON,
@@ -185,23 +236,30 @@ fn halted<W: Words>(words: &W, rest: &str) -> Option<Event> {
 }
 
 /// Parses the argument `H`.
-fn running<W: Words>(words: &W, rest: &str) -> Option<Event> {
+fn running<W: Words>(words: &W, rest: &str) -> Option<Event>
+    ensures { option_map plain result
+        ≡ running_of (W.handle_of words.now) rest.now }
+{
     Some(Event::Running {
         item: words.handle(rest)?,
     })
 }
 
 /// Parses the arguments `H AT TEXT`.
+#[tactic(auto, unfolding(crate::specs::Reading::first_of))]
 fn message<W: Words>(
     alloc: Global,
     words: &W,
     level: MessageLevel,
     rest: &str,
-) -> Result<Option<Event>, AllocError> {
+) -> Result<Option<Event>, AllocError>
+    ensures { Reads result
+        (message_of level (W.handle_of words.now) (W.moment_of words.now) rest.now) }
+{
     let Some((item, rest)) = handle_and_text(words, rest) else {
         return Ok(None);
     };
-    let Some((at, text)) = rest.split_once(' ') else {
+    let Some((at, text)) = cut(rest) else {
         return Ok(None);
     };
     let Some(at) = words.moment(at) else {
@@ -216,7 +274,10 @@ fn message<W: Words>(
 }
 
 /// Parses the argument `AT`.
-fn tick<W: Words>(words: &W, rest: &str, show: bool) -> Option<Event> {
+fn tick<W: Words>(words: &W, rest: &str, show: bool) -> Option<Event>
+    ensures { option_map plain result
+        ≡ tick_of show (W.moment_of words.now) rest.now }
+{
     Some(Event::Tick {
         at: words.moment(rest)?,
         show,
@@ -224,20 +285,34 @@ fn tick<W: Words>(words: &W, rest: &str, show: bool) -> Option<Event> {
 }
 
 /// Parses the arguments `AT COLUMNS ROWS`.
-fn resize<W: Words>(words: &W, rest: &str) -> Option<Event> {
-    let (at, rest) = rest.split_once(' ')?;
-    let (columns, rows) = rest.split_once(' ')?;
+#[tactic(auto, unfolding(crate::specs::Reading::first_of))]
+fn resize<W: Words>(words: &W, rest: &str) -> Option<Event>
+    ensures { option_map plain result
+        ≡ resize_of (W.moment_of words.now) rest.now }
+{
+    let (at, rest) = cut(rest)?;
+    let (columns, rows) = cut(rest)?;
     Some(Event::Resize {
         at: words.moment(at)?,
         show: true,
-        columns: u16::try_from(number(columns)?).ok()?,
-        rows: u16::try_from(number(rows)?).ok()?,
+        columns: small(columns)?,
+        rows: small(rows)?,
     })
 }
 
 /// Parses the argument `AT`.
-fn quit<W: Words>(words: &W, rest: &str) -> Option<Event> {
+fn quit<W: Words>(words: &W, rest: &str) -> Option<Event>
+    ensures { option_map plain result
+        ≡ quit_of (W.moment_of words.now) rest.now }
+{
     Some(Event::Quit {
         at: words.moment(rest)?,
     })
+}
+
+/// Parses a number of 16 bits.
+fn small(word: &str) -> Option<u16>
+    ensures { result ≡ small_of word.now }
+{
+    u16::try_from(number(word)?).ok()
 }

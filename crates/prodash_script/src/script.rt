@@ -1,6 +1,6 @@
 //! What a line asks for: an event, whose items may have words for names.
-ghost use Rattle.std.specs.Prelude.{IfOk};
-ghost use Rattle.prodash_script.specs.Requests.{AsksForNoFrame};
+ghost use Rattle.std.specs.Prelude.{◌≡◌, IfOk, option_map};
+ghost use Rattle.prodash_script.specs.Requests.{AsksForNoFrame, name_in};
 
 use crate::reading::{add, parse_with};
 use crate::request::Request;
@@ -26,6 +26,12 @@ struct Script<'a> {
 }
 
 impl<'a> Words for Script<'a> {
+    ghost use Rattle.prodash_script.specs.Requests.{handle_in, moment_in};
+
+    ghost handle_of = { λ script. handle_in script.names.now };
+
+    ghost moment_of = { λ script. moment_in script.now };
+
     fn handle(&self, word: &str) -> Option<Handle> {
         match name_of(word) {
             Some(name) => Some(self.names.get(name).copied().unwrap_or(NO_ITEM)),
@@ -42,8 +48,11 @@ impl<'a> Words for Script<'a> {
 }
 
 /// Returns the name in a word that begins with `@`, if it isn't empty.
-fn name_of(word: &str) -> Option<&str> {
-    word.strip_prefix('@').filter(|name| !name.is_empty())
+fn name_of(word: &str) -> Option<&str>
+    ensures { option_map (λ name. name.now) result ≡ name_in word.now }
+{
+    let name = word.strip_prefix('@')?;
+    if name.is_empty() { None } else { Some(name) }
 }
 
 /// Returns what a line of a script asks for, given the names of its items. A name that no item has

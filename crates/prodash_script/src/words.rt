@@ -6,11 +6,21 @@ use prodash_core::tree::Handle;
 
 /// The handles and moments that the words of a line name.
 pub trait Words {
+    ghost use Rattle.std.specs.Prelude.{List, ℕ, Option};
+
+    /// The handle that a word names, if it can name one.
+    ghost handle_of: { Self → List ℕ → Option ℕ };
+
+    /// The moment that a word names, if it can name one.
+    ghost moment_of: { Self → List ℕ → Option ℕ };
+
     /// Returns the handle that a word names, or `None` if it can't name one.
-    fn handle(&self, word: &str) -> Option<Handle>;
+    fn handle(&self, word: &str) -> Option<Handle>
+        ensures { result ≡ handle_of self.now word.now };
 
     /// Returns the moment that a word names, or `None` if it can't name one.
-    fn moment(&self, word: &str) -> Option<Moment>;
+    fn moment(&self, word: &str) -> Option<Moment>
+        ensures { result ≡ moment_of self.now word.now };
 }
 
 /// Handles and moments are named by their numbers alone.
@@ -18,6 +28,10 @@ pub trait Words {
 pub struct Numbers;
 
 impl Words for Numbers {
+    ghost handle_of = { λ _. number_of };
+
+    ghost moment_of = { λ _. number_of };
+
     fn handle(&self, word: &str) -> Option<Handle> {
         number(word)
     }
