@@ -1,3 +1,4 @@
 pub mod EngineSteps
 mod JournalLaws
+mod TurnLaws
 mod WorkedItems

@@ -1,5 +1,6 @@
 pub mod Items
 pub mod Locks
+pub mod Turns
 pub mod Engines
 pub mod Logs
 pub mod Wrappers

@@ -89,3 +89,7 @@ abbrev pub begun_at : Locked → Path → ℕ → Option ℕ → Option Unit →
 begun_at locked path slot max unit = record locked {
   table = change_at locked.table path (with_progress (new_progress slot max unit));
 }
+
+-- the tree after a change of the task at a path, if there is one
+abbrev pub changed_at : Locked → Path → (TaskEntry ℕ → TaskEntry ℕ) → Locked
+changed_at locked path change = record locked { table = change_at locked.table path change }

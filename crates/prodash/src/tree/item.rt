@@ -1,13 +1,17 @@
 //! Items of the locked tree.
-ghost use Rattle.std.specs.Prelude.{◌≡◌, OnOk, OnErr, IfOk, IfErr, true, is_some, IsOkUnless};
+ghost use Rattle.std.specs.Prelude.{◌≡◌, OnOk, OnErr, IfOk, IfErr, true, is_some, option_map, string_bytes, IsOkUnless};
 ghost use Rattle.prodash_base.specs.Refusals.{RefusesMessage};
+ghost use Rattle.prodash_base.specs.declared.messages.MessageLevel.TheVariants.{Info, Failure, Success};
+ghost use Rattle.prodash_base.specs.Rows.{Blocked, Halted, Running, phase_of, unknown_id};
 ghost use Rattle.prodash.specs.Items.{new_place, next_path, with_child};
+ghost use Rattle.prodash.specs.Turns.{Finds, Changes, HasName, HasId, HasBound, HasUnit, Stays, Begins, SetsName, SetsBound, SetsPhase, Sends, Adds};
 
 use crate::messages::MessageLevel;
 use crate::progress::{Id, Key, State, Step, StepShared, UNKNOWN, key};
 use crate::time::Moment;
 use crate::tree::locked::Locked;
 use crate::tree::steps::Steps;
+use crate::tree::turns::TakesTurns;
 use crate::unit::Unit;
 use prodash_base::Refusal;
 use std::alloc::Global;
@@ -44,7 +48,7 @@ impl<R: Wait + Clone + Drop> Model for Item<R> {
     ghost view = { λ item. record { path = item.key; next_child = item.next_child } };
 }
 
-impl<R: Wait + Clone + Drop> Item<R> {
+impl<R: TakesTurns> Item<R> {
     /// Returns the item at a key that has a slot.
     pub(crate) fn new(
         rt: R,
@@ -67,11 +71,14 @@ impl<R: Wait + Clone + Drop> Item<R> {
 
     /// Begins the progress of the item, and sets its step to 0. Without a bound and a unit the item
     /// has no progress. Nothing happens if the item's task is gone.
-    pub fn init(&self, max: Option<Step>, unit: Option<Unit>) {
-        let mut locked = self.shared.lock(&self.rt);
-        if locked.init(self.key, self.slot, max, unit) {
+    pub fn init(&self, max: Option<Step>, unit: Option<Unit>)
+        ensures { Changes R.found R.left (Begins self.now.path max unit) }
+    {
+        let (mut tree, turn) = self.rt.begin_turn(&self.shared);
+        if tree.init(self.key, self.slot, max, unit) {
             self.steps.set(0);
         }
+        self.rt.end_turn(tree, turn);
     }
 
     /// Sets the name of the item. Nothing happens if the item's task is gone.
@@ -80,12 +87,14 @@ impl<R: Wait + Clone + Drop> Item<R> {
     ///
     /// `Memory`, if there is no memory for the name. Nothing has changed then.
     pub fn set_name(&self, alloc: Global, name: &str) -> Result<(), Refusal>
-        ensures { IsOkUnless result Refusal.Memory }
+        ensures ok { OnOk result (Changes R.found R.left (SetsName self.now.path name.now)) }
+        ensures err { OnErr result (Changes R.found R.left Stays) }
+        ensures reason { IsOkUnless result Refusal.Memory }
     {
-        self.shared
-            .lock(&self.rt)
-            .table
-            .set_name(alloc, self.key, name)
+        let (mut tree, turn) = self.rt.begin_turn(&self.shared);
+        let named = tree.table.set_name(alloc, self.key, name);
+        self.rt.end_turn(tree, turn);
+        named
     }
 
     /// Returns a copy of the item's name, or `None` if the item's task is gone.
@@ -94,50 +103,77 @@ impl<R: Wait + Clone + Drop> Item<R> {
     ///
     /// `Memory`, if there is no memory for the copy.
     pub fn name(&self, alloc: Global) -> Result<Option<String>, Refusal>
-        ensures { IsOkUnless result Refusal.Memory }
+        ensures ok { IfOk result (λ name.
+            Finds R.found (HasName self.now.path (option_map string_bytes name))) }
+        ensures reason { IsOkUnless result Refusal.Memory }
     {
-        self.shared.lock(&self.rt).name(alloc, self.key)
+        let (tree, _turn) = self.rt.begin_turn(&self.shared);
+        tree.name(alloc, self.key)
     }
 
     /// Returns the identifier of the item, or `UNKNOWN` if the item's task is gone.
-    pub fn id(&self) -> Id {
-        self.shared.lock(&self.rt).table.id(self.key)
+    pub fn id(&self) -> Id
+        ensures { Finds R.found (HasId self.now.path result) }
+    {
+        let (tree, _turn) = self.rt.begin_turn(&self.shared);
+        tree.table.id(self.key)
     }
 
     /// Returns the bound of the item's progress, if it has progress and a bound.
-    pub fn max(&self) -> Option<Step> {
-        self.shared.lock(&self.rt).table.max(self.key)
+    pub fn max(&self) -> Option<Step>
+        ensures { Finds R.found (HasBound self.now.path result) }
+    {
+        let (tree, _turn) = self.rt.begin_turn(&self.shared);
+        tree.table.max(self.key)
     }
 
     /// Returns the unit of the item's progress, if it has progress and a unit.
-    pub fn unit(&self) -> Option<Unit> {
-        self.shared.lock(&self.rt).table.unit(self.key)
+    pub fn unit(&self) -> Option<Unit>
+        ensures { Finds R.found (HasUnit self.now.path result) }
+    {
+        let (tree, _turn) = self.rt.begin_turn(&self.shared);
+        tree.table.unit(self.key)
     }
 
     /// Sets the bound of the item's progress, if it has progress, and returns the bound before.
-    pub fn set_max(&self, max: Option<Step>) -> Option<Step> {
-        self.shared.lock(&self.rt).table.set_max(self.key, max)
+    pub fn set_max(&self, max: Option<Step>) -> Option<Step>
+        ensures { Changes R.found R.left (SetsBound self.now.path max result) }
+    {
+        let (mut tree, turn) = self.rt.begin_turn(&self.shared);
+        let before = tree.table.set_max(self.key, max);
+        self.rt.end_turn(tree, turn);
+        before
     }
 
     /// Marks the item's progress, if it has any, as blocked: it can't continue and can't be
     /// interrupted. `eta` is the moment at which it is expected to continue, if known.
-    pub fn blocked(&self, reason: &'static str, eta: Option<Moment>) {
+    pub fn blocked(&self, reason: &'static str, eta: Option<Moment>)
+        ensures { Changes R.found R.left (SetsPhase self.now.path (Blocked reason.now eta)) }
+    {
         self.set_state(State::Blocked(reason, eta));
     }
 
     /// Marks the item's progress, if it has any, as halted: it can't continue, but can be
     /// interrupted. `eta` is the moment at which it is expected to continue, if known.
-    pub fn halted(&self, reason: &'static str, eta: Option<Moment>) {
+    pub fn halted(&self, reason: &'static str, eta: Option<Moment>)
+        ensures { Changes R.found R.left (SetsPhase self.now.path (Halted reason.now eta)) }
+    {
         self.set_state(State::Halted(reason, eta));
     }
 
     /// Marks the item's progress, if it has any, as running.
-    pub fn running(&self) {
+    pub fn running(&self)
+        ensures { Changes R.found R.left (SetsPhase self.now.path Running) }
+    {
         self.set_state(State::Running);
     }
 
-    fn set_state(&self, state: State) {
-        self.shared.lock(&self.rt).table.set_state(self.key, state);
+    fn set_state(&self, state: State)
+        ensures { Changes R.found R.left (SetsPhase self.now.path (phase_of state)) }
+    {
+        let (mut tree, turn) = self.rt.begin_turn(&self.shared);
+        tree.table.set_state(self.key, state);
+        self.rt.end_turn(tree, turn);
     }
 
     /// Sets the step of the item without taking the lock, even before `init`.
@@ -187,6 +223,8 @@ impl<R: Wait + Clone + Drop> Item<R> {
     pub fn add_child(&mut self, alloc: Global, name: &str) -> Result<Item<R>, Refusal>
         ensures child { IfOk result (λ child. child ≡ new_place (next_path self.old)) }
         ensures ok { OnOk result (self.new ≡ with_child self.old) }
+        ensures added { OnOk result
+            (Changes R.found R.left (Adds (next_path self.old) name.now unknown_id)) }
         ensures err { OnErr result (self.new ≡ self.old) }
         ensures reason { IsOkUnless result Refusal.Memory }
     {
@@ -207,13 +245,18 @@ impl<R: Wait + Clone + Drop> Item<R> {
     ) -> Result<Item<R>, Refusal>
         ensures child { IfOk result (λ child. child ≡ new_place (next_path self.old)) }
         ensures ok { OnOk result (self.new ≡ with_child self.old) }
+        ensures added { OnOk result
+            (Changes R.found R.left (Adds (next_path self.old) name.now id)) }
         ensures err { OnErr result (self.new ≡ self.old) }
         ensures reason { IsOkUnless result Refusal.Memory }
     {
         let rt = self.rt.clone()?;
         let shared = Arc::try_clone(&self.shared)?;
         let key = self.key.add_child(self.next_child);
-        let (slot, steps) = self.shared.lock(&self.rt).insert(alloc, key, name, id)?;
+        let (mut tree, turn) = self.rt.begin_turn(&self.shared);
+        let added = tree.insert(alloc, key, name, id);
+        self.rt.end_turn(tree, turn);
+        let (slot, steps) = added?;
         self.next_child = key::next_id(self.next_child);
         Ok(Item::new(rt, shared, key, slot, steps))
     }
@@ -232,11 +275,15 @@ impl<R: Wait + Clone + Drop> Item<R> {
         level: MessageLevel,
         message: &str,
     ) -> Result<(), Refusal>
-        ensures { IfErr result RefusesMessage }
+        ensures ok { OnOk result
+            (Changes R.found R.left (Sends self.now.path at level message.now)) }
+        ensures err { OnErr result (Changes R.found R.left Stays) }
+        ensures reason { IfErr result RefusesMessage }
     {
-        self.shared
-            .lock(&self.rt)
-            .message(alloc, self.key, at, level, message)
+        let (mut tree, turn) = self.rt.begin_turn(&self.shared);
+        let sent = tree.message(alloc, self.key, at, level, message);
+        self.rt.end_turn(tree, turn);
+        sent
     }
 
     /// Sends a message of severity `Success`: the task is done.
@@ -245,6 +292,8 @@ impl<R: Wait + Clone + Drop> Item<R> {
     ///
     /// As `message`.
     pub fn done(&mut self, alloc: Global, at: Moment, message: &str) -> Result<(), Refusal>
+        ensures ok { OnOk result
+            (Changes R.found R.left (Sends self.old.path at Success message.now)) }
         ensures kept { self.new ≡ self.old }
         ensures reason { IfErr result RefusesMessage }
     {
@@ -257,6 +306,8 @@ impl<R: Wait + Clone + Drop> Item<R> {
     ///
     /// As `message`.
     pub fn fail(&mut self, alloc: Global, at: Moment, message: &str) -> Result<(), Refusal>
+        ensures ok { OnOk result
+            (Changes R.found R.left (Sends self.old.path at Failure message.now)) }
         ensures kept { self.new ≡ self.old }
         ensures reason { IfErr result RefusesMessage }
     {
@@ -269,6 +320,8 @@ impl<R: Wait + Clone + Drop> Item<R> {
     ///
     /// As `message`.
     pub fn info(&mut self, alloc: Global, at: Moment, message: &str) -> Result<(), Refusal>
+        ensures ok { OnOk result
+            (Changes R.found R.left (Sends self.old.path at Info message.now)) }
         ensures kept { self.new ≡ self.old }
         ensures reason { IfErr result RefusesMessage }
     {

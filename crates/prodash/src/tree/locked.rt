@@ -8,7 +8,7 @@ use prodash_core::tree::TreeCore;
 
 /// What the lock of a tree protects.
 #[derive(Drop)]
-pub(crate) struct Locked {
+pub struct Locked {
     /// The number of owners of the root.
     pub(crate) owners: u64,
     /// The number that the root's next child gets.

@@ -1,15 +1,18 @@
 //! Owners of the tree.
-ghost use Rattle.std.specs.Prelude.{◌≡◌, ◌<◌, ◌↔◌, ℕ, [], Err, not, nat_eq, is_some, IfOk, IfErr, IfSome, IfNone, OnOk, OnErr, IsOkUnless};
+ghost use Rattle.std.specs.Prelude.{◌≡◌, ◌<◌, ◌↔◌, ℕ, [], Err, is_some, IfOk, IfErr, OnOk, OnErr, IsOkUnless};
 ghost use Rattle.prodash_base.specs.Refusals.{RefusesHandle};
 ghost use Rattle.prodash_base.specs.Adjacency.{IsAscending, paths_of};
 ghost use Rattle.prodash_base.specs.Path.{child, child_limit};
 ghost use Rattle.prodash.specs.Items.{new_place};
+ghost use Rattle.prodash_base.specs.Rows.{rows_of, unknown_id};
 ghost use Rattle.prodash.specs.Locks.{with_owner};
+ghost use Rattle.prodash.specs.Turns.{Finds, Changes, HasTasks, KeepsAtMost, HasRows, HasMessages, HasNews, HasRowsAndNews, AddsChild, GetsOwner, Upgrades};
 
 use crate::messages::{Message, MessageCopyState};
 use crate::progress::{Id, Row, UNKNOWN};
 use crate::tree::item::Item;
 use crate::tree::locked::Locked;
+use crate::tree::turns::TakesTurns;
 use prodash_base::Refusal;
 use std::alloc::Global;
 use std::sync::{Arc, Mutex, Wait};
@@ -67,7 +70,7 @@ pub struct Root<R: Wait + Clone + Drop> {
     shared: Arc<Mutex<Locked>>,
 }
 
-impl<R: Wait + Clone + Drop> Root<R> {
+impl<R: TakesTurns> Root<R> {
     /// Returns a tree without tasks, with the default options.
     ///
     /// # Errors
@@ -87,6 +90,8 @@ impl<R: Wait + Clone + Drop> Root<R> {
     pub fn add_child(&self, alloc: Global, name: &str) -> Result<Item<R>, Refusal>
         ensures ok { IfOk result (λ item. (n : ℕ) × (n < child_limit)
             × (item ≡ new_place (child [] n))) }
+        ensures added { IfOk result (λ item.
+            Changes R.found R.left (AddsChild item.path name.now unknown_id)) }
         ensures reason { IsOkUnless result Refusal.Memory }
     {
         self.add_child_with_id(alloc, name, UNKNOWN)
@@ -100,22 +105,33 @@ impl<R: Wait + Clone + Drop> Root<R> {
     pub fn add_child_with_id(&self, alloc: Global, name: &str, id: Id) -> Result<Item<R>, Refusal>
         ensures ok { IfOk result (λ item. (n : ℕ) × (n < child_limit)
             × (item ≡ new_place (child [] n))) }
+        ensures added { IfOk result (λ item.
+            Changes R.found R.left (AddsChild item.path name.now id)) }
         ensures reason { IsOkUnless result Refusal.Memory }
     {
         let rt = self.rt.clone()?;
         let shared = Arc::try_clone(&self.shared)?;
-        let (key, slot, steps) = self.shared.lock(&self.rt).add_child(alloc, name, id)?;
+        let (mut tree, turn) = self.rt.begin_turn(&self.shared);
+        let added = tree.add_child(alloc, name, id);
+        self.rt.end_turn(tree, turn);
+        let (key, slot, steps) = added?;
         Ok(Item::new(rt, shared, key, slot, steps))
     }
 
     /// Returns the number of tasks. Another thread may change it at any time.
-    pub fn num_tasks(&self) -> usize {
-        self.shared.lock(&self.rt).table.len()
+    pub fn num_tasks(&self) -> usize
+        ensures { Finds R.found (HasTasks result) }
+    {
+        let (tree, _turn) = self.rt.begin_turn(&self.shared);
+        tree.table.len()
     }
 
     /// Returns the greatest number of messages that the tree keeps.
-    pub fn messages_capacity(&self) -> usize {
-        self.shared.lock(&self.rt).ring.capacity()
+    pub fn messages_capacity(&self) -> usize
+        ensures { Finds R.found (KeepsAtMost result) }
+    {
+        let (tree, _turn) = self.rt.begin_turn(&self.shared);
+        tree.ring.capacity()
     }
 
     /// Replaces the contents of `out` with the rows, in ascending order of their keys, each key
@@ -125,11 +141,13 @@ impl<R: Wait + Clone + Drop> Root<R> {
     ///
     /// `Memory`, if there is no memory for the rows; then `out` stays as it was.
     pub fn sorted_snapshot(&self, alloc: Global, out: &mut Vec<Row>) -> Result<(), Refusal>
-        ensures ok { OnOk result (IsAscending (paths_of out.new.items)) }
+        ensures ok { OnOk result (Finds R.found (HasRows (rows_of out.new.items))) }
+        ensures ascending { OnOk result (IsAscending (paths_of out.new.items)) }
         ensures err { OnErr result (out.new.items ≡ out.old.items) }
         ensures reason { IsOkUnless result Refusal.Memory }
     {
-        self.shared.lock(&self.rt).rows(alloc, out)
+        let (tree, _turn) = self.rt.begin_turn(&self.shared);
+        tree.rows(alloc, out)
     }
 
     /// Replaces the contents of `out` with the kept messages, the oldest first.
@@ -138,10 +156,12 @@ impl<R: Wait + Clone + Drop> Root<R> {
     ///
     /// `Memory`, if there is no memory for the messages; then `out` stays as it was.
     pub fn copy_messages(&self, alloc: Global, out: &mut Vec<Message>) -> Result<(), Refusal>
+        ensures ok { OnOk result (Finds R.found (HasMessages out.new.items)) }
         ensures err { OnErr result (out.new.items ≡ out.old.items) }
         ensures reason { IsOkUnless result Refusal.Memory }
     {
-        self.shared.lock(&self.rt).ring.copy_all(alloc, out)
+        let (tree, _turn) = self.rt.begin_turn(&self.shared);
+        tree.ring.copy_all(alloc, out)
     }
 
     /// Replaces the contents of `out` with the kept messages that were sent since the copy that
@@ -157,13 +177,13 @@ impl<R: Wait + Clone + Drop> Root<R> {
         out: &mut Vec<Message>,
         previous: Option<MessageCopyState>,
     ) -> Result<MessageCopyState, Refusal>
+        ensures ok { IfOk result (λ state.
+            Finds R.found (HasNews previous out.new.items state)) }
         ensures err { OnErr result (out.new.items ≡ out.old.items) }
         ensures reason { IsOkUnless result Refusal.Memory }
     {
-        self.shared
-            .lock(&self.rt)
-            .ring
-            .copy_new(alloc, out, previous)
+        let (tree, _turn) = self.rt.begin_turn(&self.shared);
+        tree.ring.copy_new(alloc, out, previous)
     }
 
     /// Does what `sorted_snapshot` and `copy_new_messages` do, under one lock.
@@ -179,14 +199,15 @@ impl<R: Wait + Clone + Drop> Root<R> {
         messages: &mut Vec<Message>,
         previous: Option<MessageCopyState>,
     ) -> Result<MessageCopyState, Refusal>
-        ensures ok { OnOk result (IsAscending (paths_of rows.new.items)) }
+        ensures ok { IfOk result (λ state. Finds R.found
+            (HasRowsAndNews previous (rows_of rows.new.items) messages.new.items state)) }
+        ensures ascending { OnOk result (IsAscending (paths_of rows.new.items)) }
         ensures err_rows { OnErr result (rows.new.items ≡ rows.old.items) }
         ensures err_messages { OnErr result (messages.new.items ≡ messages.old.items) }
         ensures reason { IsOkUnless result Refusal.Memory }
     {
-        self.shared
-            .lock(&self.rt)
-            .rows_and_new_messages(alloc, rows, messages, previous)
+        let (tree, _turn) = self.rt.begin_turn(&self.shared);
+        tree.rows_and_new_messages(alloc, rows, messages, previous)
     }
 
     /// Returns an owner of a copy of the tree, with the same tasks, messages and capacity. Its
@@ -225,10 +246,13 @@ impl<R: Wait + Clone + Drop> Root<R> {
     /// `TooManyHandles`, if there are 2^64 - 1 owners. `Memory`, if the reference count of the tree
     /// or of its runtime is at its limit.
     pub fn clone(&self) -> Result<Root<R>, Refusal>
-        ensures { IfErr result RefusesHandle }
+        ensures ok { OnOk result (Changes R.found R.left GetsOwner) }
+        ensures reason { IfErr result RefusesHandle }
     {
-        let mut locked = self.shared.lock(&self.rt);
-        one_more_owner(&self.rt, &self.shared, &mut locked)
+        let (mut tree, turn) = self.rt.begin_turn(&self.shared);
+        let root = one_more_owner(&self.rt, &self.shared, &mut tree);
+        self.rt.end_turn(tree, turn);
+        root
     }
 }
 
@@ -240,7 +264,7 @@ pub struct WeakHandle<R: Wait + Clone + Drop> {
     shared: Arc<Mutex<Locked>>,
 }
 
-impl<R: Wait + Clone + Drop> WeakHandle<R> {
+impl<R: TakesTurns> WeakHandle<R> {
     /// Returns another owner of the tree, or `None` if it has none left.
     ///
     /// # Errors
@@ -248,10 +272,13 @@ impl<R: Wait + Clone + Drop> WeakHandle<R> {
     /// `TooManyHandles`, if there are 2^64 - 1 owners. `Memory`, if the reference count of the tree
     /// or of its runtime is at its limit.
     pub fn upgrade(&self) -> Result<Option<Root<R>>, Refusal>
-        ensures { IfErr result RefusesHandle }
+        ensures ok { IfOk result (λ root. Changes R.found R.left (Upgrades (is_some root))) }
+        ensures reason { IfErr result RefusesHandle }
     {
-        let mut locked = self.shared.lock(&self.rt);
-        upgraded(&self.rt, &self.shared, &mut locked)
+        let (mut tree, turn) = self.rt.begin_turn(&self.shared);
+        let root = upgraded(&self.rt, &self.shared, &mut tree);
+        self.rt.end_turn(tree, turn);
+        root
     }
 }
 
@@ -281,9 +308,7 @@ fn upgraded<R: Wait + Clone + Drop>(
     shared: &Arc<Mutex<Locked>>,
     locked: &mut Locked,
 ) -> Result<Option<Root<R>>, Refusal>
-    ensures some { IfOk result (λ root. is_some root ≡ not (nat_eq locked.old.owners 0)) }
-    ensures counts { IfOk result (λ root. IfSome root (λ _. locked.new ≡ with_owner locked.old)) }
-    ensures none { IfOk result (λ root. IfNone root (locked.new ≡ locked.old)) }
+    ensures ok { IfOk result (λ root. Upgrades (is_some root) locked.old locked.new) }
     ensures err { OnErr result (locked.new ≡ locked.old) }
     ensures full { (result ≡ Err Refusal.TooManyHandles) ↔ (locked.old.owners ≡ u64.MAX) }
     ensures reason { IfErr result RefusesHandle }

@@ -1,21 +1,22 @@
-//! The traits of progress and of roots for the locked tree. Contracts don't say what a call does to
-//! the tree, since other threads may change it at any time.
-ghost use Rattle.std.specs.Prelude.{◌≡◌};
+//! The traits of progress and of roots for the locked tree. A call means what it finds or changes
+//! in one turn at the lock of the tree.
+ghost use Rattle.std.specs.Prelude.{◌≡◌, Some, is_some};
 ghost use Rattle.prodash.specs.Items.{new_place, next_path, with_child};
+ghost use Rattle.prodash.specs.Turns.{Finds, Changes, HasTasks, KeepsAtMost, HasRows, HasMessages, HasNews, HasRowsAndNews, HasName, HasId, HasBound, HasUnit, Begins, SetsName, SetsBound, Sends, Adds, Upgrades};
 
 use crate::messages::{Message, MessageCopyState, MessageLevel};
 use crate::progress::{Id, Row, Step, StepShared};
 use crate::time::Moment;
 use crate::tree::item::Item;
 use crate::tree::root::{Root, WeakHandle};
+use crate::tree::turns::TakesTurns;
 use crate::unit::{Unit, throughput_message};
 use prodash_base::Refusal;
 use prodash_core::traits;
 use prodash_core::traits::{Count, NestedProgress, Progress};
 use std::alloc::Global;
-use std::sync::Wait;
 
-impl<R: Wait + Clone + Drop> Count for Item<R> {
+impl<R: TakesTurns> Count for Item<R> {
     fn set(&self, step: Step) {
         self.steps().set(step)
     }
@@ -37,12 +38,26 @@ impl<R: Wait + Clone + Drop> Count for Item<R> {
     }
 }
 
-impl<R: Wait + Clone + Drop + Send + Sync> Progress for Item<R> {
-    ghost begins = { λ item max unit after. after ≡ item };
+impl<R: TakesTurns + Send + Sync> Progress for Item<R> {
+    ghost begins = { λ item max unit after.
+        (after ≡ item) × Changes R.found R.left (Begins item.path max unit) };
 
-    ghost gets_bound = { λ item max before after. after ≡ item };
+    ghost has_unit = { λ item unit. Finds R.found (HasUnit item.path (Some unit)) };
 
-    ghost gets_name = { λ item name after. after ≡ item };
+    ghost has_bound = { λ item max. Finds R.found (HasBound item.path (Some max)) };
+
+    ghost gets_bound = { λ item max before after.
+        (after ≡ item) × Changes R.found R.left (SetsBound item.path max before) };
+
+    ghost gets_name = { λ item name after.
+        (after ≡ item) × Changes R.found R.left (SetsName item.path name) };
+
+    ghost has_name = { λ item name. Finds R.found (HasName item.path name) };
+
+    ghost has_id = { λ item id. Finds R.found (HasId item.path id) };
+
+    ghost was_sent = { λ item at level text.
+        Changes R.found R.left (Sends item.path at level text) };
 
     fn id(&self) -> Id {
         Item::id(self)
@@ -96,11 +111,12 @@ impl<R: Wait + Clone + Drop + Send + Sync> Progress for Item<R> {
     }
 }
 
-impl<R: Wait + Clone + Drop + Send + Sync> NestedProgress for Item<R> {
+impl<R: TakesTurns + Send + Sync> NestedProgress for Item<R> {
     type SubProgress = Item<R>;
 
-    ghost gets_child = { λ item name id after child.
-        (after ≡ with_child item) × (child ≡ new_place (next_path item)) };
+    ghost gets_child = { λ item name id after child. (after ≡ with_child item)
+        × (child ≡ new_place (next_path item))
+        × Changes R.found R.left (Adds (next_path item) name id) };
 
     fn add_child(&mut self, alloc: Global, name: &str) -> Result<Item<R>, Refusal> {
         Item::add_child(self, alloc, name)
@@ -111,8 +127,22 @@ impl<R: Wait + Clone + Drop + Send + Sync> NestedProgress for Item<R> {
     }
 }
 
-impl<R: Wait + Clone + Drop> traits::Root for Root<R> {
+impl<R: TakesTurns> traits::Root for Root<R> {
     type WeakRoot = WeakHandle<R>;
+
+    ghost looks = { λ root previous rows messages sent.
+        Finds R.found (HasRowsAndNews previous rows messages sent) };
+
+    ghost has_rows = { λ root rows. Finds R.found (HasRows rows) };
+
+    ghost has_messages = { λ root messages. Finds R.found (HasMessages messages) };
+
+    ghost has_news = { λ root previous messages sent.
+        Finds R.found (HasNews previous messages sent) };
+
+    ghost has_tasks = { λ root tasks. Finds R.found (HasTasks tasks) };
+
+    ghost keeps_at_most = { λ root capacity. Finds R.found (KeepsAtMost capacity) };
 
     fn messages_capacity(&self) -> usize {
         Root::messages_capacity(self)
@@ -154,8 +184,10 @@ impl<R: Wait + Clone + Drop> traits::Root for Root<R> {
     }
 }
 
-impl<R: Wait + Clone + Drop> traits::WeakRoot for WeakHandle<R> {
+impl<R: TakesTurns> traits::WeakRoot for WeakHandle<R> {
     type Root = Root<R>;
+
+    ghost finds = { λ handle root. Changes R.found R.left (Upgrades (is_some root)) };
 
     fn upgrade(&self) -> Result<Option<Root<R>>, Refusal> {
         WeakHandle::upgrade(self)

@@ -1,0 +1,8 @@
+use Rattle.std.proofs.Common.{rules}
+use Rattle.prodash.proofs.TurnLaws.{finds}
+use Rattle.prodash.proofs.tree.root.Root.num_tasks.Goals as goal
+
+pub returns : goal.returns
+returns g c =
+    let begun = c.begin_turn-tree in
+    finds _ _ begun.result begun.ensures (search rules)
