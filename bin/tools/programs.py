@@ -1,5 +1,4 @@
 """Where the programs are built, whether they are up to date, and how they are run."""
-import glob
 import os
 import signal
 import subprocess
@@ -18,28 +17,47 @@ def unproved(name):
     return f"{TOP}/crates/{name}/out/unproved/{name}"
 
 
-def newest(parts):
-    """Returns when the newest of these parts of the crates, with their folders, was changed."""
-    paths = [f"{TOP}/crates.txt"]
-    for part in parts:
-        for root in glob.glob(f"{TOP}/crates/*/{part}"):
-            for folder, _, files in os.walk(root):
+def made_of(name):
+    """Returns the names of a program's crate and of all crates of this repository that it uses."""
+    uses, left, found = {}, [name], set()
+    with open(f"{TOP}/crates.txt", encoding="utf-8") as it:
+        for line in it:
+            crate, colon, used = line.partition("#")[0].partition(":")
+            if colon:
+                uses[crate.split()[0]] = used.split()
+    while left:
+        crate = left.pop()
+        if crate in uses and crate not in found:
+            found.add(crate)
+            left += uses[crate]
+    return found
+
+
+def newest(name, parts):
+    """Returns when the newest of these parts of a program's crates was changed.
+
+    A crate that uses one more crate has a changed source, so crates.txt is not asked.
+    """
+    paths = []
+    for crate in made_of(name):
+        for part in parts:
+            for folder, _, files in os.walk(f"{TOP}/crates/{crate}/{part}"):
                 paths += [folder, *(f"{folder}/{it}" for it in files)]
     return max(map(os.path.getmtime, paths))
 
 
 def is_proved(name):
     """Returns whether the proved program is there and nothing that it was proved from is newer."""
-    return is_current(proved(name), ("src", "specs", "proofs"))
+    return is_current(proved(name), name, ("src", "specs", "proofs"))
 
 
 def is_built(name):
     """Returns whether the program that is built without proofs is there and no source is newer."""
-    return is_current(unproved(name), ("src",))
+    return is_current(unproved(name), name, ("src",))
 
 
-def is_current(program, parts):
-    return os.access(program, os.X_OK) and os.path.getmtime(program) >= newest(parts)
+def is_current(program, name, parts):
+    return os.access(program, os.X_OK) and os.path.getmtime(program) >= newest(name, parts)
 
 
 def date_back(program, began):
@@ -69,18 +87,20 @@ def say(text, stderr_is_output):
 def ready(name, stderr_is_output=False):
     """Returns the path of the proved program if it is up to date.
 
-    Else it builds the program without proofs, if that isn't up to date either, says so, and returns
-    the path of that, or None if it can't be built.
+    Else it builds the program without proofs, if that isn't up to date either, and says so once.
+    Returns the path of that, or None if it can't be built.
     """
     if is_proved(name):
         return proved(name)
-    how = "running a build without proofs"
     if not is_built(name):
-        how = "building without proofs, which takes about a minute"
-    say(f"{name.replace('_', '-')}: {how}; bin/build proves and builds it", stderr_is_output)
-    if not is_built(name):
+        how = "building without proofs, in about a minute; bin/build proves and builds it"
+        say(f"{name.replace('_', '-')}: {how}", stderr_is_output)
         words = [f"{TOP}/bin/build", "--unproved", name]
-        if subprocess.run(words, stdin=subprocess.DEVNULL).returncode:
+        try:
+            if subprocess.run(words, stdin=subprocess.DEVNULL).returncode:
+                return None
+        except KeyboardInterrupt:
+            # the build says so
             return None
     return unproved(name)
 

@@ -5,6 +5,7 @@
 ghost use Rattle.std.specs.Prelude.{◌≡◌, IfErr};
 ghost use Rattle.prodash_programs.specs.Faults.{status_of};
 
+mod frames;
 mod recorded;
 mod workloads;
 

@@ -39,6 +39,7 @@ fn record<C: TreeLedger, S: Ledger, R: Wait>(
 ) -> Result<Counts, Fault>
     requires calls { (ledgers.calls.name ≡ C.name) × (ledgers.calls.parts ≡ C.parts) }
     requires sums { (ledgers.sums.name ≡ S.name) × (ledgers.sums.parts ≡ S.parts) }
+    requires history { ledgers.history.seen.book ≡ C.history }
     requires capacity { C.message_buffer_capacity ≡ 20 }
 {
     let root = RecordedRoot::<C, S>::new(alloc, ledgers, &Options::default())?;

@@ -1,9 +1,11 @@
 use crate::USAGE;
-use prodash::Refusal;
-use prodash::messages::Messages;
-use prodash::progress::Rows;
-use prodash::render::line::draw::{self, Input, OverWrite};
-use prodash::tree::{Item, Root};
+use crate::frames::Scene;
+use prodash::messages::MessageLevel;
+use prodash::progress::UNKNOWN;
+use prodash::render::line::draw::{self, OverWrite};
+use prodash::tree::{Event, Item, Root, RootOptions, Session, SessionOptions};
+use prodash::unit::Unit;
+use prodash::{Refusal, Text};
 use prodash_programs::Fault;
 use std::alloc::Global;
 use std::io;
@@ -20,8 +22,14 @@ pub(crate) fn run<R: Wait + Clone + Drop>(
     tasks: u64,
     count: u64,
 ) -> Result<(), Fault> {
+    if let Some(scene) = Scene::named(name) {
+        return Ok(scene.draw(rt, alloc, tasks, count)?);
+    }
     let root = Root::new(rt, alloc)?;
-    let items = add_tasks(&root, alloc, tasks)?;
+    let items = match name {
+        "snapshot_of_levels" => add_groups(&root, alloc, tasks, None)?,
+        _ => add_tasks(&root, alloc, tasks, None)?,
+    };
     match name {
         "set" | "inc" | "inc_by" | "step" => {
             for item in &items {
@@ -29,31 +37,54 @@ pub(crate) fn run<R: Wait + Clone + Drop>(
             }
         }
         "children" => add_and_drop(&root, alloc, count)?,
+        "message" => send_messages(&items, alloc, count)?,
         "rows" => take_rows(&root, alloc, &items, count)?,
-        "snapshot" => take_snapshots(&root, alloc, &items, count)?,
-        "frame" => draw_frames(&root, alloc, &items, count)?,
+        "snapshot" | "snapshot_of_levels" => take_snapshots(&root, alloc, &items, count)?,
+        "session" => set_by_handle(alloc, count)?,
         _ => return Err(USAGE),
     }
     Ok(())
 }
 
 /// Adds tasks below the root.
-fn add_tasks<R: Wait + Clone + Drop>(
+pub(crate) fn add_tasks<R: Wait + Clone + Drop>(
     root: &Root<R>,
     alloc: Global,
     tasks: u64,
+    unit: Option<Unit>,
 ) -> Result<Vec<Item<R>>, Refusal> {
     let mut items = Vec::new(alloc);
     for _ in 0..tasks {
         let item = root.add_child(alloc, NAME)?;
-        item.init(Some(1000), None);
+        item.init(Some(1000), unit);
         items.push(item)?;
     }
     Ok(items)
 }
 
+/// Adds tasks on two levels, in groups of one with nine children.
+pub(crate) fn add_groups<R: Wait + Clone + Drop>(
+    root: &Root<R>,
+    alloc: Global,
+    tasks: u64,
+    unit: Option<Unit>,
+) -> Result<Vec<Item<R>>, Refusal> {
+    let mut items = Vec::new(alloc);
+    for _ in 0..tasks / 10 {
+        let mut parent = root.add_child(alloc, NAME)?;
+        parent.init(Some(1000), unit);
+        for _ in 0..9 {
+            let item = parent.add_child(alloc, NAME)?;
+            item.init(Some(1000), unit);
+            items.push(item)?;
+        }
+        items.push(parent)?;
+    }
+    Ok(items)
+}
+
 /// Sets all tasks to a step.
-fn set_all<R: Wait + Clone + Drop>(items: &[Item<R>], step: u64) {
+pub(crate) fn set_all<R: Wait + Clone + Drop>(items: &[Item<R>], step: u64) {
     for item in items {
         item.set(step);
     }
@@ -100,6 +131,20 @@ fn add_and_drop<R: Wait + Clone + Drop>(
     Ok(())
 }
 
+/// Sends messages from each task.
+fn send_messages<R: Wait + Clone + Drop>(
+    items: &[Item<R>],
+    alloc: Global,
+    count: u64,
+) -> Result<(), Refusal> {
+    for item in items {
+        for n in 0..count {
+            item.message(alloc, n, MessageLevel::Info, "a message of a task")?;
+        }
+    }
+    Ok(())
+}
+
 /// Sets all tasks, and copies the rows.
 fn take_rows<R: Wait + Clone + Drop>(
     root: &Root<R>,
@@ -130,29 +175,19 @@ fn take_snapshots<R: Wait + Clone + Drop>(
     Ok(())
 }
 
-/// Sets all tasks, and draws a frame of 80 columns to a sink.
-fn draw_frames<R: Wait + Clone + Drop>(
-    root: &Root<R>,
-    alloc: Global,
-    items: &[Item<R>],
-    count: u64,
-) -> Result<(), Refusal> {
-    let options = draw::Options {
-        colored: false,
-        ..draw::Options::default()
+/// Sets a task of a session by its handle.
+fn set_by_handle(alloc: Global, count: u64) -> Result<(), Refusal> {
+    let options = SessionOptions {
+        root: RootOptions::default(),
+        draw: draw::Options::default(),
+        throughput: false,
     };
-    let mut state = draw::State::new(alloc, options, false);
+    let mut session = Session::new(alloc, &options)?;
     let mut screen = OverWrite::new(io::sink());
-    for n in 0..count {
-        set_all(items, n);
-        let (mut rows, mut messages) = (Vec::new(alloc), Vec::new(alloc));
-        let seen = root.snapshot_and_new_messages(alloc, &mut rows, &mut messages, state.seen())?;
-        let input = Input::Tick {
-            at: n,
-            show: true,
-            seen: Some((Rows::new(rows), Messages::new(messages), seen)),
-        };
-        draw::all(alloc, &mut screen, &mut state, input)?;
+    let (parent, name, id) = (0, Text::from_str(alloc, NAME)?, UNKNOWN);
+    session.apply(alloc, &Event::AddChild { parent, name, id }, &mut screen);
+    for step in 0..count {
+        session.apply(alloc, &Event::Set { item: 1, step }, &mut screen);
     }
     Ok(())
 }

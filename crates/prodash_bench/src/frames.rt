@@ -1,0 +1,132 @@
+use crate::workloads::{add_groups, add_tasks, set_all};
+use prodash::Refusal;
+use prodash::messages::{MessageLevel, Messages};
+use prodash::progress::Rows;
+use prodash::render::line::draw::{self, Input, OverWrite};
+use prodash::tree::{Item, Root};
+use prodash::unit::display::Mode;
+use prodash::unit::{Unit, label, label_and_mode};
+use std::alloc::Global;
+use std::io;
+use std::sync::Wait;
+
+/// The nanoseconds from frame to frame.
+const PERIOD: u64 = 100_000_000;
+
+/// What frames of 80 columns show.
+#[derive(Clone, Copy)]
+pub(crate) struct Scene {
+    unit: Option<Unit>,
+    has_groups: bool,
+    colored: bool,
+    throughput: bool,
+    /// Whether each frame has another step of each task.
+    changes: bool,
+    /// How many messages are sent before each frame.
+    messages: u64,
+}
+
+impl Scene {
+    /// Returns the scene that a workload of this name draws, or `None` if it draws none.
+    pub(crate) fn named(name: &str) -> Option<Scene> {
+        let plain = Scene {
+            unit: None,
+            has_groups: false,
+            colored: false,
+            throughput: false,
+            changes: true,
+            messages: 0,
+        };
+        let unit = Some(label("items"));
+        Some(match name {
+            "frame" => plain,
+            "unit" => Scene { unit, ..plain },
+            "levels" => Scene {
+                unit,
+                has_groups: true,
+                ..plain
+            },
+            "colored" => Scene {
+                colored: true,
+                ..plain
+            },
+            "throughput" => Scene {
+                unit: Some(label_and_mode("items", Mode::with_throughput())),
+                throughput: true,
+                ..plain
+            },
+            "unchanged" => Scene {
+                changes: false,
+                ..plain
+            },
+            "messages" => Scene {
+                changes: false,
+                messages: 10,
+                ..plain
+            },
+            _ => return None,
+        })
+    }
+
+    /// Adds the tasks, and draws that many frames to a sink.
+    pub(crate) fn draw<R: Wait + Clone + Drop>(
+        self,
+        rt: R,
+        alloc: Global,
+        tasks: u64,
+        count: u64,
+    ) -> Result<(), Refusal> {
+        let root = Root::new(rt, alloc)?;
+        let items = if self.has_groups {
+            add_groups(&root, alloc, tasks, self.unit)?
+        } else {
+            add_tasks(&root, alloc, tasks, self.unit)?
+        };
+        let options = draw::Options {
+            colored: self.colored,
+            ..draw::Options::default()
+        };
+        let mut state = draw::State::new(alloc, options, self.throughput);
+        for n in 0..count {
+            self.change(&items, alloc, n)?;
+            draw_frame(&root, alloc, &mut state, n)?;
+        }
+        Ok(())
+    }
+
+    /// Does what the tasks do before a frame.
+    fn change<R: Wait + Clone + Drop>(
+        self,
+        items: &[Item<R>],
+        alloc: Global,
+        n: u64,
+    ) -> Result<(), Refusal> {
+        if self.changes {
+            set_all(items, n);
+        }
+        if let Some(item) = items.first() {
+            for _ in 0..self.messages {
+                item.message(alloc, n, MessageLevel::Info, "a message of a task")?;
+            }
+        }
+        Ok(())
+    }
+}
+
+/// Draws the frame of this number to a sink.
+fn draw_frame<R: Wait + Clone + Drop>(
+    root: &Root<R>,
+    alloc: Global,
+    state: &mut draw::State,
+    n: u64,
+) -> Result<(), Refusal> {
+    let (mut rows, mut messages) = (Vec::new(alloc), Vec::new(alloc));
+    let seen = root.snapshot_and_new_messages(alloc, &mut rows, &mut messages, state.seen())?;
+    let input = Input::Tick {
+        at: n.saturating_mul(PERIOD),
+        show: true,
+        seen: Some((Rows::new(rows), Messages::new(messages), seen)),
+    };
+    draw::all(alloc, &mut OverWrite::new(io::sink()), state, input)?;
+    Ok(())
+}
