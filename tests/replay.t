@@ -186,37 +186,45 @@ Nothing is written after a closing frame, and nothing for a message of the root.
 Units
 =====
 
-A task on four columns, by its bound, its unit and its step.
+A task on so many columns that none is left for a bar, by them, its bound, its unit and its step.
 
   $ in_unit() {
-  >   printf 'add 0 t\ninit 1 %s %s\nset 1 %s\ntick 0\n' "$@" | prodash-replay bytes 4 20
+  >   columns=$1
+  >   shift
+  >   printf 'add 0 t\ninit 1 %s %s\nset 1 %s\ntick 0\n' "$@" | prodash-replay bytes $columns 20
   > }
-  $ in_unit 100 - 29
+  $ in_unit 9 100 - 29
    t 29/100
   \x1b[1A (no-eol) (esc)
-  $ in_unit 100 items 29
+  $ in_unit 15 100 items 29
    t 29/100 items
   \x1b[1A (no-eol) (esc)
-  $ in_unit 100 items% 29
+  $ in_unit 21 100 items% 29
    t 29/100 items [29%]
   \x1b[1A (no-eol) (esc)
-  $ in_unit 100 %items 29
+  $ in_unit 21 100 %items 29
    t [29%] 29/100 items
   \x1b[1A (no-eol) (esc)
-  $ in_unit - items/s 29
+  $ in_unit 11 - items/s 29
    t 29 items
   \x1b[1A (no-eol) (esc)
-  $ in_unit 100 steps 29
+  $ in_unit 18 100 steps 29
    t 30 of 100 steps
   \x1b[1A (no-eol) (esc)
-  $ in_unit - bytes 1999
+  $ in_unit 9 - bytes 1999
    t 1.9kB 
   \x1b[1A (no-eol) (esc)
-  $ in_unit - duration 61
+  $ in_unit 8 - duration 61
    t 1m1s 
   \x1b[1A (no-eol) (esc)
-  $ in_unit - objects 2540000
+  $ in_unit 16 - objects 2540000
    t 2.54M objects
+  \x1b[1A (no-eol) (esc)
+
+On fewer columns its line is cut.
+
+  $ in_unit 12 100 steps 29
+   t 30 of 100
   \x1b[1A (no-eol) (esc)
 
 Faults

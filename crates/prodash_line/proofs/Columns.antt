@@ -1,5 +1,5 @@
 -- The widths of lines, and of printable ASCII characters.
-use Rattle.std.proofs.Common.{◌≡◌, ℕ, zero, suc, ◌^◌, ◌+◌, ◌%◌, ◌<◌, ◌≤◌, Bool, true, false, cond, not, ◌&&◌, List, [], ◌∷◌, ◌++◌, length, replicate, chars, refl, sym, ap, ◌∙◌, arith}
+use Rattle.std.proofs.Common.{◌≡◌, ℕ, zero, suc, ◌^◌, ◌+◌, ◌%◌, ◌<◌, ◌≤◌, Bool, true, false, cond, not, ◌&&◌, List, [], ◌∷◌, ◌++◌, length, take, replicate, chars, refl, sym, ap, ◌∙◌, arith}
 use Rattle.std.specs.Int.{is_in_range}
 use Rattle.std.specs.Fmt.{decimal}
 use Rattle.std.specs.Str.{IsUtf8, IsAscii}
@@ -50,6 +50,12 @@ printable-decimal n small =
     decimal_by_steps (λ n ds. is_printable ds ≡ true) (λ n h. printable-one (48 + n) (omega arith) (omega arith))
     (λ n ds h e. printable-append ds ((48 + n % 10) ∷ []) e (printable-one (48 + n % 10) (omega arith) (omega arith))) n small
 
+pub printable-take : (k : ℕ) (text : List ℕ) → is_printable text ≡ true → is_printable (take k text) ≡ true
+printable-take zero text h = refl
+printable-take (suc k) [] h = refl
+printable-take (suc k) (c ∷ cs) h = let parts = and_parts (is_in_range 0x20 0x7E c) (is_printable cs) h in
+    ap (λ b. b && is_printable (take k cs)) parts.0 ∙ printable-take k cs parts.1
+
 printable-ascii : (text : List ℕ) → is_printable text ≡ true → IsAscii text
 printable-ascii [] h = IsAscii-nil
 printable-ascii (c ∷ cs) h = let parts = and_parts (is_in_range 0x20 0x7E c) (is_printable cs) h in
@@ -71,6 +77,9 @@ width-ascii text h = sym (ap (str_width false) (chars-printable text h) ∙ widt
 
 pub width-repeated : (n c : ℕ) → 32 ≤ c → c ≤ 126 → str_width false (replicate n c) ≡ n
 width-repeated n c low high = width-printable (replicate n c) (printable-repeated n c low high) ∙ length-replicate n c
+
+pub width-spaces : (n : ℕ) → str_width false (replicate n 32) ≡ n
+width-spaces n = width-repeated n 32 (omega arith) (omega arith)
 
 -- ---- spaces before a text
 

@@ -1,5 +1,5 @@
 -- Frames on a page, and lists of frames.
-use Rattle.std.proofs.Common.{◌≡◌, ℕ, zero, suc, ◌+◌, ◌-◌, ◌^◌, ◌<◌, ◌≤◌, List, [], ◌∷◌, ◌++◌, length, drop, map, refl, sym, ap, subst, ◌∙◌, append_assoc, length-append, length-drop, arith}
+use Rattle.std.proofs.Common.{false, ◌≡◌, ℕ, zero, suc, ◌+◌, ◌-◌, ◌^◌, ◌<◌, ◌≤◌, List, [], ◌∷◌, ◌++◌, length, drop, map, refl, sym, ap, subst, ◌∙◌, append_assoc, length-append, length-drop, arith}
 use Rattle.std.specs.Prelude.{replicate, min, max}
 use Rattle.std.specs.List.{AllByRecursion}
 use Rattle.std.proofs.lemmas.List.{append-nil, drop_all, length-replicate, length-map, map-append, drop-map, set_at}
@@ -35,7 +35,7 @@ ShowsLines-lines columns (suc n) [] below h = (ap (λ (k : ℕ). replicate k 32)
 ShowsLines-lines columns n (l ∷ ls) below h = (refl, ShowsLines-lines columns n ls below h)
 
 -- the line of no pieces fits any page
-pub LineFits-empty : (columns : ℕ) → LineFits columns []
+pub LineFits-empty : (columns : ℕ) → LineFits false columns []
 LineFits-empty columns = record { plain = record { pieces = tt; columns = refl }; within = omega arith }
 
 -- the rows that a redraw leaves from the cursor's row on
@@ -44,7 +44,7 @@ redrawn columns old lines below = let all = lines ++ replicate (length old - len
 
 -- a redraw on a page
 pub redraw_at : (columns height : ℕ) (old lines : List Line) (above below : List (List ℕ))
-    → LinesFit columns old → LinesFit columns lines → length old < height → length lines < height → height < 2 ^ 16
+    → LinesFit false columns old → LinesFit false columns lines → length old < height → length lines < height → height < 2 ^ 16
     → ShowsLines columns old below → 0 < length below → length below ≤ height
     → page_after (redraw (widths_of old) lines) (at columns height above below) ≡ at columns height above (redrawn columns old lines below)
 redraw_at columns height old lines above below s p hs hl w h i fits =
@@ -57,7 +57,7 @@ redraw_at columns height old lines above below s p hs hl w h i fits =
     let mapped : length (map (cells_of columns) all) ≡ length all = length-map all (cells_of columns) in
     ap (λ (k : ℕ). page_after (overwrite (widths_of old) (lines ++ replicate (k - length lines) []) ++ cursor_up (max (length lines) k)) (at columns height above below)) (length-map old columns_of)
     ∙ page_after-append (overwrite (widths_of old) all) (cursor_up (max (length lines) (length old))) (at columns height above below)
-    ∙ ap (page_after (cursor_up (max (length lines) (length old)))) (overwrite_at columns height old all above below s (AllByRecursion-append (LineFits columns) lines _ p (AllByRecursion-replicate (LineFits columns) n [] (LineFits-empty columns))) h i)
+    ∙ ap (page_after (cursor_up (max (length lines) (length old)))) (overwrite_at columns height old all above below s (AllByRecursion-append (LineFits false columns) lines _ p (AllByRecursion-replicate (LineFits false columns) n [] (LineFits-empty columns))) h i)
     ∙ ap (λ (k : ℕ). page_after (cursor_up k) (at columns height (above ++ map (cells_of columns) all) (rows_after columns (length all) below))) most
     ∙ cursor_up_at columns height above (map (cells_of columns) all) (rows_after columns (length all) below) (omega arith) (omega arith) w
 
@@ -102,12 +102,12 @@ pub record Home (columns height : ℕ) (above : List (List ℕ)) (old : List Lin
   pub shown : ShowsLines columns old below
   pub inside : 0 < length below
   pub window : length below ≤ height
-  pub fit : LinesFit columns old
+  pub fit : LinesFit false columns old
   pub few : length old < height
 
 -- what a frame does after its messages keeps it
 pub Home-body : (columns height : ℕ) (above : List (List ℕ)) (old : List Line) (p : Canvas) (b : Body) → height < 2 ^ 16
-    → Home columns height above old p → BodyFits columns height b → EndsOrderly b → Home columns height above (body_lines old b) (page_after (body_signs (widths_of old) b) p)
+    → Home columns height above old p → BodyFits false columns height b → EndsOrderly b → Home columns height above (body_lines old b) (page_after (body_signs (widths_of old) b) p)
 Home-body columns height above old p Body.Unchanged w h f o = h
 Home-body columns height above old p (Body.Draws lines) w h f o =
     let after = redrawn_shows columns height old lines h.below h.shown h.inside h.window h.few f.1 in
@@ -137,7 +137,7 @@ Home-body columns height above old p (Body.Closes ending) w h f o =
 
 -- messages come below the rows above, over the first lines on screen
 pub Home-messages : (columns height : ℕ) (above : List (List ℕ)) (old : List Line) (p : Canvas) (messages : List Line)
-    → Home columns height above old p → LinesFit columns messages
+    → Home columns height above old p → LinesFit false columns messages
     → Home columns height (above ++ map (cells_of columns) messages) (drop (length messages) old) (page_after (overwrite (widths_of old) messages) p)
 Home-messages columns height above old p messages h m =
     let size : length (rows_after columns (length messages) h.below) ≡ max 1 (length h.below - length messages) = length-rows_after columns (length messages) h.below h.inside in
@@ -151,7 +151,7 @@ Home-messages columns height above old p messages h m =
       shown = ShowsLines-rows_after columns (length messages) old h.below h.inside h.shown;
       inside = omega arith;
       window = omega arith;
-      fit = AllByRecursion-drop (LineFits columns) (length messages) old h.fit;
+      fit = AllByRecursion-drop (LineFits false columns) (length messages) old h.fit;
       few = omega arith;
     }
 
@@ -174,7 +174,7 @@ Home-opening columns height above old p signs o h = record {
 
 -- a frame keeps it, with its messages above
 pub Home-frame : (columns height : ℕ) (above : List (List ℕ)) (old : List Line) (p : Canvas) (f : Frame) → height < 2 ^ 16
-    → Home columns height above old p → FrameFits columns height f → IsOrderly f
+    → Home columns height above old p → FrameFits false columns height f → IsOrderly f
     → Home columns height (above ++ map (cells_of columns) f.messages) (lines_after old f) (page_after (frame_signs (widths_of old) f) p)
 Home-frame columns height above old p f w h fits o =
     let opened = page_after f.opening p in
@@ -189,7 +189,7 @@ Home-frame columns height above old p f w h fits o =
 
 -- and so does a list of frames
 pub Home-frames : (columns height : ℕ) (above : List (List ℕ)) (old : List Line) (p : Canvas) (fs : List Frame) → height < 2 ^ 16
-    → Home columns height above old p → AllByRecursion (FrameFits columns height) fs → AllByRecursion IsOrderly fs
+    → Home columns height above old p → AllByRecursion (FrameFits false columns height) fs → AllByRecursion IsOrderly fs
     → Home columns height (above ++ map (cells_of columns) (printed_lines fs)) (all_lines_after old fs) (page_after (signs_of old fs) p)
 Home-frames columns height above old p [] w h fits o = subst (λ (a : List (List ℕ)). Home columns height a old p) (sym (append-nil above)) h
 Home-frames columns height above old p (f ∷ fs) w h fits o =

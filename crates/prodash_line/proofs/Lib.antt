@@ -1,4 +1,6 @@
 pub mod ScreenTaken
+pub mod Prefixes
+pub mod Cutting
 pub mod LineWriting
 pub mod OverwriteBytes
 pub mod Ticks
@@ -14,6 +16,7 @@ pub mod Overwriting
 pub mod CursorRow
 pub mod Decimals
 pub mod FramesOnPage
+pub mod FittingFrames
 pub mod GhostLists
 pub mod Lists
 pub mod OrderlyFrames
@@ -29,6 +32,7 @@ pub mod SignPrefixes
 pub mod StyleCodes
 pub mod StyleParameters
 pub mod UnseenSigns
+pub mod WorkedCuts
 pub mod WorkedFrames
 pub mod WorkedPages
 pub mod WorkedWriters

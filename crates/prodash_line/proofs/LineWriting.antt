@@ -1,120 +1,136 @@
 -- What a line writer has written, piece by piece.
-use Rattle.std.proofs.Common.{◌≡◌, ℕ, ◌+◌, ◌≤◌, false, true, List, [], ◌∷◌, ◌++◌, Option, length, replicate, chars, refl, sym, ap, subst, ◌∙◌, append_assoc, append-nil, arith, length-append}
+use Rattle.std.proofs.Common.{◌≡◌, ℕ, zero, suc, ◌+◌, ◌-◌, ◌≤◌, ◌<◌, ◌^◌, true, false, List, [], ◌∷◌, ◌++◌, Option, Some, None, length, take, replicate, chars, refl, sym, ap, subst, ◌∙◌, append_assoc, append-nil, arith, length-append}
 use Rattle.std.specs.Str.{IsUtf8}
-use Rattle.std.proofs.lemmas.List.{length-replicate}
-use Rattle.std.proofs.lemmas.List.Sums.{sum_by-cons}
+use Rattle.std.proofs.lemmas.List.{length-replicate, length-take}
 use Rattle.unicode_width.specs.Width.{str_width}
 use Rattle.prodash_line.specs.declared.render.line.draw.line_writer.LineWriter.{LineWriter}
+use Rattle.prodash_line.specs.declared.render.line.draw.room.Room.{Room}
+use Rattle.prodash_line.specs.declared.render.line.draw.room.Room.TheVariants.{Columns}
 use Rattle.prodash_line.specs.declared.render.line.page.style.Style.{Style}
-use Rattle.prodash_line.specs.Lines.{Piece, Line, piece, styled, capped, width_of, columns_of}
-use Rattle.prodash_line.specs.Writing.{is_printable, line_bytes, style_of_length, open_bytes, reset_bytes, Appends, Begun}
-use Rattle.prodash_line.proofs.Written.{line_bytes-nil, line_bytes-append, line_bytes-text, line_bytes-printable, line_bytes-joined, styled_bytes}
-use Rattle.prodash_line.proofs.Columns.{columns_of-append, printable-append, printable-repeated, printable-spaces, width-printable, width-repeated, width-indented}
+use Rattle.prodash_line.specs.Lines.{Piece, Line, piece, styled, capped, width_of, columns_of, cut, cut_to}
+use Rattle.prodash_line.specs.Cutting.{written_in, room_after, room_of, room_after_line, left_of}
+use Rattle.prodash_line.specs.Writing.{is_printable, line_bytes, style_of_length, open_bytes, reset_bytes, Writes, Appends, Begun, SameLine, Counts}
+use Rattle.prodash_line.proofs.Written.{line_bytes-append, line_bytes-text, line_bytes-printable, line_bytes-joined, styled_bytes}
+use Rattle.prodash_line.proofs.Columns.{columns_of-last, printable-take, printable-spaces, width-printable, width-indented}
+use Rattle.prodash_line.proofs.Cutting.{cut-last, after-last, cut-nil, columns-cut_to}
 
 -- ---- one call
 
 -- one piece more
-appends_piece : (old new : LineWriter) (p : Piece) → new.bytes.items ≡ old.bytes.items ++ line_bytes (p ∷ []) → new.width ≡ capped (old.width + width_of p) → Appends old (p ∷ []) new
-appends_piece old new p b w = record {
-  bytes = b;
-  width = λ columns h. omega (arith, h, w, sum_by-cons width_of p []);
+appends_piece : (old new : LineWriter) (p : Piece) → new.bytes.items ≡ old.bytes.items ++ line_bytes (styled p.style (written_in old.room p.text) ∷ [])
+    → new.width ≡ capped (old.width + width_of p) → new.limit ≡ old.limit → new.room ≡ room_after old.room p.text → Appends old (p ∷ []) new
+appends_piece old new p b w l r = record {
+  writes = λ limit before line h.
+      let own = line_bytes (cut limit line) in
+      let last = λ (room : Room). line_bytes (styled p.style (written_in room p.text) ∷ []) in
+      record {
+        bytes = b ∙ ap (λ bs. bs ++ last old.room) h.bytes ∙ append_assoc before own (last old.room)
+            ∙ ap (λ room. before ++ (own ++ last room)) h.room ∙ ap (λ bs. before ++ bs) (sym (cut-last limit line p));
+        width = w ∙ ap (λ n. capped (n + width_of p)) h.width ∙ sym (columns_of-last line p);
+        limit = l ∙ h.limit;
+        room = r ∙ ap (λ room. room_after room p.text) h.room ∙ sym (after-last (room_of limit) line p);
+      };
 }
 
-pub begins : (old new : LineWriter) → new.bytes.items ≡ old.bytes.items → new.width ≡ 0 → Begun old [] new
-begins old new b w = record {
-  writes = record { bytes = b ∙ sym (append-nil old.bytes.items) ∙ ap (λ bs. old.bytes.items ++ bs) (sym line_bytes-nil); width = w };
+pub begins : (limit : Option ℕ) (old new : LineWriter) → new.bytes.items ≡ old.bytes.items → new.width ≡ 0 → new.limit ≡ limit → new.room ≡ room_of limit → Begun limit old [] new
+begins limit old new b w l r = record {
+  writes = record {
+    bytes = b ∙ sym (append-nil old.bytes.items) ∙ ap (λ bs. old.bytes.items ++ bs) (sym (cut-nil limit));
+    width = w;
+    limit = l;
+    room = r;
+  };
 }
 
 -- no piece changes nothing
 pub appends_no_piece : (w : LineWriter) → Appends w [] w
-appends_no_piece w = record {
-  bytes = sym (append-nil w.bytes.items) ∙ ap (λ t. w.bytes.items ++ t) (sym line_bytes-nil);
-  width = λ columns h. omega (arith, h);
-}
+appends_no_piece w = record { writes = λ limit before line h. subst (λ (l : Line). Writes limit before l w) (sym (append-nil line)) h }
 
--- nor does a piece without characters
-pub appends_nothing : (w : LineWriter) → Appends w (piece [] ∷ []) w
-appends_nothing w =
-    let none : str_width false [] ≡ 0 = width-printable [] refl in
-    record {
-      bytes = sym (append-nil w.bytes.items) ∙ ap (λ t. w.bytes.items ++ t) (sym (line_bytes-printable [] refl));
-      width = λ columns h. omega (arith, h, sum_by-cons width_of (piece []) []);
-    }
+pub same_line : (w : LineWriter) → SameLine w w
+same_line w = record { width = refl; limit = refl; room = refl }
 
-pub appends_printable : (old new : LineWriter) (text : List ℕ) (width : ℕ) → is_printable text ≡ true → width ≡ capped (str_width false text)
-    → new.bytes.items ≡ old.bytes.items ++ text → new.width ≡ capped (old.width + width) → Appends old (piece text ∷ []) new
-appends_printable old new text width h own b w =
-    appends_piece old new (piece text) (b ∙ ap (λ t. old.bytes.items ++ t) (sym (line_bytes-printable text h))) (omega arith)
+pub same_then : {a b c : LineWriter} → SameLine a b → SameLine b c → SameLine a c
+same_then h i = record { width = i.width ∙ h.width; limit = i.limit ∙ h.limit; room = i.room ∙ h.room }
 
-pub appends_repeated : (old new : LineWriter) (style : Option Style) (n c : ℕ) (o w : List ℕ) → 32 ≤ c → c ≤ 126 → n ≤ 65535
-    → o ≡ old.bytes.items ++ open_bytes (style_of_length style n) → w ≡ o ++ replicate n c → new.bytes.items ≡ w ++ reset_bytes (style_of_length style n)
-    → new.width ≡ capped (old.width + n) → Appends old (styled style (replicate n c) ∷ []) new
-appends_repeated old new style n c o w low high fits eo ew en width =
-    let text = replicate n c in
-    appends_piece old new (styled style text)
-    (styled_bytes old.bytes.items o w new.bytes.items style text text n (line_bytes-printable text (printable-repeated n c low high)) (sym (length-replicate n c)) eo ew en)
-    (omega (arith, width, width-repeated n c low high))
+-- a text behind spaces, of which this many spaces and this prefix are written
+pub appends_indented : (old new : LineWriter) (style : Option Style) (n spaces size width : ℕ) (text prefix o spaced w : List ℕ) → IsUtf8 prefix → n ≤ 65535
+    → replicate spaces 32 ++ chars prefix ≡ written_in old.room (replicate n 32 ++ chars text)
+    → size ≡ spaces + length prefix → width ≡ columns_of (piece (chars text) ∷ []) → o ≡ old.bytes.items ++ open_bytes (style_of_length style size)
+    → spaced ≡ o ++ replicate spaces 32 → w ≡ spaced ++ prefix → new.bytes.items ≡ w ++ reset_bytes (style_of_length style size)
+    → new.width ≡ capped (capped (old.width + n) + width) → new.limit ≡ old.limit → new.room ≡ room_after old.room (replicate n 32 ++ chars text)
+    → Appends old (styled style (replicate n 32 ++ chars text) ∷ []) new
+appends_indented old new style n spaces size width text prefix o spaced w u fits is sized own eo s ew en columns limit room =
+    let blanks : List ℕ = replicate spaces 32 in
+    let whole : line_bytes (piece (blanks ++ chars prefix) ∷ []) ≡ blanks ++ prefix =
+    sym (line_bytes-joined blanks (chars prefix)) ∙ line_bytes-append (piece blanks ∷ []) (piece (chars prefix) ∷ [])
+    ∙ ap (λ t. t ++ line_bytes (piece (chars prefix) ∷ [])) (line_bytes-printable blanks (printable-spaces spaces))
+    ∙ ap (λ t. blanks ++ t) (line_bytes-text prefix u) in
+    let long : size ≡ length (blanks ++ prefix) = omega (arith, sized, length-append blanks prefix, length-replicate {A = ℕ} spaces 32) in
+    let wide : str_width false (replicate n 32 ++ chars text) ≡ n + str_width false (chars text) = width-indented n (chars text) in
+    appends_piece old new (styled style (replicate n 32 ++ chars text))
+    (styled_bytes old.bytes.items o w new.bytes.items style (blanks ++ chars prefix) (blanks ++ prefix) size whole long eo (ew ∙ ap (λ t. t ++ prefix) s ∙ append_assoc o blanks prefix) en
+    ∙ ap (λ t. old.bytes.items ++ line_bytes (styled style t ∷ [])) is)
+    (omega (arith, columns, own)) limit room
 
--- a text behind spaces
-pub appends_indented : (old new : LineWriter) (style : Option Style) (n size width : ℕ) (text o spaced w : List ℕ) → IsUtf8 text → n ≤ 65535
-    → size ≡ n + length text → width ≡ columns_of (piece (chars text) ∷ []) → o ≡ old.bytes.items ++ open_bytes (style_of_length style size)
-    → spaced ≡ o ++ replicate n 32 → w ≡ spaced ++ text → new.bytes.items ≡ w ++ reset_bytes (style_of_length style size)
-    → new.width ≡ capped (capped (old.width + n) + width) → Appends old (styled style (replicate n 32 ++ chars text) ∷ []) new
-appends_indented old new style n size width text o spaced w u fits sized own eo s ew en columns =
-    let blanks = replicate n 32 in
-    let whole : line_bytes (piece (blanks ++ chars text) ∷ []) ≡ blanks ++ text =
-    sym (line_bytes-joined blanks (chars text)) ∙ line_bytes-append (piece blanks ∷ []) (piece (chars text) ∷ [])
-    ∙ ap (λ t. t ++ line_bytes (piece (chars text) ∷ [])) (line_bytes-printable blanks (printable-spaces n))
-    ∙ ap (λ t. blanks ++ t) (line_bytes-text text u) in
-    let long : size ≡ length (blanks ++ text) = omega (arith, sized, length-append blanks text, length-replicate {A = ℕ} n 32) in
-    let wide : str_width false (blanks ++ chars text) ≡ n + str_width false (chars text) = width-indented n (chars text) in
-    appends_piece old new (styled style (blanks ++ chars text))
-    (styled_bytes old.bytes.items o w new.bytes.items style (blanks ++ chars text) (blanks ++ text) size whole long eo (ew ∙ ap (λ t. t ++ text) s ∙ append_assoc o blanks text) en)
-    (omega (arith, columns, own))
+-- a text of printable characters that has been counted, between what begins a style and what ends it
+pub appends_counted : {a b o w d : LineWriter} (style : Option Style) (text : List ℕ) (n count : ℕ) → is_printable text ≡ true → length text ≡ n → Counts a n count b
+    → o.bytes.items ≡ b.bytes.items ++ open_bytes (style_of_length style count) → SameLine b o
+    → w.bytes.items ≡ o.bytes.items ++ take count text → SameLine o w
+    → d.bytes.items ≡ w.bytes.items ++ reset_bytes (style_of_length style count) → SameLine w d → Appends a (styled style text ∷ []) d
+appends_counted {a} {b} {o} {w} {d} style text n count p size h eo so ew sw ed sd =
+    let part = take count text in
+    let fits = h.fits text p size in
+    let within = h.within in
+    let long : count ≡ length part = omega (arith, length-take count text) in
+    let wide : str_width false text ≡ length text = width-printable text p in
+    appends_piece a d (styled style text)
+    (styled_bytes a.bytes.items o.bytes.items w.bytes.items d.bytes.items style part part count (line_bytes-printable part (printable-take count text p)) long
+    (eo ∙ ap (λ t. t ++ open_bytes (style_of_length style count)) h.bytes) ew ed
+    ∙ ap (λ t. a.bytes.items ++ line_bytes (styled style t ∷ [])) (sym fits.written))
+    (sd.width ∙ sw.width ∙ so.width ∙ h.width ∙ ap (λ k. capped (a.width + k)) (sym (wide ∙ size)))
+    (sd.limit ∙ sw.limit ∙ so.limit ∙ h.limit)
+    (sd.room ∙ sw.room ∙ so.room ∙ fits.after)
+
+pub take_copies : (k n c : ℕ) → k ≤ n → take k (replicate n c) ≡ replicate k c
+take_copies zero n c l = refl
+take_copies (suc k) zero c l = absurd (omega arith)
+take_copies (suc k) (suc n) c l = ap (λ t. c ∷ t) (take_copies k n c (omega arith))
+
+-- the same without a style
+pub appends_printable : {a b w : LineWriter} (text : List ℕ) (n count : ℕ) → is_printable text ≡ true → length text ≡ n → Counts a n count b
+    → w.bytes.items ≡ b.bytes.items ++ take count text → SameLine b w → Appends a (piece text ∷ []) w
+appends_printable {a} {b} {w} text n count p size h ew sw =
+    appends_counted None text n count p size h (sym (append-nil b.bytes.items)) (same_line b) ew sw (sym (append-nil w.bytes.items)) (same_line w)
 
 -- ---- one call after another
 
 pub appends_then : {a b c : LineWriter} {xs ys : Line} → Appends a xs b → Appends b ys c → Appends a (xs ++ ys) c
 appends_then {a} {b} {c} {xs} {ys} h i = record {
-  bytes = i.bytes ∙ ap (λ t. t ++ line_bytes ys) h.bytes ∙ append_assoc a.bytes.items (line_bytes xs) (line_bytes ys) ∙ ap (λ t. a.bytes.items ++ t) (sym (line_bytes-append xs ys));
-  width = λ columns w. omega (arith, i.width (columns + columns_of xs) (h.width columns w), columns_of-append xs ys);
+  writes = λ limit before line w. subst (λ (l : Line). Writes limit before l c) (append_assoc line xs ys) (i.writes limit before (line ++ xs) (h.writes limit before line w));
 }
 
-pub begun_then : {a b c : LineWriter} {xs ys : Line} → Begun a xs b → Appends b ys c → Begun a (xs ++ ys) c
-begun_then {a} {b} {c} {xs} {ys} h i = record {
-  writes = record {
-    bytes = i.bytes ∙ ap (λ t. t ++ line_bytes ys) h.writes.bytes ∙ append_assoc a.bytes.items (line_bytes xs) (line_bytes ys) ∙ ap (λ t. a.bytes.items ++ t) (sym (line_bytes-append xs ys));
-    width = i.width (columns_of xs) (omega (arith, h.writes.width)) ∙ sym (columns_of-append xs ys);
-  };
-}
+pub begun_then : {limit : Option ℕ} {a b c : LineWriter} {xs ys : Line} → Begun limit a xs b → Appends b ys c → Begun limit a (xs ++ ys) c
+begun_then {limit} {a} {b} {c} {xs} {ys} h i = record { writes = i.writes limit a.bytes.items xs h.writes }
 
 -- the same pieces, told in another way
 pub appends_as : {a b : LineWriter} {xs ys : Line} → xs ≡ ys → Appends a xs b → Appends a ys b
 appends_as {a} {b} e h = subst (λ (l : Line). Appends a l b) e h
 
-pub begun_as : {a b : LineWriter} {xs ys : Line} → xs ≡ ys → Begun a xs b → Begun a ys b
-begun_as {a} {b} e h = subst (λ (l : Line). Begun a l b) e h
+pub begun_as : {limit : Option ℕ} {a b : LineWriter} {xs ys : Line} → xs ≡ ys → Begun limit a xs b → Begun limit a ys b
+begun_as {limit} {a} {b} e h = subst (λ (l : Line). Begun limit a l b) e h
 
--- two printable pieces are one
-pub appends_joined : {a b c : LineWriter} (x y : List ℕ) → is_printable x ≡ true → is_printable y ≡ true → Appends a (piece x ∷ []) b → Appends b (piece y ∷ []) c → Appends a (piece (x ++ y) ∷ []) c
-appends_joined {a} {b} {c} x y p q h i =
-    let both = appends_then h i in
-    let left : str_width false x ≡ length x = width-printable x p in
-    let right : str_width false y ≡ length y = width-printable y q in
-    let whole : str_width false (x ++ y) ≡ length (x ++ y) = width-printable (x ++ y) (printable-append x y p q) in
-    let size : length (x ++ y) ≡ length x + length y = length-append x y in
-    record {
-      bytes = both.bytes ∙ ap (λ t. a.bytes.items ++ t) (line_bytes-joined x y);
-      width = λ columns w. omega (arith, both.width columns w);
-    }
+pub begun_to : {a b : LineWriter} {xs : Line} (limit to : Option ℕ) → limit ≡ to → Begun limit a xs b → Begun to a xs b
+begun_to {a} {b} {xs} limit to e h = subst (λ (l : Option ℕ). Begun l a xs b) e h
 
--- printable characters between what begins a style and what ends it
-pub appends_in_style : {a b c d : LineWriter} (style : Option Style) (text : List ℕ) (n : ℕ) → is_printable text ≡ true → n ≡ length text
-    → b.bytes.items ≡ a.bytes.items ++ open_bytes (style_of_length style n) → b.width ≡ a.width → Appends b (piece text ∷ []) c
-    → d.bytes.items ≡ c.bytes.items ++ reset_bytes (style_of_length style n) → d.width ≡ c.width → Appends a (styled style text ∷ []) d
-appends_in_style {a} {b} {c} {d} style text n p size eo wo h en wn =
-    let plain = line_bytes-printable text p in
-    record {
-      bytes = styled_bytes a.bytes.items b.bytes.items c.bytes.items d.bytes.items style text text n plain size eo (h.bytes ∙ ap (λ t. b.bytes.items ++ t) plain) en;
-      width = λ columns w. wn ∙ h.width columns (wo ∙ w);
-    }
+-- ---- the width of a line that is cut
+
+pub width_limited : {limit : Option ℕ} {before w : LineWriter} (line : Line) (columns : ℕ) → Begun limit before line w → w.limit ≡ Some columns → columns < 2 ^ 16
+    → columns - left_of w.room ≡ columns_of (cut limit line)
+width_limited {limit} {before} {w} line columns h l fits =
+    let is : limit ≡ Some columns = sym h.writes.limit ∙ l in
+    let room : left_of w.room ≡ left_of (room_after_line (Columns columns) line) = ap left_of (h.writes.room ∙ ap (λ x. room_after_line (room_of x) line) is) in
+    let sum : columns - left_of w.room ≡ columns_of (cut_to columns line) = omega (arith, columns-cut_to columns line) in
+    sum ∙ ap (λ x. columns_of (cut x line)) (sym is)
+
+pub width_unlimited : {limit : Option ℕ} {before w : LineWriter} (line : Line) → Begun limit before line w → w.limit ≡ None → w.width ≡ columns_of (cut limit line)
+width_unlimited {limit} {before} {w} line h l = h.writes.width ∙ ap (λ x. columns_of (cut x line)) (sym (sym h.writes.limit ∙ l))

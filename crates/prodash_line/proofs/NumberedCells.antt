@@ -1,15 +1,13 @@
 -- The cells of a bar without a bound, written one after another.
-use Rattle.std.proofs.Common.{◌≡◌, ℕ, suc, ◌+◌, ◌-◌, ◌%◌, ◌≤◌, Bool, true, false, cond, [], ◌∷◌, ◌++◌, length, map, refl, sym, ap, ◌∙◌, arith, length-append}
+use Rattle.std.proofs.Common.{◌≡◌, ℕ, suc, ◌+◌, ◌-◌, ◌%◌, ◌<◌, ◌≤◌, Bool, true, false, cond, List, [], ◌∷◌, ◌++◌, length, take, map, append_assoc, ⊎_elim, refl, sym, ap, ◌∙◌, arith, length-append}
 use Rattle.std.specs.Prelude.{zero, nat_lt, reverse}
 use Rattle.std.specs.List.{range_with_len}
-use Rattle.std.proofs.lemmas.List.{map-append}
+use Rattle.std.proofs.lemmas.List.{map-append, take-append-le, take_all}
+use Rattle.std.proofs.lemmas.Bool.{cases_lt}
 use Rattle.std.proofs.lemmas.Grind.{reverse_onto}
-use Rattle.prodash_line.specs.declared.render.line.draw.line_writer.LineWriter.{LineWriter}
-use Rattle.prodash_line.specs.Lines.{piece}
 use Rattle.prodash_line.specs.ProgressRows.{numbered_cell, numbered_cells}
-use Rattle.prodash_line.specs.Writing.{is_printable, Appends}
+use Rattle.prodash_line.specs.Writing.{is_printable}
 use Rattle.prodash_line.proofs.Columns.{printable-append}
-use Rattle.prodash_line.proofs.LineWriting.{appends_as, appends_joined, appends_nothing}
 
 printable_either : (b : Bool) → is_printable (cond b 61 32 ∷ []) ≡ true
 printable_either true = refl
@@ -35,17 +33,36 @@ length-numbered_cells number zero = refl
 length-numbered_cells number (suc n) =
     omega (arith, ap length (numbered_cells-suc number n), length-append (numbered_cells (number + 1) n) (numbered_cell number ∷ []), length-numbered_cells (number + 1) n)
 
--- none yet
-pub no_cells_appended : (w : LineWriter) (end : ℕ) → Appends w (piece (numbered_cells end (end - end)) ∷ []) w
-no_cells_appended w end = appends_as (let none : 0 ≡ end - end = omega arith in ap (λ n. piece (numbered_cells end n) ∷ []) none) (appends_nothing w)
+-- the first k of n cells are those of the last k numbers
+pub take-numbered_cells : (k number n : ℕ) → k ≤ n → take k (numbered_cells number n) ≡ numbered_cells (number + n - k) k
+take-numbered_cells k number zero l =
+    let none : k ≡ 0 = omega arith in
+    ap (λ j. take j (numbered_cells number 0)) none ∙ ap (λ j. numbered_cells (number + 0 - j) j) (sym none)
+take-numbered_cells k number (suc n) l = ⊎_elim
+    (λ (few : k < suc n).
+    ap (take k) (numbered_cells-suc number n)
+    ∙ take-append-le k (numbered_cells (number + 1) n) (numbered_cell number ∷ []) (omega (arith, length-numbered_cells (number + 1) n))
+    ∙ take-numbered_cells k (number + 1) n (omega arith)
+    ∙ ap (λ j. numbered_cells j k) (let e : number + 1 + n - k ≡ number + suc n - k = omega arith in e))
+    (λ (all : suc n ≤ k).
+    let same : k ≡ suc n = omega arith in
+    take_all k (numbered_cells number (suc n)) (omega (arith, length-numbered_cells number (suc n)))
+    ∙ ap (numbered_cells number) (sym same) ∙ ap (λ j. numbered_cells j k) (let e : number ≡ number + suc n - k = omega arith in e))
+    (cases_lt k (suc n))
+
+pub cells_counted : (step end count k : ℕ) → k ≡ count → count ≤ end - step → step ≤ end
+    → numbered_cells (end - k) (end - (end - k)) ≡ take count (numbered_cells step (end - step))
+cells_counted step end count k e l up =
+    ap (λ j. numbered_cells (end - k) j) (let same : end - (end - k) ≡ count = omega arith in same)
+    ∙ ap (λ j. numbered_cells j count) (let same : end - k ≡ step + (end - step) - count = omega arith in same)
+    ∙ sym (take-numbered_cells count step (end - step) l)
 
 -- the cell of the next number down
-pub one_cell_appended : {a b c : LineWriter} (number above end cell : ℕ) → above ≡ number + 1 → above ≤ end → cell ≡ numbered_cell number
-    → Appends a (piece (numbered_cells above (end - above)) ∷ []) b → Appends b (piece (cell ∷ []) ∷ []) c → Appends a (piece (numbered_cells number (end - number)) ∷ []) c
-one_cell_appended number above end cell next within is h i =
+pub one_cell_more : (a b c : List ℕ) (number above end cell : ℕ) → above ≡ number + 1 → above ≤ end → cell ≡ numbered_cell number
+    → b ≡ a ++ numbered_cells above (end - above) → c ≡ b ++ take 1 (cell ∷ []) → c ≡ a ++ numbered_cells number (end - number)
+one_cell_more a b c number above end cell next within is h i =
     let n = end - (number + 1) in
     let more : suc n ≡ end - number = omega arith in
-    let others = appends_as (ap (λ k. piece (numbered_cells k (end - k)) ∷ []) next) h in
-    let this = appends_as (ap (λ k. piece (k ∷ []) ∷ []) is) i in
-    appends_as (ap (λ t. piece t ∷ []) (sym (numbered_cells-suc number n)) ∙ ap (λ k. piece (numbered_cells number k) ∷ []) more)
-    (appends_joined (numbered_cells (number + 1) n) (numbered_cell number ∷ []) (printable-numbered_cells (number + 1) n) (printable-numbered_cell number) others this)
+    i ∙ ap (λ k. b ++ k ∷ []) is ∙ ap (λ t. t ++ numbered_cell number ∷ []) (h ∙ ap (λ k. a ++ numbered_cells k (end - k)) next)
+    ∙ append_assoc a (numbered_cells (number + 1) n) (numbered_cell number ∷ [])
+    ∙ ap (λ t. a ++ t) (sym (numbered_cells-suc number n) ∙ ap (numbered_cells number) more)

@@ -82,6 +82,15 @@ redrawn widths lines count most before left a b d n l m ea eb ed =
     ∙ append_assoc (before ++ overwrite_bytes widths lines) (blank_bytes rest) ups ∙ append_assoc before (overwrite_bytes widths lines) (blank_bytes rest ++ ups)
     ∙ ap (λ t. before ++ t) (sym (redraw_bytes widths lines))
 
+-- one blank line more
+pub blanks_more : (widths : List ℕ) (i : ℕ) (old new total : List ℕ) → i < length widths → new ≡ old ++ overwrite_line_bytes (get_or widths i 0) []
+    → old ++ blank_bytes (drop i widths) ≡ total → new ++ blank_bytes (drop (i + 1) widths) ≡ total
+blanks_more widths i old new total l n e =
+    let width = get_or widths i 0 in
+    ap (λ t. t ++ blank_bytes (drop (i + 1) widths)) n ∙ append_assoc old (overwrite_line_bytes width []) (blank_bytes (drop (i + 1) widths))
+    ∙ ap (λ k. old ++ blank_bytes (width ∷ drop k widths)) (let next : i + 1 ≡ suc i = omega arith in next)
+    ∙ ap (λ t. old ++ blank_bytes t) (sym (drop-cons widths i 0 l)) ∙ e
+
 -- ---- messages
 
 -- the messages that are left, of which this is the first

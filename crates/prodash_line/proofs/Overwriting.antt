@@ -1,5 +1,5 @@
 -- Lines on a page, each over the line on screen in its row.
-use Rattle.std.proofs.Common.{◌≡◌, ℕ, zero, suc, ◌-◌, ◌<◌, ◌≤◌, List, [], ◌∷◌, ◌++◌, length, drop, map, refl, sym, ap, subst, ◌∙◌, append_assoc, length-append, arith}
+use Rattle.std.proofs.Common.{false, ◌≡◌, ℕ, zero, suc, ◌-◌, ◌<◌, ◌≤◌, List, [], ◌∷◌, ◌++◌, length, drop, map, refl, sym, ap, subst, ◌∙◌, append_assoc, length-append, arith}
 use Rattle.std.specs.Prelude.{replicate, max}
 use Rattle.std.proofs.lemmas.List.{append-nil, drop_at, length-replicate, drop_all, drop-map}
 use Rattle.prodash_line.specs.Lines.{Line, columns_of, line_text}
@@ -47,7 +47,7 @@ ShowsLines-rows_after columns (suc k) [] (row ∷ below) i h = subst (λ (s : Li
 ShowsLines-rows_after columns (suc k) (l ∷ ls) (row ∷ below) i h = ShowsLines-rows_after columns k ls (some_row columns below) (some_is columns below) (ShowsLines-next columns (l ∷ ls) row below h)
 
 -- the first row is blank past the first line
-pub ShowsLines-first : (columns : ℕ) (old : List Line) (row : List ℕ) (below : List (List ℕ)) → LinesFit columns old
+pub ShowsLines-first : (columns : ℕ) (old : List Line) (row : List ℕ) (below : List (List ℕ)) → LinesFit false columns old
     → ShowsLines columns old (row ∷ below) → (first_width (widths_of old) ≤ columns) × (length row ≡ columns) × BlankFrom columns (first_width (widths_of old)) row
 ShowsLines-first columns [] row below fit h =
     let size : length (replicate {A = ℕ} columns 32) ≡ columns = length-replicate columns 32 in
@@ -64,7 +64,7 @@ ShowsLines-first columns (l ∷ ls) row below fit h =
 
 -- the lines come below the rows above, over as many lines on screen
 pub overwrite_at : (columns height : ℕ) (old lines : List Line) (above below : List (List ℕ))
-    → LinesFit columns old → LinesFit columns lines → ShowsLines columns old below → 0 < length below
+    → LinesFit false columns old → LinesFit false columns lines → ShowsLines columns old below → 0 < length below
     → page_after (overwrite (widths_of old) lines) (at columns height above below) ≡ at columns height (above ++ map (cells_of columns) lines) (rows_after columns (length lines) below)
 overwrite_at columns height old [] above below s p h i = ap (λ (a : List (List ℕ)). at columns height a below) (sym (append-nil above))
 overwrite_at columns height old (l ∷ ls) above [] s p h i = absurd (omega arith)
@@ -73,5 +73,5 @@ overwrite_at columns height old (l ∷ ls) above (row ∷ below) s p h i =
     page_after-append (overwrite_line (first_width (widths_of old)) l) (overwrite (drop 1 (widths_of old)) ls) (at columns height above (row ∷ below))
     ∙ ap (page_after (overwrite (drop 1 (widths_of old)) ls)) (overwrite_line_at columns height (first_width (widths_of old)) above row below l p.0 begins.0 begins.1 begins.2)
     ∙ ap (λ (widths : List ℕ). page_after (overwrite widths ls) (at columns height (above ++ cells_of columns l ∷ []) (some_row columns below))) (drop-map columns_of 1 old)
-    ∙ overwrite_at columns height (drop 1 old) ls (above ++ cells_of columns l ∷ []) (some_row columns below) (AllByRecursion-drop (LineFits columns) 1 old s) p.1 (ShowsLines-next columns old row below h) (some_is columns below)
+    ∙ overwrite_at columns height (drop 1 old) ls (above ++ cells_of columns l ∷ []) (some_row columns below) (AllByRecursion-drop (LineFits false columns) 1 old s) p.1 (ShowsLines-next columns old row below h) (some_is columns below)
     ∙ ap (λ (a : List (List ℕ)). at columns height a (rows_after columns (length ls) (some_row columns below))) (append_assoc above (cells_of columns l ∷ []) (map (cells_of columns) ls))

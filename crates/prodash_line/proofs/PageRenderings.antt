@@ -9,13 +9,14 @@ use Rattle.prodash_line.specs.declared.render.line.draw.input.Input.{Input}
 use Rattle.prodash_line.specs.declared.render.line.draw.input.Answer.{Answer}
 use Rattle.prodash_line.specs.Signs.{spelling_of, spelling}
 use Rattle.prodash_line.specs.Lines.{Line}
-use Rattle.prodash_line.specs.Frames.{Body, Unchanged, Draws, Closes, Frame, frame_signs, lines_after, widths_of, signs_of, all_lines_after}
+use Rattle.prodash_line.specs.Frames.{Frame, frame_signs, lines_after, widths_of, signs_of, all_lines_after}
 use Rattle.prodash_line.specs.Page.{Canvas}
 use Rattle.prodash_line.specs.declared.render.line.draw.action.Action.{Action}
 use Rattle.prodash_line.specs.declared.render.line.draw.action.Action.TheVariants.{Leave, Redraw, Close}
 use Rattle.prodash_line.specs.Renderer.{Renderer, Renders, frame_at, action_at, ended_after}
 use Rattle.prodash_line.specs.Screens.{ScreenState}
 use Rattle.prodash_line.specs.Renderings.{Rendering, after_result, renderer_after, RendersAll, Attempt, attempt_of, attempts_of, frames_of, drawn_frames, bytes_over, WritesAttempts, FitsPage, ShowsFrames}
+use Rattle.prodash_line.proofs.FittingFrames.{frames_fit}
 use Rattle.prodash_line.proofs.OrderlyFrames.{orderly_frames}
 use Rattle.prodash_line.proofs.ProperFrames.{frames_proper}
 use Rattle.prodash_line.proofs.PageTheorem.{shows_each_prefix}
@@ -82,12 +83,13 @@ pub shows_on_page : (r : Renderer) (s : ScreenState) (xs : List Rendering) (s' :
     → r.widths ≡ [] → r.ended ≡ None → r.options.terminal_dimensions.1 < 2 ^ 16 → FitsPage r xs s'.broken above page → ShowsFrames s.bytes s'.bytes (drawn_frames r xs) above page
 shows_on_page r s xs s' above page h none running low fits =
     let frames = drawn_frames r xs in
+    let each = frames_fit r xs page.columns page.height fits.columns fits.sizes fits.each in
     let height : page.height < 2 ^ 16 = subst (λ n. n < 2 ^ 16) (sym fits.height) low in
     let writes = writes_attempts r s xs s' [] h none in
     let all = all_written r s xs s' h (running_not_broken r.ended running) fits.unbroken in
     record {
       written = writes.1 ∙ ap (λ bytes. s.bytes ++ bytes) (writes_signs [] (attempts_of r xs) writes.0 all writes.2);
-      proper = frames_proper page.columns page.height [] frames fits.each (orderly_frames r xs);
+      proper = frames_proper page.columns page.height [] frames each (orderly_frames r xs);
       prefix = λ j. (signs_of (all_lines_after [] (take j frames)) (drop j frames), signs_of-take j [] frames);
-      shows = λ j. shows_each_prefix r xs page above j height fits.begins fits.each;
+      shows = λ j. shows_each_prefix r xs page above j height fits.begins each;
     }

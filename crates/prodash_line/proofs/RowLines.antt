@@ -1,8 +1,5 @@
 -- The line of a row, from what was appended to it.
-use Rattle.std.proofs.Common.{◌≡◌, ℕ, ◌+◌, ◌-◌, ◌%◌, ◌^◌, ◌<◌, Bool, false, true, List, [], ◌∷◌, ◌++◌, Option, Some, None, length, replicate, ap, sym, ◌∙◌, arith, length-append}
-use Rattle.std.specs.Prelude.{codes}
-use Rattle.std.specs.Fmt.{decimal}
-use Rattle.std.proofs.lemmas.Fmt.{decimal_by_steps}
+use Rattle.std.proofs.Common.{◌≡◌, ℕ, zero, suc, ◌+◌, ◌-◌, Bool, false, true, List, [], ◌∷◌, ◌++◌, Option, Some, length, take, replicate, append_assoc, ap, sym, ◌∙◌, arith, length-append}
 use Rattle.unicode_width.specs.Width.{str_width}
 use Rattle.prodash_base.specs.Rows.{PathRow, RowProgress}
 use Rattle.prodash_base.specs.declared.unit.display.Throughput.{Throughput}
@@ -10,28 +7,34 @@ use Rattle.prodash_line.specs.declared.render.line.draw.line_writer.LineWriter.{
 use Rattle.prodash_line.specs.declared.render.line.page.style.Style.{Style}
 use Rattle.prodash_line.specs.Lines.{Line, piece, spaces, capped, columns_of, in_color}
 use Rattle.prodash_line.specs.TextStyles.{row_style}
-use Rattle.prodash_line.specs.ProgressRows.{fraction_of, values_of, head_of, padded, bar, midpoint_with, row_line_with}
+use Rattle.prodash_line.specs.ProgressRows.{values_of, head_of, padded, bar, midpoint_with, row_line_with}
 use Rattle.prodash_line.specs.Padding.{end_of_values, padded_values}
 use Rattle.prodash_line.specs.Writing.{is_printable, Appends, Begun}
 use Rattle.prodash_line.proofs.Columns.{columns_of-append, printable-append, width-printable, width-repeated}
 use Rattle.prodash_line.proofs.Coloring.{in_color-append, columns_of-in_color}
-use Rattle.prodash_line.proofs.LineWriting.{appends_as, appends_then, appends_joined, begun_then, begun_as}
+use Rattle.prodash_line.proofs.LineWriting.{appends_as, appends_then, begun_then, begun_as}
 
--- a fraction, part by part
-pub fraction_appends : {a b c d : LineWriter} (text step slash bound : List ℕ) → text ≡ step ++ (slash ++ bound)
-    → is_printable step ≡ true → is_printable slash ≡ true → is_printable bound ≡ true
-    → Appends a (piece step ∷ []) b → Appends b (piece slash ∷ []) c → Appends c (piece bound ∷ []) d → Appends a (piece text ∷ []) d
-fraction_appends text step slash bound v q1 q2 q3 h1 h2 h3 =
-    appends_as (ap (λ t. piece t ∷ []) (sym v)) (appends_joined step (slash ++ bound) q1 (printable-append slash bound q2 q3) h1 (appends_joined slash bound q2 q3 h2 h3))
+-- ---- a text in three parts
 
--- it has a digit
-digits_some : (n : ℕ) → n < 2 ^ 64 → 0 < length (decimal n)
-digits_some n small =
-    decimal_by_steps (λ n ds. 0 < length ds) (λ n h. omega arith) (λ n ds h e. omega (arith, length-append ds ((48 + n % 10) ∷ []))) n small
+pub length-parts : (text first second third : List ℕ) → text ≡ first ++ (second ++ third) → length text ≡ length first + length second + length third
+length-parts text first second third e = omega (arith, ap length e, length-append first (second ++ third), length-append second third)
 
-pub fraction_some : (step : ℕ) (bound : Option ℕ) → step < 2 ^ 64 → 0 < length (fraction_of step bound)
-fraction_some step None small = digits_some step small
-fraction_some step (Some bound) small = omega (arith, digits_some step small, length-append (decimal step) (codes "/" ++ decimal bound))
+take-parts : (k : ℕ) (xs ys : List ℕ) → take k (xs ++ ys) ≡ take k xs ++ take (k - length xs) ys
+take-parts zero xs ys = ap (λ n. take n ys) (let e : 0 ≡ 0 - length xs = omega arith in e)
+take-parts (suc k) [] ys = ap (λ n. take n ys) (let e : suc k ≡ suc k - 0 = omega arith in e)
+take-parts (suc k) (x ∷ xs) ys = ap (λ t. x ∷ t) (take-parts k xs ys) ∙ ap (λ n. x ∷ (take k xs ++ take n ys)) (let e : k - length xs ≡ suc k - length (x ∷ xs) = omega arith in e)
+
+-- its first characters, part by part
+pub parts_written : (a b c d text first second third : List ℕ) (n m k : ℕ) → text ≡ first ++ (second ++ third)
+    → b ≡ a ++ take n first → m ≡ n - length first → c ≡ b ++ take m second → k ≡ m - length second → d ≡ c ++ take k third → d ≡ a ++ take n text
+parts_written a b c d text first second third n m k e eb em ec ek ed =
+    let mine = take n first in
+    let next = take m second in
+    ed ∙ ap (λ t. t ++ take k third) (ec ∙ ap (λ t. t ++ next) eb) ∙ append_assoc (a ++ mine) next (take k third) ∙ append_assoc a mine (next ++ take k third)
+    ∙ ap (λ j. a ++ (mine ++ (next ++ take j third))) ek
+    ∙ ap (λ t. a ++ (mine ++ t)) (sym (take-parts m second third))
+    ∙ ap (λ j. a ++ (mine ++ take j (second ++ third))) em
+    ∙ ap (λ t. a ++ t) (sym (take-parts n first (second ++ third)) ∙ ap (take n) (sym e))
 
 -- where it ends
 pub fraction_end : (text step slash bound : List ℕ) (before width own : ℕ) → text ≡ step ++ (slash ++ bound)
@@ -59,21 +62,21 @@ padded_appends colored midpoint own pad values o p one two three =
     appends_as (ap (λ n. spaces 1 ∷ spaces n ∷ in_color colored values) (p ∙ ap (λ n. midpoint - n) o)) (appends_then one (appends_then two three))
 
 -- the midpoint of a row, from where its values end behind its head
-pub row_midpoint : {old w : LineWriter} (colored : Bool) (row : PathRow) (p : RowProgress) (t : Option Throughput) → Begun old (in_color colored (head_of row)) w
+pub row_midpoint : {limit : Option ℕ} {old w : LineWriter} (colored : Bool) (row : PathRow) (p : RowProgress) (t : Option Throughput) → Begun limit old (in_color colored (head_of row)) w
     → end_of_values w.width (values_of p t) ≡ midpoint_with row (Some p) t
 row_midpoint colored row p t h =
     ap (λ n. end_of_values n (values_of p t)) h.writes.width ∙ sym (columns_of-append (head_of row) (spaces 1 ∷ values_of p t))
 
 -- the line up to the values
-pub padded_begun : {old w1 w2 : LineWriter} (colored : Bool) (row : PathRow) (p : RowProgress) (t : Option Throughput) (midpoint : ℕ) → Begun old (in_color colored (head_of row)) w1
-    → Appends w1 (in_color colored (padded_values midpoint w1.width (values_of p t))) w2 → Begun old (in_color colored (padded midpoint row p t)) w2
+pub padded_begun : {limit : Option ℕ} {old w1 w2 : LineWriter} (colored : Bool) (row : PathRow) (p : RowProgress) (t : Option Throughput) (midpoint : ℕ) → Begun limit old (in_color colored (head_of row)) w1
+    → Appends w1 (in_color colored (padded_values midpoint w1.width (values_of p t))) w2 → Begun limit old (in_color colored (padded midpoint row p t)) w2
 padded_begun colored row p t midpoint h values =
     begun_as (ap (λ n. in_color colored (head_of row ++ (spaces 1 ∷ spaces (midpoint - n) ∷ values_of p t))) (row_midpoint colored row p t h)) (begun_then h values)
 
 -- with the bar
-pub row_begun : {old w1 w2 : LineWriter} (colored : Bool) (row : PathRow) (p : RowProgress) (t : Option Throughput) (width midpoint left : ℕ) (style : Style)
-    → Begun old (in_color colored (padded midpoint row p t)) w1 → left ≡ width - w1.width → style ≡ row_style p
-    → Appends w1 (in_color colored (bar style left p.counter p.bound)) w2 → Begun old (in_color colored (row_line_with width midpoint row (Some p) t)) w2
+pub row_begun : {limit : Option ℕ} {old w1 w2 : LineWriter} (colored : Bool) (row : PathRow) (p : RowProgress) (t : Option Throughput) (width midpoint left : ℕ) (style : Style)
+    → Begun limit old (in_color colored (padded midpoint row p t)) w1 → left ≡ width - w1.width → style ≡ row_style p
+    → Appends w1 (in_color colored (bar style left p.counter p.bound)) w2 → Begun limit old (in_color colored (row_line_with width midpoint row (Some p) t)) w2
 row_begun colored row p t width midpoint left style h l s b =
     let values = padded midpoint row p t in
     let columns = l ∙ ap (λ n. width - n) (h.writes.width ∙ columns_of-in_color colored values) in

@@ -1,5 +1,5 @@
 -- One line on a page, over the line on screen in its row.
-use Rattle.std.proofs.Common.{◌≡◌, ℕ, ◌+◌, ◌-◌, ◌≤◌, List, [], ◌∷◌, ◌++◌, Option, Some, None, length, drop, map, sym, ap, ◌∙◌, append_assoc, length-append, length-drop, arith}
+use Rattle.std.proofs.Common.{false, ◌≡◌, ℕ, ◌+◌, ◌-◌, ◌≤◌, List, [], ◌∷◌, ◌++◌, Option, Some, None, length, drop, map, sym, ap, ◌∙◌, append_assoc, length-append, length-drop, arith}
 use Rattle.std.specs.Prelude.{replicate}
 use Rattle.std.proofs.lemmas.List.{append-nil, drop-drop, drop-replicate, replicate-append-replicate, length-replicate}
 use Rattle.prodash_line.specs.declared.render.line.page.sign.Sign.TheVariants.{Char, LineFeed, Reset}
@@ -60,7 +60,7 @@ padded columns old row text h e l t =
 
 -- a line over a row that is blank past the old line
 pub overwrite_line_at : (columns height old : ℕ) (above : List (List ℕ)) (row : List ℕ) (below : List (List ℕ)) (l : Line)
-    → LineFits columns l → old ≤ columns → length row ≡ columns → BlankFrom columns old row
+    → LineFits false columns l → old ≤ columns → length row ≡ columns → BlankFrom columns old row
     → page_after (overwrite_line old l) (at columns height above (row ∷ below)) ≡ at columns height (above ++ cells_of columns l ∷ []) (some_row columns below)
 overwrite_line_at columns height old above row below l fit o e h =
     let text = line_text l in

@@ -1,5 +1,5 @@
 -- The styles of the lines of rows and messages: each has a code.
-use Rattle.std.proofs.Common.{ℕ, Bool, true, false, cond, ◌==◌, ◌-◌, List, [], ◌∷◌, ◌++◌, Option, Some, None}
+use Rattle.std.proofs.Common.{ℕ, Bool, true, false, cond, nat_le, ◌==◌, ◌-◌, List, [], ◌∷◌, ◌++◌, Option, Some, None}
 use Rattle.std.specs.Prelude.{⊤, ◌≢◌}
 use Rattle.std.specs.List.{AllByRecursion}
 use Rattle.prodash_base.specs.Rows.{Phase, Running, Halted, Blocked, PathRow, RowProgress}
@@ -10,7 +10,8 @@ use Rattle.prodash_line.specs.declared.render.line.draw.input.Options.{Options}
 use Rattle.prodash_line.specs.declared.render.line.page.style.Style.{Style}
 use Rattle.prodash_line.specs.Styles.{style_codes}
 use Rattle.prodash_line.specs.TextStyles.{dimmed, name_style, style_in, row_style}
-use Rattle.prodash_line.specs.Lines.{Line, shown_style, in_color, columns_of}
+use Rattle.prodash_line.specs.Lines.{Piece, Line, styled, shown_style, in_color, width_of, columns_of, longest_prefix, cut_to, cut}
+use Rattle.prodash_line.specs.DrawnLines.{limit_of, as_drawn}
 use Rattle.prodash_line.specs.ProgressRows.{DrawnRow, values_by, bounded_bar, unbounded_bar, bar, padded, row_line_with, row_lines}
 use Rattle.prodash_line.specs.MessageLines.{time_of, text_of, message_line, drawn_message_line, message_lines, origin_width, greatest_width}
 use Rattle.prodash_line.proofs.Lists.{AllByRecursion-append}
@@ -38,6 +39,23 @@ shown false (Some style) h = tt
 in_color_has : (colored : Bool) (line : Line) → HasCodes line → HasCodes (in_color colored line)
 in_color_has colored [] h = tt
 in_color_has colored (p ∷ ps) h = (shown colored p.style h.0, in_color_has colored ps h.1)
+
+-- a line that is cut has no other styles
+kept_or_cut : (b : Bool) (p : Piece) (text : List ℕ) (line : Line) → HasCode p.style → HasCodes line → HasCodes (cond b (p ∷ line) (styled p.style text ∷ []))
+kept_or_cut true p text line h hs = (h, hs)
+kept_or_cut false p text line h hs = (h, tt)
+
+cut_to_has : (columns : ℕ) (line : Line) → HasCodes line → HasCodes (cut_to columns line)
+cut_to_has columns [] h = tt
+cut_to_has columns (p ∷ ps) h =
+    kept_or_cut (nat_le (width_of p) columns) p (longest_prefix columns p.text) (cut_to (columns - width_of p) ps) h.0 (cut_to_has (columns - width_of p) ps h.1)
+
+cut_has : (limit : Option ℕ) (line : Line) → HasCodes line → HasCodes (cut limit line)
+cut_has None line h = h
+cut_has (Some columns) line h = cut_to_has columns line h
+
+drawn_has : (options : Options) (line : Line) → HasCodes line → HasCodes (as_drawn options line)
+drawn_has options line h = cut_has (limit_of options) (in_color options.colored line) (in_color_has options.colored line h)
 
 one_or_other : (b : Bool) (xs ys : Line) → HasCodes xs → HasCodes ys → HasCodes (cond b xs ys)
 one_or_other true xs ys h i = h
@@ -74,7 +92,7 @@ row_has width midpoint row (Some p) t =
 pub rows_have : (options : Options) (midpoint : ℕ) (rows : List DrawnRow) → HaveCodes (row_lines options midpoint rows)
 rows_have options midpoint [] = tt
 rows_have options midpoint (row ∷ rows) =
-    (in_color_has options.colored _ (row_has options.terminal_dimensions.0 midpoint row.0 row.0.1.progress row.1), rows_have options midpoint rows)
+    (drawn_has options _ (row_has options.terminal_dimensions.0 midpoint row.0 row.0.1.progress row.1), rows_have options midpoint rows)
 
 -- ---- messages
 
@@ -87,7 +105,7 @@ text_has width m = (some_code _ _, (tt, (some_code _ _, tt)))
 
 message_has : (options : Options) (width : ℕ) (m : Message) → HasCodes (drawn_message_line options width m)
 message_has options width m =
-    in_color_has options.colored (message_line options.timestamp width m) (tt, AllByRecursion-append (λ q. HasCode q.style) (time_of options.timestamp m) (text_of width m) (time_has options.timestamp m) (text_has width m))
+    drawn_has options (message_line options.timestamp width m) (tt, AllByRecursion-append (λ q. HasCode q.style) (time_of options.timestamp m) (text_of width m) (time_has options.timestamp m) (text_has width m))
 
 pub messages_have : (options : Options) (widths : List ℕ) (messages : List Message) → HaveCodes (message_lines options widths messages)
 messages_have options widths [] = tt

@@ -144,7 +144,7 @@ pub raised_origins : (next (next (record terminal { origin_widths = 4 ∷ 1 ∷ 
 raised_origins = refl
 
 -- what a page of that size takes
-pub fits : FrameFits 40 4 (frame_at terminal (tick 0 true (row (codes "a") ∷ []) []))
+pub fits : FrameFits true 40 4 (frame_at terminal (tick 0 true (row (codes "a") ∷ []) []))
 unfolding chars str_width char_width step past_emoji
 fits = record {
   messages = tt;
@@ -158,7 +158,7 @@ fits = record {
           );
           columns = refl;
         };
-        within = omega arith;
+        within = tt;
       },
       tt,
     ),

@@ -1,5 +1,5 @@
 -- Lines and frames that fit a page: of characters that are one column wide each, no wider than the page, and lower than its window.
-use Rattle.std.specs.Prelude.{ℕ, ◌≡◌, ◌<◌, ◌≤◌, false, ⊤, Some, List, length}
+use Rattle.std.specs.Prelude.{ℕ, ◌≡◌, ◌<◌, ◌≤◌, Bool, false, MatchBool, ⊤, Some, List, length}
 use Rattle.std.specs.List.{AllByRecursion}
 use Rattle.unicode_width.specs.Width.{char_width}
 use Rattle.prodash_line.specs.Signs.{IsProper}
@@ -22,21 +22,21 @@ pub record IsPlain (line : Line) : Type 0 where
   pub pieces : AllByRecursion IsPlainPiece line
   pub columns : columns_of line ≡ length (line_text line)
 
--- a plain line, no wider than the page
-pub record LineFits (columns : ℕ) (line : Line) : Type 0 where
+-- a plain line, no wider than the page; of lines that are cut to its width only the first is asked
+pub record LineFits (cut : Bool) (columns : ℕ) (line : Line) : Type 0 where
   pub plain : IsPlain line
-  pub within : columns_of line ≤ columns
+  pub within : MatchBool cut ⊤ (columns_of line ≤ columns)
 
-abbrev pub LinesFit : ℕ → List Line → Type 0
-LinesFit columns lines = AllByRecursion (LineFits columns) lines
+abbrev pub LinesFit : Bool → ℕ → List Line → Type 0
+LinesFit cut columns lines = AllByRecursion (LineFits cut columns) lines
 
 -- lines that fit, at least one fewer than the window has rows
-abbrev pub BodyFits : ℕ → ℕ → Body → Type 0
-BodyFits columns height Unchanged = ⊤
-BodyFits columns height (Draws lines) = LinesFit columns lines × (length lines < height)
-BodyFits columns height (Closes ending) = ⊤
+abbrev pub BodyFits : Bool → ℕ → ℕ → Body → Type 0
+BodyFits cut columns height Unchanged = ⊤
+BodyFits cut columns height (Draws lines) = LinesFit cut columns lines × (length lines < height)
+BodyFits cut columns height (Closes ending) = ⊤
 
 -- a frame whose messages and drawn lines fit
-pub record FrameFits (columns height : ℕ) (f : Frame) : Type 0 where
-  pub messages : LinesFit columns f.messages
-  pub body : BodyFits columns height f.body
+pub record FrameFits (cut : Bool) (columns height : ℕ) (f : Frame) : Type 0 where
+  pub messages : LinesFit cut columns f.messages
+  pub body : BodyFits cut columns height f.body

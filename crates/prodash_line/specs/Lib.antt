@@ -2,9 +2,11 @@ pub mod Styles
 pub mod Signs
 pub mod Lines
 pub mod TextStyles
+pub mod DrawnLines
 pub mod Frames
 pub mod ProgressRows
 pub mod MessageLines
+pub mod Cutting
 pub mod Writing
 pub mod Padding
 pub mod OverwriteBytes

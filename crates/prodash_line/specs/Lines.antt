@@ -1,5 +1,5 @@
--- Lines, and how many columns they take.
-use Rattle.std.specs.Prelude.{ℕ, Bool, false, List, ◌++◌, map, Option, Some, None, min, replicate, sum_by}
+-- Lines, how many columns they take, and where they are cut.
+use Rattle.std.specs.Prelude.{ℕ, zero, suc, ◌-◌, nat_le, Bool, false, if◌then◌else◌, List, [], ◌∷◌, ◌++◌, length, map, take, Option, Some, None, min, replicate, sum_by}
 use Rattle.std.specs.Bool.{then_some}
 use Rattle.std.specs.List.{flat_map}
 use Rattle.unicode_width.specs.Width.{str_width}
@@ -53,3 +53,24 @@ shown_style colored (Some style) = then_some colored style
 -- a line as it is drawn: without colour no text has a style
 abbrev pub in_color : Bool → Line → Line
 in_color colored line = map (λ p. styled (shown_style colored p.style) p.text) line
+
+-- the longest prefix of a text, of at most k characters, that is no wider than this
+abbrev pub longest_prefix_of : ℕ → List ℕ → ℕ → List ℕ
+longest_prefix_of columns text zero = []
+longest_prefix_of columns text (suc k) =
+    if nat_le (str_width false (take (suc k) text)) columns then take (suc k) text else longest_prefix_of columns text k
+
+-- the longest prefix of a text that is no wider than this
+unfoldable pub longest_prefix : ℕ → List ℕ → List ℕ
+longest_prefix columns text = longest_prefix_of columns text (length text)
+
+-- the pieces from the first on that fit these columns together, then of the next one its longest prefix that fits
+abbrev pub cut_to : ℕ → Line → Line
+cut_to columns [] = []
+cut_to columns (p ∷ line) =
+    if nat_le (width_of p) columns then p ∷ cut_to (columns - width_of p) line else record p { text = longest_prefix columns p.text } ∷ []
+
+-- a line cut to this many columns, or whole
+abbrev pub cut : Option ℕ → Line → Line
+cut None line = line
+cut (Some columns) line = cut_to columns line

@@ -5,6 +5,7 @@ use Rattle.prodash_base.specs.Rings.{keep_last}
 use Rattle.prodash_base.specs.declared.messages.Message.{Message}
 use Rattle.prodash_line.specs.declared.render.line.draw.input.Options.{Options}
 use Rattle.prodash_line.specs.Lines.{Line, piece, styled, spaces, columns_of, in_color}
+use Rattle.prodash_line.specs.DrawnLines.{as_drawn}
 use Rattle.prodash_line.specs.TextStyles.{origin_style, message_style, time_style}
 
 -- the width of an origin
@@ -33,7 +34,7 @@ drawn_time options m = in_color options.colored (time_of options.timestamp m)
 
 -- the line of a message as it is drawn
 abbrev pub drawn_message_line : Options → ℕ → Message → Line
-drawn_message_line options width m = in_color options.colored (message_line options.timestamp width m)
+drawn_message_line options width m = as_drawn options (message_line options.timestamp width m)
 
 -- the greatest of some widths, 0 if there are none
 abbrev pub greatest_width : List ℕ → ℕ

@@ -1,7 +1,7 @@
 -- The bytes of lines over those on screen.
-use Rattle.std.specs.Prelude.{◌≡◌, ℕ, ◌-◌, List, [], ◌∷◌, ◌++◌, drop, replicate}
+use Rattle.std.specs.Prelude.{◌≡◌, ℕ, ◌-◌, List, [], ◌∷◌, ◌++◌, drop, replicate, Option}
 use Rattle.prodash_line.specs.declared.render.line.draw.line_writer.LineWriter.{LineWriter}
-use Rattle.prodash_line.specs.Lines.{Line, columns_of}
+use Rattle.prodash_line.specs.Lines.{Line, columns_of, cut}
 use Rattle.prodash_line.specs.Frames.{first_width}
 use Rattle.prodash_line.specs.Writing.{line_bytes, Begun}
 
@@ -29,8 +29,9 @@ pub record Overwrites (old : LineWriter) (width : ℕ) (line : Line) (new : Line
 
 -- whatever line has been begun is ended, over one of this width
 abbrev pub EndsOver : LineWriter → ℕ → LineWriter → Type 0
-EndsOver old width new = (before : LineWriter) (line : Line) → Begun before line old → Overwrites before width line new
+EndsOver old width new =
+    (limit : Option ℕ) (before : LineWriter) (line : Line) → Begun limit before line old → Overwrites before width (cut limit line) new
 
--- whatever line has been begun is this many columns wide
-abbrev pub IsLineWidth : LineWriter → ℕ → Type 0
-IsLineWidth w n = (before : LineWriter) (line : Line) → Begun before line w → n ≡ columns_of line
+-- whatever line has been begun is this many columns wide where it is cut
+abbrev pub IsCutWidth : LineWriter → ℕ → Type 0
+IsCutWidth w n = (limit : Option ℕ) (before : LineWriter) (line : Line) → Begun limit before line w → n ≡ columns_of (cut limit line)

@@ -10,7 +10,8 @@ use Rattle.prodash_base.specs.Trackers.{Tracker, frame_throughputs}
 use Rattle.prodash_base.specs.declared.unit.display.Throughput.{Throughput}
 use Rattle.prodash_line.specs.declared.render.line.draw.input.Options.{Options}
 use Rattle.prodash_line.specs.declared.render.line.page.style.Style.{Style}
-use Rattle.prodash_line.specs.Lines.{Line, piece, styled, spaces, columns_of, in_color}
+use Rattle.prodash_line.specs.Lines.{Line, piece, styled, spaces, columns_of}
+use Rattle.prodash_line.specs.DrawnLines.{as_drawn}
 use Rattle.prodash_line.specs.TextStyles.{dimmed, name_style, values_style, row_style}
 
 -- `step/bound`, or the step alone if there is no bound
@@ -125,7 +126,7 @@ row_line width midpoint drawn = row_line_with width midpoint drawn.0 drawn.0.1.p
 
 -- the line of a row as it is drawn
 abbrev pub drawn_row_line : Options → ℕ → DrawnRow → Line
-drawn_row_line options midpoint drawn = in_color options.colored (row_line options.terminal_dimensions.0 midpoint drawn)
+drawn_row_line options midpoint drawn = as_drawn options (row_line options.terminal_dimensions.0 midpoint drawn)
 
 abbrev pub row_lines : Options → ℕ → List DrawnRow → List Line
 row_lines options midpoint rows = map (drawn_row_line options midpoint) rows

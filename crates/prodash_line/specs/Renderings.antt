@@ -108,7 +108,7 @@ pub record FitsPage (r : Renderer) (xs : List Rendering) (broken : Bool) (above 
   pub height : page.height ≡ r.options.terminal_dimensions.1
   pub sizes : AllByRecursion (λ x. KeepsSize page.columns page.height x.input) xs
   pub begins : Shows above [] page
-  pub each : AllByRecursion (FrameFits page.columns page.height) (drawn_frames r xs)
+  pub each : AllByRecursion (FrameFits r.options.output_is_terminal page.columns page.height) (drawn_frames r xs)
   pub unbroken : broken ≡ false
 
 -- What is written is the spelling of the frames' signs, which are proper, so that reading it gives them. After each prefix of the frames the

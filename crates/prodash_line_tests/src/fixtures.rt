@@ -85,7 +85,7 @@ fn measured_row(
 }
 
 /// A tick with a root, which has seen as many messages as it prints.
-fn tick(
+pub(crate) fn tick(
     alloc: Global,
     show: bool,
     printed: &[ShortMessage],

@@ -48,17 +48,32 @@ const FRAMES: &[Drawing] = &[
     Drawing((40, 24), &[(Show(&[]), Ok(""))]),
     // a bound of zero fills the bar
     Drawing((20, 24), &[(Show(&[("t", Some((0, Some(0))))]), Ok(" t 0/0 [==========>]\n\x1b[1A"))]),
-    // a bar with one column left, and no bar with none
-    Drawing((8, 24), &[(Show(&[("t", THREE_OF_TEN)]), Ok(" t 3/10 [>]\n\x1b[1A"))]),
+    // a row is cut at the terminal's width: in its bar, before its bar, in its values
+    Drawing((8, 24), &[(Show(&[("t", THREE_OF_TEN)]), Ok(" t 3/10 \n\x1b[1A"))]),
     Drawing((7, 24), &[(Show(&[("t", THREE_OF_TEN)]), Ok(" t 3/10\n\x1b[1A"))]),
+    Drawing((5, 24), &[(Show(&[("t", THREE_OF_TEN)]), Ok(" t 3/\n\x1b[1A"))]),
+    // a character of two columns isn't cut in its middle, and the next line is padded to three
+    // columns
+    Drawing((4, 24), &[
+        (Show(&[("日本", None)]), Ok(" 日\n\x1b[1A")),
+        (Show(&[("a", None)]), Ok(" a \n\x1b[1A")),
+    ]),
+    // the midpoint is that of the whole row
+    Drawing((7, 24), &[
+        (Show(&[("abcde", THREE_OF_TEN), ("t", None)]), Ok(" abcde \n t\n\x1b[2A")),
+        (Show(&[("t", THREE_OF_TEN)]), Ok(" t     \n  \n\x1b[2A")),
+    ]),
+    // no column at all
+    Drawing((0, 24), &[(Show(&[("t", THREE_OF_TEN)]), Ok("\n\x1b[1A"))]),
     // without a bound, a cell for each number from the step on, the last one first
     Drawing((40, 24), &[(Show(&[("t", Some((3, None)))]), Ok(" t 3 [   ===   ===   ===   ===   ===   ]\n\x1b[1A"))]),
     Drawing((18, 24), &[(Show(&[("t", Some((2, None)))]), Ok(" t 2 [=   ===   =]\n\x1b[1A")), (Show(&[("t", Some((3, None)))]), Ok(" t 3 [==   ===   ]\n\x1b[1A"))]),
     // no cell from 2^64-1 on
     Drawing((40, 24), &[(Show(&[("t", Some((18446744073709551612, None)))]), Ok(" t 18446744073709551612 [===]\n\x1b[1A"))]),
     Drawing((40, 24), &[(Show(&[("t", Some((18446744073709551615, None)))]), Ok(" t 18446744073709551615 []\n\x1b[1A"))]),
-    // such a bar with one column left, and no bar with none
-    Drawing((5, 24), &[(Show(&[("t", Some((3, None)))]), Ok(" t 3 []\n\x1b[1A"))]),
+    // such a bar with two columns left, with one, and no bar with none
+    Drawing((6, 24), &[(Show(&[("t", Some((3, None)))]), Ok(" t 3 [\n\x1b[1A"))]),
+    Drawing((5, 24), &[(Show(&[("t", Some((3, None)))]), Ok(" t 3 \n\x1b[1A"))]),
     Drawing((4, 24), &[(Show(&[("t", Some((3, None)))]), Ok(" t 3\n\x1b[1A"))]),
     // two characters of two columns each, then a narrower line
     Drawing((40, 24), &[

@@ -31,6 +31,12 @@ const LINES: &[Drawing] = &[
         (Resize(40, 20), Ok("")),
         (Print(&[("c", "z")], &[]), Ok("  c z\n")),
     ]),
+    // a message is cut at the terminal's width: in its text, in its origin, in the spaces before it
+    Drawing((20, 20), &[
+        (Print(&[("task", "a long message of many words")], &[]), Ok(" task a long message\n")),
+        (Resize(3, 20), Ok("")),
+        (Print(&[("task", "x"), ("c", "y")], &[]), Ok(" ta\n   \n")),
+    ]),
     // an origin two columns wide, and a text that begins with a combining accent: six columns, and
     // four spaces over the row of ten columns
     Drawing((40, 20), &[

@@ -222,14 +222,14 @@ fn over_write_says_whether_it_is_broken(rt: HostRuntime) -> Result<(), Fail> {
 const LONG_FRAME: usize = 5000 + 1 + 4;
 
 #[test]
-fn long_frame_is_one_put(rt: HostRuntime) {
+fn long_frame_is_flushed_once(rt: HostRuntime) {
     let mut screen = OverWrite::new(FakeWriter::new(rt.alloc(), &[Takes(usize::MAX)], true));
     let mut state = renderer(rt.alloc(), (5000, 24));
     let got = draw(rt.alloc(), &mut screen, &mut state, Show(&[TASK]));
     assert_same(&rt, got, Ok(Answer::Drawn), "long frame");
     let writer = screen.into_inner();
     assert_same(&rt, writer.bytes.len(), LONG_FRAME, "bytes");
-    assert_same(&rt, writer.calls, (1, 1), "calls");
+    assert_same(&rt, writer.calls, (2, 1), "calls");
 }
 
 const BREAKS: &[Outcome] = &[Takes(5), Fails(ErrorKind::Interrupted)];

@@ -1,7 +1,8 @@
 use crate::fixtures::Ask::{Quit, Show};
-use crate::fixtures::{Ask, FakeScreen, TASK_FRAME, assert_same, draw, renderer};
+use crate::fixtures::{Ask, FakeScreen, TASK_FRAME, assert_same, draw, renderer, tick};
 use prodash_base::Refusal;
-use prodash_line::render::line::draw::{Answer, MemoryScreen, Screen};
+use prodash_fixtures::{key_at, row};
+use prodash_line::render::line::draw::{self, Answer, MemoryScreen, Screen};
 use std::alloc::Global;
 use std::process::Abort;
 use std::test::Fail;
@@ -59,5 +60,58 @@ fn renderer_ends_once_its_screen_is_broken(rt: HostRuntime) -> Result<(), Fail> 
         assert_ends(&rt, rt.alloc(), &mut screen, *first, want);
         assert_needs_no_screen(&rt, rt.alloc(), &mut screen);
     }
+    Ok(())
+}
+
+/// A screen that takes all bytes, and records how many the first four puts were given.
+#[derive(Drop)]
+struct CountingScreen {
+    inner: MemoryScreen,
+    sizes: [usize; 4],
+    puts: usize,
+}
+
+impl Screen for CountingScreen {
+    ghost state = { λ s. record {
+      bytes = s.inner.bytes;
+      flushed = s.inner.bytes;
+      broken = s.inner.broken;
+    } };
+
+    fn put(&mut self, bytes: &[u8]) -> Result<usize, Refusal> {
+        if self.puts < 4 {
+            self.sizes[self.puts] = bytes.len();
+            self.puts += 1;
+        }
+        self.inner.put(bytes)
+    }
+
+    fn flush(&mut self) -> Result<(), Refusal> {
+        self.inner.flush()
+    }
+
+    fn is_broken(&self) -> bool {
+        self.inner.is_broken()
+    }
+}
+
+#[test]
+fn frames_go_out_in_pieces(rt: HostRuntime) -> Result<(), Fail> {
+    // the line of this name, with the motion back up, has 10000 bytes
+    let mut name = String::new(rt.alloc());
+    for _ in 0..9994 {
+        name.push('x')?;
+    }
+    let rows = vec![in rt.alloc(); row(rt.alloc(), key_at(&[0]), &name, None)?]?;
+    let mut screen = CountingScreen {
+        inner: MemoryScreen::new(rt.alloc(), 10000)?,
+        sizes: [0; 4],
+        puts: 0,
+    };
+    let mut state = renderer(rt.alloc(), (12000, 24));
+    let input = tick(rt.alloc(), true, &[], rows)?;
+    let answer = draw::all(rt.alloc(), &mut screen, &mut state, input);
+    assert_same(&rt, answer, Ok(Answer::Drawn), "a long frame");
+    assert_same(&rt, screen.sizes, [4096, 4096, 1808, 0], "a long frame");
     Ok(())
 }

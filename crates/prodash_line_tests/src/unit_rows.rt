@@ -22,15 +22,18 @@ const LINES: &[Drawing] = &[
         (Measure(Kind::Label("items"), 3, Some(10)), Ok(" t 3/10 items [===>----------]\n\x1b[1A")),
     ]),
     Drawing((12, 20), &[(Measure(Kind::Label(""), 3, Some(10)), Ok(" t 3/10  [>]\n\x1b[1A"))]),
-    Drawing((8, 20), &[(Measure(STEPS, 1, Some(5)), Ok(" t 2 of 5 steps\n\x1b[1A"))]),
-    Drawing((4, 20), &[
+    Drawing((15, 20), &[(Measure(STEPS, 1, Some(5)), Ok(" t 2 of 5 steps\n\x1b[1A"))]),
+    // cut in the values, and in the unit
+    Drawing((8, 20), &[(Measure(STEPS, 1, Some(5)), Ok(" t 2 of \n\x1b[1A"))]),
+    Drawing((12, 20), &[(Measure(STEPS, 1, Some(5)), Ok(" t 2 of 5 st\n\x1b[1A"))]),
+    Drawing((15, 20), &[
         (Measure(Kind::Bytes(Bytes), 1999, Some(1_000_000)), Ok(" t 1.9kB/1.0MB \n\x1b[1A")),
     ]),
-    Drawing((4, 20), &[
+    Drawing((20, 20), &[
         (Measure(Kind::Duration(Duration), 3600, Some(620410)),
          Ok(" t 1h of 7d4h20m10s \n\x1b[1A")),
     ]),
-    Drawing((4, 20), &[(Measure(OBJECTS, 2540000, None), Ok(" t 2.54M objects\n\x1b[1A"))]),
+    Drawing((16, 20), &[(Measure(OBJECTS, 2540000, None), Ok(" t 2.54M objects\n\x1b[1A"))]),
 ];
 
 #[test]

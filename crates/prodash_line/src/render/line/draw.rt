@@ -5,16 +5,19 @@ ghost use Rattle.prodash_line.specs.Renderer.{Renders, begun, broken};
 
 mod action;
 mod bar;
+mod fitting;
 mod frame;
 mod input;
 mod line_writer;
 mod memory_screen;
 mod message;
 mod over_write;
+mod room;
 mod row;
 mod screen;
 mod state;
 mod styles;
+mod text;
 
 use frame::{compose, compose_closing, compose_resized};
 pub use input::{Answer, Input, Options};

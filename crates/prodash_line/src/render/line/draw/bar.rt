@@ -1,9 +1,8 @@
 //! The bar of a progress.
-ghost use Rattle.std.specs.Prelude.{◌≡◌, ◌-◌, ◌≤◌, [], ◌∷◌, OnOk};
-ghost use Rattle.prodash_line.specs.Lines.{piece};
+ghost use Rattle.std.specs.Prelude.{◌≡◌, ◌-◌, ◌≤◌, ◌++◌, OnOk};
 ghost use Rattle.prodash_line.specs.ProgressRows as rows;
 ghost use Rattle.prodash_line.specs.ProgressRows.{numbered_cells};
-ghost use Rattle.prodash_line.specs.Writing.{Appends, AppendsIn};
+ghost use Rattle.prodash_line.specs.Writing.{AppendsIn, SameLine};
 
 use crate::render::line::draw::line_writer::{LineWriter, style_of_length};
 use crate::render::line::page::Style;
@@ -95,23 +94,25 @@ fn push_unbounded_bar(
         (AppendsIn colored out.old (rows.unbounded_bar style columns step) out.new) }
 {
     let end = step.saturating_add(Step::from(columns.saturating_sub(BRACKETS)));
-    let style = style_of_length(colored.then_some(style), (end - step) as usize);
     out.push_printable(b" [")?;
+    let count = out.count((end - step) as u16);
+    let style = style_of_length(colored.then_some(style), usize::from(count));
     out.open(style)?;
-    push_numbered_cells(out, step, end)?;
+    push_numbered_cells(out, end - Step::from(count), end)?;
     out.reset(style)?;
     out.push_printable(b"]")?;
     Ok(())
 }
 
-/// Appends the cells of the numbers from `step` to below `end`, in reverse order.
+/// Writes the cells of the numbers from `step` to below `end`, in reverse order.
 fn push_numbered_cells(out: &mut LineWriter, step: Step, end: Step) -> Result<(), AllocError>
     requires { step ≤ end }
-    ensures { OnOk result
-        (Appends out.old (piece (numbered_cells step (end - step)) ∷ []) out.new) }
+    ensures bytes { OnOk result
+        (out.new.bytes.items ≡ out.old.bytes.items ++ numbered_cells step (end - step)) }
+    ensures line { OnOk result (SameLine out.old out.new) }
 {
     for number in (step..end).rev() {
-        out.push_printable(&[numbered_cell(number)])?;
+        out.push_prefix(&[numbered_cell(number)], 1)?;
     }
     Ok(())
 }

@@ -15,10 +15,11 @@ ghost use Rattle.prodash_line.specs.FrameWriting.{HoldsFrame, AppendsSigns, Appe
 
 use crate::render::line::draw::action::{Action, Composed, Drawn};
 use crate::render::line::draw::input::Options;
-use crate::render::line::draw::line_writer::{LineWriter, text_width};
+use crate::render::line::draw::line_writer::LineWriter;
 use crate::render::line::draw::message::{greatest_of, push_message};
 use crate::render::line::draw::row::{is_row_drawn, push_row};
 use crate::render::line::draw::state::{Past, keep_latest};
+use crate::render::line::draw::text::text_width;
 use crate::render::line::page::Sign;
 use prodash_base::Refusal;
 use prodash_base::messages::{Message, MessageCopyState, Messages};
@@ -334,7 +335,7 @@ fn write_blanks(out: &mut LineWriter, widths: &[u16]) -> Result<(), AllocError>
     ensures { OnOk result (out.new.bytes.items ≡ out.old.bytes.items ++ blank_bytes widths.now) }
 {
     for width in widths {
-        out.begin();
+        out.begin(None);
         out.end_over(*width)?;
     }
     Ok(())

@@ -1,5 +1,6 @@
 //! Inputs of the renderer, its options, and its answers.
 ghost use Rattle.std.specs.Prelude.{◌≡◌};
+ghost use Rattle.prodash_line.specs.DrawnLines.{limit_of};
 ghost use Rattle.prodash_line.specs.Renderer.{default_options};
 
 use prodash_base::messages::{MessageCopyState, Messages};
@@ -18,7 +19,8 @@ use prodash_base::time::Moment;
 pub struct Options {
     /// The lowest and the highest level of the rows that are drawn. `None` draws all rows.
     pub level_filter: Option<(Level, Level)>,
-    /// The columns and the rows of the terminal.
+    /// The columns and the rows of the terminal. Lines that are wider are cut, if the output is a
+    /// terminal.
     pub terminal_dimensions: (u16, u16),
     /// Whether the renderer keeps running after a tick that sees no rows. Otherwise such a tick
     /// closes it.
@@ -49,6 +51,17 @@ impl Default for Options {
             timestamp: false,
             hide_cursor: false,
         }
+    }
+}
+
+impl Options {
+    /// Returns the columns to which lines are cut: those of the terminal. `None` if the output is
+    /// no terminal, where lines are written whole.
+    pub(crate) fn width_limit(&self) -> Option<u16>
+        ensures { result ≡ limit_of self.now }
+    {
+        self.output_is_terminal
+            .then_some(self.terminal_dimensions.0)
     }
 }
 

@@ -1,21 +1,27 @@
-//! A writer of lines: each piece of a line is written straight into a buffer of bytes.
-ghost use Rattle.std.specs.Prelude.{◌≡◌, ◌∷◌, [], ◌++◌, ◌≤◌, true, chars, replicate, OnOk, IfOk, false};
-ghost use Rattle.unicode_width.specs.Width.{str_width};
+//! A writer of lines: each piece of a line is written straight into a buffer of bytes, as far as
+//! the line isn't cut.
+ghost use Rattle.std.specs.Prelude.{◌≡◌, ◌-◌, ℕ, ◌∷◌, [], ◌++◌, ◌≤◌, true, chars, length, replicate, take, OnOk, IfOk};
 ghost use Rattle.prodash_line.specs.Signs.{spelling_of};
 ghost use Rattle.prodash_line.specs.Lines.{piece, styled, spaces, columns_of, indented};
-ghost use Rattle.prodash_line.specs.Writing.{is_printable, style_of_length, open_bytes, reset_bytes, Appends, Begun};
-ghost use Rattle.prodash_line.specs.OverwriteBytes.{EndsOver, IsLineWidth};
+ghost use Rattle.prodash_line.specs.Writing.{is_printable, style_of_length, open_bytes, reset_bytes, Appends, Begun, SameLine, Counts};
+ghost use Rattle.prodash_line.specs.OverwriteBytes.{EndsOver, IsCutWidth};
 
+use crate::render::line::draw::fitting::{fit_indented, fit_printable};
+use crate::render::line::draw::room::Room;
+use crate::render::line::draw::text::text_width;
 use crate::render::line::page::{Sign, Style, push_sign};
 use std::alloc::{AllocError, Global};
-use unicode_width::UnicodeWidthStr;
 
 /// Writes lines into one buffer, one after another, and measures the line that it has begun last.
 #[derive(Debug, Drop)]
 pub(crate) struct LineWriter {
     bytes: Vec<u8>,
-    /// The width of the line so far, at most 65535.
+    /// The width of the line so far, before it is cut, at most 65535.
     width: u16,
+    /// The columns to which the line is cut, if it is.
+    limit: Option<u16>,
+    /// How much of the line is still written.
+    room: Room,
 }
 
 impl LineWriter {
@@ -27,6 +33,8 @@ impl LineWriter {
         LineWriter {
             bytes: Vec::new(alloc),
             width: 0,
+            limit: None,
+            room: Room::Unlimited,
         }
     }
 
@@ -37,7 +45,7 @@ impl LineWriter {
         &self.bytes
     }
 
-    /// Returns the width of the line so far, in columns, at most 65535.
+    /// Returns the width of the line so far, before it is cut, in columns, at most 65535.
     pub(crate) fn width(&self) -> u16
         ensures { result ≡ self.now.width }
     {
@@ -51,11 +59,16 @@ impl LineWriter {
         self.bytes.clear();
     }
 
-    /// Begins a line.
-    pub(crate) fn begin(&mut self)
-        ensures { Begun self.old [] self.new }
+    /// Begins a line that is cut to `limit` columns, or written whole.
+    pub(crate) fn begin(&mut self, limit: Option<u16>)
+        ensures { Begun limit self.old [] self.new }
     {
         self.width = 0;
+        self.limit = limit;
+        self.room = match limit {
+            Some(columns) => Room::Columns(columns),
+            None => Room::Unlimited,
+        };
     }
 
     /// Appends a text to the line, in this style if there is one. Fails if out of memory.
@@ -78,25 +91,51 @@ impl LineWriter {
         ensures { OnOk result
             (Appends self.old (styled style (indented padding (chars text.now)) ∷ []) self.new) }
     {
-        let style = style_of_length(style, usize::from(padding) + text.len());
+        let (spaces, prefix, room) = fit_indented(self.room, padding, text, width);
+        let style = style_of_length(style, usize::from(spaces) + prefix.len());
         self.open(style)?;
-        push_copies(&mut self.bytes, b' ', padding)?;
-        self.bytes.extend_from_slice(text.as_bytes())?;
+        push_copies(&mut self.bytes, b' ', spaces)?;
+        self.bytes.extend_from_slice(prefix.as_bytes())?;
         self.width = self.width.saturating_add(padding).saturating_add(width);
+        self.room = room;
         self.reset(style)?;
         Ok(())
     }
 
-    /// Appends printable ASCII characters, whose number is their width. Fails if out of memory.
+    /// Appends at most 65535 printable ASCII characters, whose number is their width. Fails if out
+    /// of memory.
     pub(crate) fn push_printable(&mut self, text: &[u8]) -> Result<(), AllocError>
-        requires { is_printable text.now ≡ true }
+        requires printable { is_printable text.now ≡ true }
+        requires short { length text.now ≤ 65535 }
         ensures { OnOk result (Appends self.old (piece text.now ∷ []) self.new) }
     {
-        self.bytes.extend_from_slice(text)?;
-        self.width = self
-            .width
-            .saturating_add(text.len().min(usize::from(u16::MAX)) as u16);
+        let count = self.count(text.len() as u16);
+        self.push_prefix(text, count)?;
         Ok(())
+    }
+
+    /// Counts a text of `length` printable ASCII characters to the line, and returns how many of
+    /// them are to be written.
+    pub(crate) fn count(&mut self, length: u16) -> u16
+        ensures { Counts self.old length result self.new }
+    {
+        let (count, room) = fit_printable(self.room, length);
+        self.width = self.width.saturating_add(length);
+        self.room = room;
+        count
+    }
+
+    /// Writes the first `count` bytes of a text that has been counted, and returns how many bytes
+    /// more are to be written after it. Fails if out of memory.
+    pub(crate) fn push_prefix(&mut self, text: &[u8], count: u16) -> Result<u16, AllocError>
+        ensures bytes { OnOk result
+            (self.new.bytes.items ≡ self.old.bytes.items ++ take count text.now) }
+        ensures more { IfOk result (λ more. more ≡ count - length text.now) }
+        ensures line { OnOk result (SameLine self.old self.new) }
+    {
+        let written = usize::from(count).min(text.len());
+        self.bytes.extend_from_slice(&text[..written])?;
+        Ok(count - written as u16)
     }
 
     /// Appends a printable ASCII character `count` times, in this style if there is one. Fails if
@@ -112,10 +151,10 @@ impl LineWriter {
         ensures { OnOk result
             (Appends self.old (styled style (replicate count character) ∷ []) self.new) }
     {
+        let count = self.count(count);
         let style = style_of_length(style, usize::from(count));
         self.open(style)?;
         push_copies(&mut self.bytes, character, count)?;
-        self.width = self.width.saturating_add(count);
         self.reset(style)?;
         Ok(())
     }
@@ -124,7 +163,7 @@ impl LineWriter {
     pub(crate) fn open(&mut self, style: Option<Style>) -> Result<(), AllocError>
         ensures bytes { OnOk result
             (self.new.bytes.items ≡ self.old.bytes.items ++ open_bytes style) }
-        ensures width { OnOk result (self.new.width ≡ self.old.width) }
+        ensures line { OnOk result (SameLine self.old self.new) }
     {
         match style {
             Some(style) => push_sign(&mut self.bytes, Sign::Open(style)),
@@ -136,7 +175,7 @@ impl LineWriter {
     pub(crate) fn reset(&mut self, style: Option<Style>) -> Result<(), AllocError>
         ensures bytes { OnOk result
             (self.new.bytes.items ≡ self.old.bytes.items ++ reset_bytes style) }
-        ensures width { OnOk result (self.new.width ≡ self.old.width) }
+        ensures line { OnOk result (SameLine self.old self.new) }
     {
         match style {
             Some(_) => push_sign(&mut self.bytes, Sign::Reset),
@@ -151,16 +190,27 @@ impl LineWriter {
         self.push_repeated(None, b' ', count)
     }
 
+    /// Returns the width of the line so far as it is cut, in columns, at most 65535.
+    fn cut_width(&self) -> u16
+        ensures { IsCutWidth self.now result }
+    {
+        match self.limit {
+            Some(columns) => columns.saturating_sub(self.room.left()),
+            None => self.width,
+        }
+    }
+
     /// Ends the line over a line of this width that is on screen in its row: appends spaces as far
-    /// as that one reached, then a line feed. Returns the width of the line. Fails if out of
-    /// memory.
+    /// as that one reached, then a line feed. Returns the width of the line as it is cut. Fails if
+    /// out of memory.
     pub(crate) fn end_over(&mut self, width: u16) -> Result<u16, AllocError>
         ensures bytes { OnOk result (EndsOver self.old width self.new) }
-        ensures width { IfOk result (IsLineWidth self.old) }
+        ensures width { IfOk result (IsCutWidth self.old) }
     {
-        push_copies(&mut self.bytes, b' ', width.saturating_sub(self.width))?;
+        let own_width = self.cut_width();
+        push_copies(&mut self.bytes, b' ', width.saturating_sub(own_width))?;
         self.bytes.push(b'\n')?;
-        Ok(self.width)
+        Ok(own_width)
     }
 
     /// Appends a sign after the lines. Fails if out of memory.
@@ -183,29 +233,4 @@ fn push_copies(out: &mut Vec<u8>, byte: u8, count: u16) -> Result<(), AllocError
     ensures { OnOk result (out.new.items ≡ out.old.items ++ replicate count byte) }
 {
     out.resize(out.len() + usize::from(count), byte)
-}
-
-/// Whether the bytes are all printable ASCII characters.
-fn is_all_printable(text: &[u8]) -> bool
-    ensures { result ≡ is_printable text.now }
-{
-    text.iter().all(|byte| 0x20 <= *byte && *byte <= 0x7e)
-}
-
-/// Returns the width of a text, in columns.
-fn uncapped_width(text: &str) -> usize
-    ensures { result ≡ str_width false (chars text.now) }
-{
-    if is_all_printable(text.as_bytes()) {
-        text.len()
-    } else {
-        text.width()
-    }
-}
-
-/// Returns the width of a text, in columns, at most 65535.
-pub(crate) fn text_width(text: &str) -> u16
-    ensures { result ≡ columns_of (piece (chars text.now) ∷ []) }
-{
-    uncapped_width(text).min(usize::from(u16::MAX)) as u16
 }

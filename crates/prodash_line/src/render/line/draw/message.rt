@@ -1,8 +1,8 @@
 //! The line of a message: its origin, aligned with those of other messages, and its text.
 ghost use Rattle.std.specs.Prelude.{◌≡◌, OnOk, IsOkUnless};
 ghost use Rattle.prodash_line.specs.Lines.{in_color};
-ghost use Rattle.prodash_line.specs.MessageLines.{origin_width, drawn_time, text_of, drawn_message_line, greatest_width};
-ghost use Rattle.prodash_line.specs.Writing.{Appends, Begun};
+ghost use Rattle.prodash_line.specs.MessageLines.{origin_width, drawn_time, text_of, message_line, greatest_width};
+ghost use Rattle.prodash_line.specs.Writing.{Appends, DrawsLine};
 
 use crate::render::line::draw::input::Options;
 use crate::render::line::draw::line_writer::LineWriter;
@@ -24,10 +24,11 @@ pub(crate) fn push_message(
 ) -> Result<(), Refusal>
     requires { own_width ≡ origin_width message.now.origin }
     ensures line { OnOk result
-        (Begun out.old (drawn_message_line options.now width message.now) out.new) }
+        (DrawsLine options.now out.old
+        (message_line options.now.timestamp width message.now) out.new) }
     ensures reason { IsOkUnless result Refusal.Memory }
 {
-    out.begin();
+    out.begin(options.width_limit());
     out.push_spaces(1)?;
     push_time(alloc, out, options, message)?;
     push_text(out, options.colored, width, own_width, message)?;

@@ -5,12 +5,13 @@ ghost use Rattle.prodash_base.specs.Rows.{row_of, progress_of};
 ghost use Rattle.prodash_line.specs.ProgressRows as rows;
 ghost use Rattle.prodash_line.specs.ProgressRows.{FollowsStep, fraction_values};
 ghost use Rattle.prodash_line.specs.Padding.{end_of_values, Pads};
-ghost use Rattle.prodash_line.specs.Writing.{is_printable, AppendsIn, Begun};
+ghost use Rattle.prodash_line.specs.Writing.{is_printable, AppendsIn, DrawsLine};
 
 use crate::render::line::draw::bar::push_bar;
 use crate::render::line::draw::input::Options;
-use crate::render::line::draw::line_writer::{LineWriter, text_width};
+use crate::render::line::draw::line_writer::{LineWriter, style_of_length};
 use crate::render::line::draw::styles::{name_style, row_style, values_style};
+use crate::render::line::draw::text::text_width;
 use itoa::Buffer;
 use prodash_base::Refusal;
 use prodash_base::progress::{Level, Row, Step, Value};
@@ -30,14 +31,15 @@ pub(crate) fn push_row(
     throughput: Option<Throughput>,
 ) -> Result<u16, Refusal>
     ensures line { OnOk result
-        (Begun out.old
-        (rows.drawn_row_line options.now midpoint (row_of row.now, throughput)) out.new) }
+        (let width = options.now.terminal_dimensions.0 in
+        DrawsLine options.now out.old
+        (rows.row_line width midpoint (row_of row.now, throughput)) out.new) }
     ensures midpoint { IfOk result (λ n. n ≡ rows.midpoint_of (row_of row.now, throughput)) }
     ensures reason { IsOkUnless result Refusal.Memory }
 {
     let (width, _) = options.terminal_dimensions;
     let colored = options.colored;
-    out.begin();
+    out.begin(options.width_limit());
     push_head(out, colored, row)?;
     let Some(value) = &row.progress else {
         return Ok(0);
@@ -97,13 +99,14 @@ fn push_fraction(
     let (slash, bound) = format_bound(&mut bound_digits, done_at);
     let values = (step.len() + slash.len() + bound.len()) as u16;
     let own = out.width().saturating_add(1).saturating_add(values);
-    let style = colored.then_some(values_style());
     out.push_spaces(1)?;
     out.push_spaces(midpoint.saturating_sub(own))?;
+    let count = out.count(values);
+    let style = style_of_length(colored.then_some(values_style()), usize::from(count));
     out.open(style)?;
-    out.push_printable(step.as_bytes())?;
-    out.push_printable(slash.as_bytes())?;
-    out.push_printable(bound.as_bytes())?;
+    let count = out.push_prefix(step.as_bytes(), count)?;
+    let count = out.push_prefix(slash.as_bytes(), count)?;
+    out.push_prefix(bound.as_bytes(), count)?;
     out.reset(style)?;
     Ok(own)
 }

@@ -68,8 +68,12 @@ pub trait Screen {
         ensures { result ≡ (state self.now).broken };
 }
 
-/// Writes all bytes of a frame to the screen and flushes them. A frame without bytes does nothing
-/// to the screen.
+/// How many bytes are put at once at most.
+const PIECE_SIZE: usize = 4096;
+
+/// Writes all bytes of a frame to the screen, in pieces of at most 4096 bytes, and flushes them. If
+/// a piece was taken in part, the next one begins behind that part. A frame without bytes does
+/// nothing to the screen.
 ///
 /// `Broken`: the screen is broken. It has taken a prefix of the frame.
 pub(crate) fn write_frame<S: Screen>(screen: &mut S, frame: &[u8]) -> Result<(), Refusal>
@@ -82,7 +86,8 @@ pub(crate) fn write_frame<S: Screen>(screen: &mut S, frame: &[u8]) -> Result<(),
     }
     let mut done = 0;
     while done < frame.len() {
-        done += screen.put(&frame[done..])?;
+        let size = (frame.len() - done).min(PIECE_SIZE);
+        done += screen.put(&frame[done..done + size])?;
     }
     screen.flush()
 }

@@ -1,11 +1,11 @@
-use Rattle.std.proofs.Common.{◌-◌, ◌≤◌, [], ◌∷◌}
-use Rattle.prodash_line.specs.Lines.{piece}
+use Rattle.std.proofs.Common.{◌≡◌, ◌-◌, ◌≤◌, ◌++◌}
 use Rattle.prodash_line.specs.ProgressRows.{numbered_cells}
-use Rattle.prodash_line.specs.Writing.{Appends}
+use Rattle.prodash_line.specs.Writing.{SameLine}
 use Rattle.prodash_line.proofs.render.line.draw.bar.push_numbered_cells.Given as goal
 
 abbrev pub invariant-loop-number : goal.invariant-loop-number
 invariant-loop-number l = record {
   upward : l.step ≤ l.number;
-  written : Appends l.fn.out (piece (numbered_cells l.number (l.end - l.number)) ∷ []) l.out;
+  written : l.out.bytes.items ≡ l.fn.out.bytes.items ++ numbered_cells l.number (l.end - l.number);
+  line : SameLine l.fn.out l.out;
 }

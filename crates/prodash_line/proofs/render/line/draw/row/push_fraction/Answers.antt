@@ -1,17 +1,13 @@
-use Rattle.std.proofs.Common.{◌≡◌, ◌+◌, length, true, [], ◌∷◌, ◌++◌, Some, refl, ap, sym, ◌∙◌, arith}
+use Rattle.std.proofs.Common.{◌≡◌, ◌+◌, length, true, [], ◌∷◌, ◌++◌, Some, ap, sym, ◌∙◌, arith}
 use Rattle.prodash_line.specs.ProgressRows.{fraction_of}
 use Rattle.std.specs.Bool.{then_some}
 use Rattle.prodash_line.specs.Lines.{styled}
 use Rattle.prodash_line.specs.TextStyles.{values_style}
 use Rattle.prodash_line.specs.Writing.{is_printable, style_of_length, open_bytes, reset_bytes}
 use Rattle.prodash_line.proofs.Columns.{printable-append, printable-decimal}
-use Rattle.prodash_line.proofs.Written.{style_of_each}
-use Rattle.prodash_line.proofs.LineWriting.{appends_in_style}
-use Rattle.prodash_line.proofs.RowLines.{fraction_appends, fraction_some, fraction_end, padded_appends}
+use Rattle.prodash_line.proofs.LineWriting.{appends_counted, same_then}
+use Rattle.prodash_line.proofs.RowLines.{length-parts, parts_written, fraction_end, padded_appends}
 use Rattle.prodash_line.proofs.render.line.draw.row.push_fraction.Goals as goal
-
-pub push_printable-requires : goal.push_printable-requires
-push_printable-requires c = ap is_printable (c.as_bytes.ensures.value ∙ c.format-step.ensures.text) ∙ printable-decimal c.args.step (omega arith)
 
 step_printable : (c : goal.In_ok-reset) → is_printable c.as_bytes.result.now ≡ true
 step_printable c = ap is_printable (c.as_bytes.ensures.value ∙ c.format-step.ensures.text) ∙ printable-decimal c.args.step (omega arith)
@@ -42,12 +38,17 @@ returns-clause-line c =
     let text = fraction_of c.args.step c.args.done_at in
     let style = then_some c.args.colored values_style in
     let printable = ap is_printable (values_are c) ∙ printable-append c.as_bytes.result.now _ (step_printable c) (printable-append c.as_bytes-2.result.now c.as_bytes-3.result.now (slash_printable c) (bound_printable c)) in
-    let shown : c.then_some-style.result ≡ style_of_length style (length text) =
-    c.then_some-style.ensures ∙ ap (then_some c.args.colored) c.values_style.ensures ∙ sym (style_of_each style (length text) (fraction_some c.args.step c.args.done_at (omega arith))) in
+    let counted = c.count-count.ensures in
+    let count = c.count-count.result in
+    let size = length-parts text c.as_bytes.result.now c.as_bytes-2.result.now c.as_bytes-3.result.now (values_are c) in
+    let shown : c.style_of_length-style.result ≡ style_of_length style count =
+    c.style_of_length-style.ensures ∙ ap (λ s. style_of_length s c.from.result) (c.then_some.ensures ∙ ap (then_some c.args.colored) c.values_style.ensures) ∙ ap (style_of_length style) c.from.ensures in
     padded_appends c.args.colored c.args.midpoint c.saturating_add-own.result c.saturating_sub.result (styled (Some values_style) text ∷ [])
     (returns-clause-end c) c.saturating_sub.ensures c.in_ok-push_spaces.ensures c.in_ok-push_spaces-2.ensures
-    (appends_in_style style text (length text) printable refl
-    (c.in_ok-open.ensures.bytes ∙ ap (λ s. c.push_spaces-2.new.self.bytes.items ++ open_bytes s) shown) c.in_ok-open.ensures.width
-    (fraction_appends text c.as_bytes.result.now c.as_bytes-2.result.now c.as_bytes-3.result.now (values_are c)
-    (step_printable c) (slash_printable c) (bound_printable c) c.in_ok-push_printable.ensures c.in_ok-push_printable-2.ensures c.in_ok-push_printable-3.ensures)
-    (c.in_ok-reset.ensures.bytes ∙ ap (λ s. c.push_printable-3.new.self.bytes.items ++ reset_bytes s) shown) c.in_ok-reset.ensures.width)
+    (appends_counted style text _ count printable
+    (omega (arith, size, ap length c.as_bytes.ensures.value, ap length c.as_bytes-2.ensures.value, ap length c.as_bytes-3.ensures.value)) counted
+    (c.in_ok-open.ensures.bytes ∙ ap (λ s. c.count-count.new.self.bytes.items ++ open_bytes s) shown) c.in_ok-open.ensures.line
+    (parts_written c.open.new.self.bytes.items _ _ _ text c.as_bytes.result.now c.as_bytes-2.result.now c.as_bytes-3.result.now count _ _ (values_are c)
+    c.in_ok-count.ensures.bytes c.in_ok-count.ensures.more c.in_ok-count-2.ensures.bytes c.in_ok-count-2.ensures.more c.in_ok-push_prefix.ensures.bytes)
+    (same_then c.in_ok-count.ensures.line (same_then c.in_ok-count-2.ensures.line c.in_ok-push_prefix.ensures.line))
+    (c.in_ok-reset.ensures.bytes ∙ ap (λ s. c.push_prefix-3.new.self.bytes.items ++ reset_bytes s) shown) c.in_ok-reset.ensures.line)

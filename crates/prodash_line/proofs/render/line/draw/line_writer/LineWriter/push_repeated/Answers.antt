@@ -1,11 +1,17 @@
-use Rattle.std.proofs.Common.{◌++◌, ap, ◌∙◌, arith}
+use Rattle.std.proofs.Common.{◌++◌, ap, sym, ◌∙◌, replicate, refl}
+use Rattle.std.proofs.lemmas.List.{length-replicate}
 use Rattle.prodash_line.specs.Writing.{style_of_length, open_bytes, reset_bytes}
-use Rattle.prodash_line.proofs.LineWriting.{appends_repeated}
+use Rattle.prodash_line.proofs.Columns.{printable-repeated}
+use Rattle.prodash_line.proofs.LineWriting.{appends_counted, take_copies}
 use Rattle.prodash_line.proofs.render.line.draw.line_writer.LineWriter.push_repeated.Goals as goal
 
 pub returns : goal.returns
 returns c =
-    appends_repeated c.args.self.now _ c.args.style c.args.count c.args.character _ _ c.requires.low c.requires.high (omega arith)
-    (c.in_ok-open.ensures.bytes ∙ ap (λ s. c.args.self.now.bytes.items ++ open_bytes s) (c.style_of_length-style.ensures ∙ ap (style_of_length c.args.style) c.from.ensures)) c.in_ok-push_copies.ensures
-    (c.in_ok-reset.ensures.bytes ∙ ap (λ s. c.push_copies.new.out.items ++ reset_bytes s) (c.style_of_length-style.ensures ∙ ap (style_of_length c.args.style) c.from.ensures))
-    (omega (arith, c.in_ok-reset.ensures.width, c.saturating_add-self.ensures, c.in_ok-open.ensures.width))
+    let text = replicate c.args.count c.args.character in
+    let counted = c.count-count.ensures in
+    let style = c.style_of_length-style.ensures ∙ ap (style_of_length c.args.style) c.from.ensures in
+    appends_counted c.args.style text c.args.count c.count-count.result (printable-repeated c.args.count c.args.character c.requires.low c.requires.high) (length-replicate c.args.count c.args.character) counted
+    (c.in_ok-open.ensures.bytes ∙ ap (λ s. c.count-count.new.self.bytes.items ++ open_bytes s) style) c.in_ok-open.ensures.line
+    (c.in_ok-push_copies.ensures ∙ ap (λ t. c.open.new.self.bytes.items ++ t) (sym (take_copies c.count-count.result c.args.count c.args.character counted.within)))
+    (record { width = refl; limit = refl; room = refl })
+    (c.in_ok-reset.ensures.bytes ∙ ap (λ s. c.push_copies.new.out.items ++ reset_bytes s) style) c.in_ok-reset.ensures.line

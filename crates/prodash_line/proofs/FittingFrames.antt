@@ -1,0 +1,154 @@
+-- The lines of a terminal's frames are no wider than the terminal, since they are cut to its width.
+use Rattle.std.proofs.Common.{◌≡◌, ℕ, ◌≤◌, Bool, true, false, List, [], ◌∷◌, ◌++◌, refl, sym, subst, Some, None, Result, Ok, Err}
+use Rattle.std.specs.Prelude.{⊤, MatchBool}
+use Rattle.std.specs.Bool.{then_some}
+use Rattle.std.specs.List.{AllByRecursion}
+use Rattle.prodash_base.specs.declared.messages.Message.{Message}
+use Rattle.prodash_base.specs.declared.refusal.Refusal.{Refusal}
+use Rattle.prodash_base.specs.declared.refusal.Refusal.TheVariants as refusals
+use Rattle.prodash_line.specs.declared.render.line.draw.input.Options.{Options}
+use Rattle.prodash_line.specs.declared.render.line.draw.input.Input.{Input}
+use Rattle.prodash_line.specs.declared.render.line.draw.input.Input.TheVariants.{Tick, Resize, Quit}
+use Rattle.prodash_line.specs.declared.render.line.draw.input.Answer.{Answer}
+use Rattle.prodash_line.specs.declared.render.line.draw.action.Action.{Action}
+use Rattle.prodash_line.specs.declared.render.line.draw.action.Action.TheVariants.{Leave, Redraw, Close}
+use Rattle.prodash_line.specs.declared.render.line.page.sign.Sign.{Sign}
+use Rattle.prodash_line.specs.Lines.{Line, columns_of, cut, in_color}
+use Rattle.prodash_line.specs.DrawnLines.{as_drawn}
+use Rattle.prodash_line.specs.ProgressRows.{DrawnRow, row_line, row_lines}
+use Rattle.prodash_line.specs.MessageLines.{message_line, message_lines, origin_width, greatest_width}
+use Rattle.prodash_line.specs.Frames.{Body, Unchanged, Draws, Closes, Frame}
+use Rattle.prodash_line.specs.Fits.{LineFits, LinesFit, BodyFits, FrameFits}
+use Rattle.prodash_line.specs.Renderer.{Renderer, Drawing, ending_of, drawn_rows, drawing_at, latest_rows, remember, moment_of, action_at, printed_at, body_of, frame_at}
+use Rattle.prodash_line.specs.Renderings.{Rendering, after_result, renderer_after, Attempt, attempt_of, attempts_of, frames_of, drawn_frames, KeepsSize}
+use Rattle.prodash_line.proofs.Cutting.{cut_within}
+
+-- if lines are cut, they are no wider than this
+abbrev IsWithin : Bool → ℕ → Line → Type 0
+IsWithin cut columns line = MatchBool cut (columns_of line ≤ columns) ⊤
+
+abbrev AreWithin : Bool → ℕ → List Line → Type 0
+AreWithin cut columns lines = AllByRecursion (IsWithin cut columns) lines
+
+abbrev BodyWithin : Bool → ℕ → Body → Type 0
+BodyWithin cut columns Unchanged = ⊤
+BodyWithin cut columns (Draws lines) = AreWithin cut columns lines
+BodyWithin cut columns (Closes ending) = ⊤
+
+record FrameWithin (cut : Bool) (columns : ℕ) (f : Frame) : Type 0 where
+  messages : AreWithin cut columns f.messages
+  body : BodyWithin cut columns f.body
+
+-- a terminal of these columns, or none
+record HasWidth (cut : Bool) (columns : ℕ) (options : Options) : Type 0 where
+  terminal : options.output_is_terminal ≡ cut
+  width : options.terminal_dimensions.0 ≡ columns
+
+-- ---- the lines of a frame
+
+cut_by : (b : Bool) (columns : ℕ) (line : Line) → IsWithin b columns (cut (then_some b columns) line)
+cut_by true columns line = cut_within columns line
+cut_by false columns line = tt
+
+drawn_within : (cut : Bool) (columns : ℕ) (options : Options) (line : Line) → HasWidth cut columns options → IsWithin cut columns (as_drawn options line)
+drawn_within cut columns options line h =
+    subst (λ n. IsWithin cut n (as_drawn options line)) h.width
+    (subst (λ b. IsWithin b options.terminal_dimensions.0 (as_drawn options line)) h.terminal
+    (cut_by options.output_is_terminal options.terminal_dimensions.0 (in_color options.colored line)))
+
+rows_within : (cut : Bool) (columns : ℕ) (options : Options) (midpoint : ℕ) (rows : List DrawnRow) → HasWidth cut columns options → AreWithin cut columns (row_lines options midpoint rows)
+rows_within cut columns options midpoint [] h = tt
+rows_within cut columns options midpoint (row ∷ rows) h =
+    (drawn_within cut columns options (row_line options.terminal_dimensions.0 midpoint row) h, rows_within cut columns options midpoint rows h)
+
+messages_within : (cut : Bool) (columns : ℕ) (options : Options) (widths : List ℕ) (messages : List Message) → HasWidth cut columns options → AreWithin cut columns (message_lines options widths messages)
+messages_within cut columns options widths [] h = tt
+messages_within cut columns options widths (m ∷ messages) h =
+    let all = widths ++ origin_width m.origin ∷ [] in
+    (drawn_within cut columns options (message_line options.timestamp (greatest_width all) m) h, messages_within cut columns options all messages h)
+
+printed_within : (cut : Bool) (columns : ℕ) (r : Renderer) (input : Input) → HasWidth cut columns r.options → AreWithin cut columns (printed_at r input)
+printed_within cut columns r (Tick at show (Some seen)) h = messages_within cut columns r.options r.origin_widths seen.1 h
+printed_within cut columns r (Tick at show None) h = tt
+printed_within cut columns r (Resize at show width rows) h = tt
+printed_within cut columns r (Quit at) h = tt
+
+body_within : (cut : Bool) (columns : ℕ) (action : Action) (drawing : Drawing) (ending : List Sign) → AreWithin cut columns drawing.lines → BodyWithin cut columns (body_of action drawing ending)
+body_within cut columns Leave drawing ending h = tt
+body_within cut columns Redraw drawing ending h = h
+body_within cut columns Close drawing ending h = tt
+
+-- the size that is remembered
+size_kept : (cut : Bool) (columns height : ℕ) (r : Renderer) (input : Input) → KeepsSize columns height input → HasWidth cut columns r.options → HasWidth cut columns (remember r input).options
+size_kept cut columns height r (Tick at show (Some seen)) k h = h
+size_kept cut columns height r (Tick at show None) k h = h
+size_kept cut columns height r (Resize at show width rows) k h = record { terminal = h.terminal; width = k.0 }
+size_kept cut columns height r (Quit at) k h = h
+
+frame_within : (cut : Bool) (columns height : ℕ) (r : Renderer) (input : Input) → KeepsSize columns height input → HasWidth cut columns r.options → FrameWithin cut columns (frame_at r input)
+frame_within cut columns height r input k h =
+    let r' = remember r input in
+    record {
+      messages = printed_within cut columns r input h;
+      body = body_within cut columns (action_at r input) (drawing_at r input) (ending_of r)
+          (rows_within cut columns r'.options r'.midpoint (drawn_rows r' (moment_of input) (latest_rows r'.last_rows)) (size_kept cut columns height r input k h));
+    }
+
+-- ---- the frames of a list of inputs
+
+size_after : (cut : Bool) (columns height : ℕ) (r : Renderer) (input : Input) (result : Result Answer Refusal) → KeepsSize columns height input → HasWidth cut columns r.options
+    → HasWidth cut columns (after_result r input result).options
+size_after cut columns height r input (Ok answer) k h = size_kept cut columns height r input k h
+size_after cut columns height r input (Err refusals.Broken) k h = h
+size_after cut columns height r input (Err refusals.Memory) k h = h
+size_after cut columns height r input (Err refusals.Closed) k h = h
+size_after cut columns height r input (Err refusals.Gone) k h = h
+size_after cut columns height r input (Err refusals.TooManyMessages) k h = h
+size_after cut columns height r input (Err refusals.TooManyHandles) k h = h
+size_after cut columns height r input (Err refusals.NoThread) k h = h
+
+then_within : (cut : Bool) (columns : ℕ) (frame : Frame) (result : Result Answer Refusal) (attempts : List Attempt) → FrameWithin cut columns frame
+    → AllByRecursion (FrameWithin cut columns) (frames_of attempts) → AllByRecursion (FrameWithin cut columns) (frames_of (attempt_of frame result ++ attempts))
+then_within cut columns frame (Ok answer) attempts h hs = (h, hs)
+then_within cut columns frame (Err refusals.Broken) attempts h hs = (h, hs)
+then_within cut columns frame (Err refusals.Memory) attempts h hs = hs
+then_within cut columns frame (Err refusals.Closed) attempts h hs = hs
+then_within cut columns frame (Err refusals.Gone) attempts h hs = hs
+then_within cut columns frame (Err refusals.TooManyMessages) attempts h hs = hs
+then_within cut columns frame (Err refusals.TooManyHandles) attempts h hs = hs
+then_within cut columns frame (Err refusals.NoThread) attempts h hs = hs
+
+frames_within : (cut : Bool) (columns height : ℕ) (r : Renderer) (xs : List Rendering) → AllByRecursion (λ x. KeepsSize columns height x.input) xs → HasWidth cut columns r.options
+    → AllByRecursion (FrameWithin cut columns) (drawn_frames r xs)
+frames_within cut columns height r [] k h = tt
+frames_within cut columns height r (x ∷ xs) k h =
+    then_within cut columns (frame_at r x.input) x.result (attempts_of (renderer_after r x) xs) (frame_within cut columns height r x.input k.0 h)
+    (frames_within cut columns height (renderer_after r x) xs k.1 (size_after cut columns height r x.input x.result k.0 h))
+
+-- ---- what fits
+
+line_fits : (cut : Bool) (columns : ℕ) (line : Line) → LineFits cut columns line → IsWithin cut columns line → LineFits false columns line
+line_fits true columns line h w = record { plain = h.plain; within = w }
+line_fits false columns line h w = h
+
+lines_fit : (cut : Bool) (columns : ℕ) (lines : List Line) → LinesFit cut columns lines → AreWithin cut columns lines → LinesFit false columns lines
+lines_fit cut columns [] h w = tt
+lines_fit cut columns (line ∷ lines) h w = (line_fits cut columns line h.0 w.0, lines_fit cut columns lines h.1 w.1)
+
+body_fits : (cut : Bool) (columns height : ℕ) (b : Body) → BodyFits cut columns height b → BodyWithin cut columns b → BodyFits false columns height b
+body_fits cut columns height Unchanged h w = tt
+body_fits cut columns height (Draws lines) h w = (lines_fit cut columns lines h.0 w, h.1)
+body_fits cut columns height (Closes ending) h w = tt
+
+all_fit : (cut : Bool) (columns height : ℕ) (frames : List Frame) → AllByRecursion (FrameFits cut columns height) frames → AllByRecursion (FrameWithin cut columns) frames
+    → AllByRecursion (FrameFits false columns height) frames
+all_fit cut columns height [] h w = tt
+all_fit cut columns height (f ∷ fs) h w =
+    (record { messages = lines_fit cut columns f.messages h.0.messages w.0.messages; body = body_fits cut columns height f.body h.0.body w.0.body }, all_fit cut columns height fs h.1 w.1)
+
+-- the lines of each frame fit, whether they are cut or are asked to
+pub frames_fit : (r : Renderer) (xs : List Rendering) (columns height : ℕ) → columns ≡ r.options.terminal_dimensions.0 → AllByRecursion (λ x. KeepsSize columns height x.input) xs
+    → AllByRecursion (FrameFits r.options.output_is_terminal columns height) (drawn_frames r xs) → AllByRecursion (FrameFits false columns height) (drawn_frames r xs)
+frames_fit r xs columns height e k h =
+    all_fit r.options.output_is_terminal columns height (drawn_frames r xs) h
+    (frames_within r.options.output_is_terminal columns height r xs k (record { terminal = refl; width = sym e }))

@@ -1,0 +1,75 @@
+//! What is written of a text where its line is cut.
+ghost use Rattle.std.specs.Prelude.{◌≡◌, ℕ, List, ◌≤◌, ◌∷◌, [], true, false, length, chars};
+ghost use Rattle.unicode_width.specs.Width.{str_width};
+ghost use Rattle.prodash_line.specs.Lines.{piece, columns_of, indented};
+ghost use Rattle.prodash_line.specs.Cutting.{written_in, room_after, Fits};
+ghost use Rattle.prodash_line.specs.Writing.{is_printable};
+
+use crate::render::line::draw::room::Room;
+use crate::render::line::draw::text::{longest_prefix, uncapped_width};
+
+/// Returns how many of `count` printable ASCII characters are written, and the room after them.
+pub(crate) fn fit_printable(room: Room, count: u16) -> (u16, Room)
+    ensures fits { (text : List ℕ) → is_printable text ≡ true → length text ≡ count
+        → Fits room text result.0 result.1 }
+    ensures within { result.0 ≤ count }
+{
+    match room {
+        Room::Unlimited => (count, room),
+        Room::Columns(left) => {
+            if count <= left {
+                (count, Room::Columns(left - count))
+            } else {
+                (left, Room::Full(0))
+            }
+        }
+        Room::Full(_) => (0, room),
+    }
+}
+
+/// Returns how many of `padding` spaces and which prefix of the text after them are written, and
+/// the room after both. `width` is the width of the text, at most 65535.
+pub(crate) fn fit_indented(room: Room, padding: u16, text: &str, width: u16) -> (u16, &str, Room)
+    requires { width ≡ columns_of (piece (chars text.now) ∷ []) }
+    ensures text { indented result.0 (chars result.1.now)
+        ≡ written_in room (indented padding (chars text.now)) }
+    ensures room { result.2 ≡ room_after room (indented padding (chars text.now)) }
+{
+    match room {
+        Room::Unlimited => (padding, text, room),
+        Room::Columns(left) => fit_columns(left, padding, text, width),
+        Room::Full(_) => (0, "", room),
+    }
+}
+
+/// Returns what `fit_indented` does where the line has `left` columns left.
+fn fit_columns(left: u16, padding: u16, text: &str, width: u16) -> (u16, &str, Room)
+    requires { width ≡ columns_of (piece (chars text.now) ∷ []) }
+    ensures text { indented result.0 (chars result.1.now)
+        ≡ written_in (Room.Columns left) (indented padding (chars text.now)) }
+    ensures room { result.2
+        ≡ room_after (Room.Columns left) (indented padding (chars text.now)) }
+{
+    let whole = usize::from(padding).saturating_add(whole_width(text, width));
+    if whole <= usize::from(left) {
+        return (padding, text, Room::Columns(left - whole as u16));
+    }
+    if left < padding {
+        return (left, "", Room::Full(0));
+    }
+    let prefix = longest_prefix(text, left - padding);
+    let blank = left - padding - uncapped_width(prefix) as u16;
+    (padding, prefix, Room::Full(blank))
+}
+
+/// Returns the width of a text, in columns, given that width, at most 65535.
+fn whole_width(text: &str, width: u16) -> usize
+    requires { width ≡ columns_of (piece (chars text.now) ∷ []) }
+    ensures { result ≡ str_width false (chars text.now) }
+{
+    if width < u16::MAX {
+        usize::from(width)
+    } else {
+        uncapped_width(text)
+    }
+}

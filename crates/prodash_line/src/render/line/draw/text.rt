@@ -1,0 +1,55 @@
+//! The widths of texts, and their longest prefixes of a width.
+ghost use Rattle.std.specs.Prelude.{◌≡◌, ◌-◌, ◌∷◌, [], chars, false, length, take};
+ghost use Rattle.unicode_width.specs.Width.{str_width};
+ghost use Rattle.prodash_line.specs.Lines.{piece, columns_of, longest_prefix};
+ghost use Rattle.prodash_line.specs.Writing.{is_printable};
+
+use unicode_width::UnicodeWidthStr;
+
+/// Whether the bytes are all printable ASCII characters.
+fn is_all_printable(text: &[u8]) -> bool
+    ensures { result ≡ is_printable text.now }
+{
+    text.iter().all(|byte| 0x20 <= *byte && *byte <= 0x7e)
+}
+
+/// Returns the width of a text, in columns.
+pub(crate) fn uncapped_width(text: &str) -> usize
+    ensures { result ≡ str_width false (chars text.now) }
+{
+    if is_all_printable(text.as_bytes()) {
+        text.len()
+    } else {
+        text.width()
+    }
+}
+
+/// Returns the width of a text, in columns, at most 65535.
+pub(crate) fn text_width(text: &str) -> u16
+    ensures { result ≡ columns_of (piece (chars text.now) ∷ []) }
+{
+    uncapped_width(text).min(usize::from(u16::MAX)) as u16
+}
+
+/// Returns the text without its last character.
+fn without_last(text: &str) -> &str
+    ensures { chars result.now ≡ take (length (chars text.now) - 1) (chars text.now) }
+{
+    let mut characters = text.chars();
+    let _ = characters.next_back();
+    characters.as_str()
+}
+
+/// Returns the longest prefix of a text that is at most `columns` wide.
+pub(crate) fn longest_prefix(text: &str, columns: u16) -> &str
+    ensures { chars result.now ≡ longest_prefix columns (chars text.now) }
+{
+    if is_all_printable(text.as_bytes()) {
+        return &text[..usize::from(columns).min(text.len())];
+    }
+    let mut prefix = text;
+    while uncapped_width(prefix) > usize::from(columns) {
+        prefix = without_last(prefix);
+    }
+    prefix
+}
