@@ -1,7 +1,6 @@
 pub mod TableChanges
 pub mod AscendingRows
-pub mod Sorting
-pub mod TableCounts
+pub mod TableRows
 pub mod RowsOfTasks
 pub mod Handles
 pub mod FrameSteps
@@ -16,3 +15,4 @@ pub mod WorkedDashboard
 pub mod DashboardLaws
 pub mod WorkedPrefixes
 pub mod PlayedEvents
+pub mod Boxes

@@ -1,4 +1,6 @@
 //! Boxed progress, which forwards each call.
+ghost use Rattle.prodash_core.specs.Traits.{Becomes};
+
 use crate::traits::count::Count;
 use crate::traits::progress::Progress;
 use prodash_base::Refusal;
@@ -42,9 +44,18 @@ impl Count for BoxedProgress {
 }
 
 impl Progress for BoxedProgress {
+    ghost begins = { λ it max unit after.
+        Becomes it ((Progress-box it).Progress.begins it.value max unit) after };
+
     ghost has_unit = { λ it unit. (Progress-box it).Progress.has_unit it.value unit };
 
     ghost has_bound = { λ it max. (Progress-box it).Progress.has_bound it.value max };
+
+    ghost gets_bound = { λ it max before after.
+        Becomes it ((Progress-box it).Progress.gets_bound it.value max before) after };
+
+    ghost gets_name = { λ it name after.
+        Becomes it ((Progress-box it).Progress.gets_name it.value name) after };
 
     ghost has_name = { λ it name. (Progress-box it).Progress.has_name it.value name };
 

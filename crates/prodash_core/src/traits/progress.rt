@@ -1,4 +1,4 @@
-ghost use Rattle.std.specs.Prelude.{◌≡◌, ◌⊎◌, None, IfOk, IfErr, IfSome, OnOk, OnErr, string_bytes, IsOkUnless};
+ghost use Rattle.std.specs.Prelude.{◌≡◌, IfOk, IfErr, OnOk, OnErr, string_bytes, IsOkUnless};
 ghost use Rattle.prodash_base.specs.Refusals.{RefusesMessage};
 ghost use Rattle.std.specs.Option.{option_map};
 ghost use Rattle.prodash_base.specs.declared.messages.MessageLevel.TheVariants.{Info, Failure, Success};
@@ -30,11 +30,11 @@ pub trait Progress: Count + Send + Sync {
     /// What `init` makes of the progress.
     ghost begins: { Self → Option ℕ → Option units.Unit → Self → Type 0 } = { λ _ _ _ _. Unit {0} };
 
-    /// The units that it may have.
-    ghost has_unit: { Self → units.Unit → Type 0 } = { λ _ _. Unit {0} };
+    /// The units that it may have, if any.
+    ghost has_unit: { Self → Option units.Unit → Type 0 } = { λ _ _. Unit {0} };
 
-    /// The bounds that it may have.
-    ghost has_bound: { Self → ℕ → Type 0 } = { λ _ _. Unit {0} };
+    /// The bounds that it may have, if any.
+    ghost has_bound: { Self → Option ℕ → Type 0 } = { λ _ _. Unit {0} };
 
     /// What `set_max` makes of the progress, and what it may return.
     ghost gets_bound: { Self → Option ℕ → Option ℕ → Self → Type 0 } = { λ _ _ _ _. Unit {0} };
@@ -57,25 +57,15 @@ pub trait Progress: Count + Send + Sync {
 
     /// Returns the unit of the steps, if there is one.
     fn unit(&self) -> Option<Unit>
-        ensures { IfSome result (λ unit. has_unit self.now unit) }
-    {
-        None
-    }
+        ensures { has_unit self.now result };
 
     /// Returns the step at which the task is done, if known.
     fn max(&self) -> Option<Step>
-        ensures { IfSome result (λ max. has_bound self.now max) }
-    {
-        None
-    }
+        ensures { has_bound self.now result };
 
     /// Sets the step at which the task is done, and returns the previous one.
-    fn set_max(&mut self, _max: Option<Step>) -> Option<Step>
-        ensures { ((result ≡ None) × (self.new ≡ self.old))
-            ⊎ gets_bound self.old _max result self.new }
-    {
-        None
-    }
+    fn set_max(&mut self, max: Option<Step>) -> Option<Step>
+        ensures { gets_bound self.old max result self.new };
 
     /// Sets the name.
     ///

@@ -1,9 +1,7 @@
 ghost use Rattle.std.specs.Prelude.{◌≡◌, ◌≢◌, ℕ, OnOk, OnErr, IfOk, Some, None, nat_eq, is_some, IsOkUnless};
 ghost use Rattle.std.specs.FinMap as finite;
 ghost use Rattle.std.specs.Option.{option_map};
-ghost use Rattle.std.specs.List.Sorted.{IsPermutation, IsSortedByKey};
-ghost use Rattle.std.specs.HashMap.{IsUnique};
-ghost use Rattle.std.specs.Cmp.Lexicographic.{pointwise};
+ghost use Rattle.std.specs.BTreeMap.{IsOrdered};
 ghost use Rattle.prodash_base.specs.Path.{Path, path_cmp};
 ghost use Rattle.prodash_base.specs.Rows.{phase_of, row_of};
 ghost use Rattle.prodash_core.specs.Tables.{new_entry, change_at, with_name, with_progress, with_bound, with_phase, name_at, id_of, bound_of, unit_of, counted_of, ValueShows, RowShows, RowsShow, RowsShowTasks, ListsEachOnce, pair_of, entry_of};
@@ -12,7 +10,7 @@ use prodash_base::progress::{Id, Key, Row, Rows, State, Step, UNKNOWN, Value};
 use prodash_base::unit::Unit;
 use prodash_base::{Refusal, Text};
 use std::alloc::{AllocError, Global};
-use std::collections::HashMap;
+use std::collections::BTreeMap;
 use std::marker::Model;
 
 /// The progress of a task. A `C` names its counter.
@@ -145,7 +143,7 @@ pub trait Counters<C> {
 /// ```
 #[derive(Drop)]
 pub struct TreeCore<C> {
-    tasks: HashMap<Key, Task<C>>,
+    tasks: BTreeMap<Key, Task<C>>,
 }
 
 impl<C> Model for TreeCore<C> {
@@ -170,7 +168,7 @@ impl<C> TreeCore<C> {
         ensures { result ≡ finite.empty }
     {
         TreeCore {
-            tasks: HashMap::new(alloc),
+            tasks: BTreeMap::new(alloc),
         }
     }
 }
@@ -341,8 +339,7 @@ impl<C: Copy> TreeCore<C> {
         ensures each { IfOk result (λ rows. ListsEachOnce self.now rows) }
         ensures reason { IsOkUnless result Refusal.Memory }
     {
-        let mut rows = hashed_rows(alloc, &self.tasks, counters)?;
-        sort_rows(&mut rows);
+        let rows = rows_of_tasks(alloc, &self.tasks, counters)?;
         Ok(Rows::new(rows))
     }
 }
@@ -379,27 +376,19 @@ fn row_of_task<C: Copy, N: Counters<C>>(
     })
 }
 
-/// Returns the rows of the tasks, in the order of the hashed map.
-fn hashed_rows<C: Copy, N: Counters<C>>(
+/// Returns the rows of the tasks, in the order of the map.
+fn rows_of_tasks<C: Copy, N: Counters<C>>(
     alloc: Global,
-    tasks: &HashMap<Key, Task<C>>,
+    tasks: &BTreeMap<Key, Task<C>>,
     counters: &N,
 ) -> Result<Vec<Row>, AllocError>
     ensures rows { IfOk result (λ rows.
         RowsShowTasks (N.shows counters.now) tasks.now.entries rows.items) }
-    ensures unique { IsUnique (pointwise nat_eq) tasks.now }
+    ensures ordered { IsOrdered path_cmp tasks.now }
 {
     let mut rows = Vec::with_capacity(alloc, tasks.len())?;
     for (key, task) in tasks.iter() {
         rows.push(row_of_task(*key, task, counters)?)?;
     }
     Ok(rows)
-}
-
-/// Sorts rows by their keys.
-fn sort_rows(rows: &mut Vec<Row>)
-    ensures permutation { IsPermutation rows.old.items rows.new.items }
-    ensures sorted { IsSortedByKey (λ row. row.key) path_cmp rows.new.items }
-{
-    rows.sort_unstable_by_key(|row| row.key);
 }

@@ -1,5 +1,5 @@
 use Rattle.std.proofs.Common.{subst}
-use Rattle.std.specs.Prelude.{OnOk, IfSome, ◌-◌, ℕ, Option}
+use Rattle.std.specs.Prelude.{OnOk, ◌-◌, ℕ, Option}
 use Rattle.prodash_base.specs.ThroughputMessages.{throughput_message}
 use Rattle.prodash_base.specs.Units.{unit_shown}
 use Rattle.prodash_base.specs.declared.messages.MessageLevel.TheVariants.{Info}
@@ -7,5 +7,5 @@ use Rattle.prodash_core.proofs.traits.boxed.BoxedProgressProgress.show_throughpu
 
 pub returns-clause-ok : goal.returns-clause-ok
 returns-clause-ok g c =
-    subst (λ d. OnOk c.show_throughput.result ((step : ℕ) × (unit : Option _) × (goal.Progress-dyn g d).Count.shows d.1 step × IfSome unit (λ unit. (goal.Progress-dyn g d).Progress.has_unit d.1 unit) × (goal.Progress-dyn g d).Progress.was_sent d.1 c.args.now Info (throughput_message (unit_shown unit) step (c.args.now - c.args.start))))
+    subst (λ d. OnOk c.show_throughput.result ((step : ℕ) × (unit : Option _) × (goal.Progress-dyn g d).Count.shows d.1 step × (goal.Progress-dyn g d).Progress.has_unit d.1 unit × (goal.Progress-dyn g d).Progress.was_sent d.1 c.args.now Info (throughput_message (unit_shown unit) step (c.args.now - c.args.start))))
     c.deref_box-1.ensures.1 c.show_throughput.ensures.0

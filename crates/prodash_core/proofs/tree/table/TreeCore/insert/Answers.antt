@@ -1,7 +1,6 @@
-use Rattle.std.proofs.Common.{◌∙◌, ap, List, ℕ, None, Some}
+use Rattle.std.proofs.Common.{◌∙◌, ap, List, ℕ, None}
 use Rattle.std.specs.FinMap as finite
 use Rattle.prodash_core.proofs.TableChanges.{table_of, table_of-update}
-use Rattle.prodash_core.proofs.Sorting.{update_by_eq}
 use Rattle.prodash_core.proofs.tree.table.TreeCore.insert.Goals as goal
 
 pub returns-clause-ok : goal.returns-clause-ok
@@ -9,6 +8,6 @@ returns-clause-ok g c =
     let old = c.self.inside.tasks.entries in
     let new = c.insert.new.self.entries in
     table_of-update old new c.args.key (record { name = c.in_ok-name.name; id = c.args.id; progress = None })
-    (update_by_eq old new c.args.key (Some (record { name = c.in_ok-name.name; id = c.args.id; progress = None })) c.in_ok-insert.ensures.updates.0)
+    c.in_ok-insert.ensures.updates.0
     ∙ ap (λ (name : List ℕ). finite.insert (table_of old) c.args.key (record { name = name; id = c.args.id; progress = None })) c.in_ok-name.ensures
     ∙ ap (λ m. finite.insert m c.args.key (record { name = c.args.name.now; id = c.args.id; progress = None })) c.self.view_is

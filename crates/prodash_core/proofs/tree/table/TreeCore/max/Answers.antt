@@ -1,15 +1,14 @@
 use Rattle.std.proofs.Common.{◌∙◌, ap, Some, None}
 use Rattle.prodash_core.specs.Tables.{bound_of}
 use Rattle.prodash_core.proofs.TableChanges.{get_task}
-use Rattle.prodash_core.proofs.Sorting.{lookup_by_eq}
 use Rattle.prodash_core.proofs.tree.table.TreeCore.max.Goals as goal
 
 pub returns-in-None : goal.returns-in-None
 returns-in-None g c =
     let es = c.self.inside.tasks.entries in
-    rw (← c.self.view_is) (ap bound_of (get_task es c.args.key None (c.in-None.ensures.value ∙ lookup_by_eq es c.args.key)))
+    rw (← c.self.view_is) (ap bound_of (get_task es c.args.key None c.in-None.ensures.value))
 
 pub returns-in-Some : goal.returns-in-Some
 returns-in-Some g c =
     let es = c.self.inside.tasks.entries in
-    rw (← c.self.view_is) (c.max.ensures ∙ ap bound_of (get_task es c.args.key (Some c.in-Some.task.now) (c.in-Some.ensures.value ∙ lookup_by_eq es c.args.key)))
+    rw (← c.self.view_is) (c.max.ensures ∙ ap bound_of (get_task es c.args.key (Some c.in-Some.task.now) c.in-Some.ensures.value))

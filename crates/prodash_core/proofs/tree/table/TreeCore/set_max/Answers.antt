@@ -1,7 +1,6 @@
 use Rattle.std.proofs.Common.{rules, ◌∙◌, ap, Some, None}
 use Rattle.prodash_core.specs.Tables.{with_bound, bound_of}
 use Rattle.prodash_core.proofs.TableChanges.{table_of, get_task, change_at-none, change_at-some}
-use Rattle.prodash_core.proofs.Sorting.{lookup_by_eq, update_by_eq}
 use Rattle.prodash_core.proofs.tree.table.TreeCore.set_max.Goals as goal
 use Rattle.prodash_core.proofs.tree.table.TreeCore.set_max.Goals.{in-None, in-Some}
 
@@ -9,8 +8,8 @@ pub returns-clause-before : goal.returns-clause-before
 returns-clause-before g c =
     let es = c.self.inside.tasks.entries in
     rw (← c.self.view_is) (elim c.match-get_mut.branch [
-      | in-None w ↦ w.result-is ∙ ap bound_of (get_task es c.args.key None (w.in-None.ensures.value ∙ lookup_by_eq es c.args.key))
-      | in-Some w ↦ w.result-is ∙ w.set_max.ensures.before ∙ ap bound_of (get_task es c.args.key (Some w.in-Some.task.now) (w.in-Some.ensures.value ∙ lookup_by_eq es c.args.key))
+      | in-None w ↦ w.result-is ∙ ap bound_of (get_task es c.args.key None w.in-None.ensures.value)
+      | in-Some w ↦ w.result-is ∙ w.set_max.ensures.before ∙ ap bound_of (get_task es c.args.key (Some w.in-Some.task.now) w.in-Some.ensures.value)
     ])
 
 pub returns-clause-after : goal.returns-clause-after
@@ -18,8 +17,8 @@ returns-clause-after g c =
     let es = c.self.inside.tasks.entries in
     rw (← c.self.view_is) (elim c.match-get_mut.branch [
       | in-None w ↦ ap (λ t. table_of t.tasks.entries) w.self-inside-is ∙ ap (λ t. table_of t.entries) c.get_mut.follows.holds-at-none
-          ∙ change_at-none es c.args.key (with_bound c.args.max) (w.in-None.ensures.value ∙ lookup_by_eq es c.args.key)
+          ∙ change_at-none es c.args.key (with_bound c.args.max) w.in-None.ensures.value
       | in-Some w ↦ ap (λ t. table_of t.tasks.entries) w.self-inside-is
-          ∙ change_at-some es _ c.args.key (with_bound c.args.max) w.in-Some.task.now w.set_max.new.self (w.in-Some.ensures.value ∙ lookup_by_eq es c.args.key) w.set_max.ensures.after
-          (update_by_eq es _ c.args.key (Some w.set_max.new.self) ((c.get_mut.follows.holds w.set_max.new.self).3 (search (rules, w.in-Some.ensures.value))).0)
+          ∙ change_at-some es _ c.args.key (with_bound c.args.max) w.in-Some.task.now w.set_max.new.self w.in-Some.ensures.value w.set_max.ensures.after
+          ((c.get_mut.follows.holds w.set_max.new.self).3 (search (rules, w.in-Some.ensures.value))).0
     ])

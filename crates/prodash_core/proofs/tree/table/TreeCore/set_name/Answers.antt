@@ -1,8 +1,7 @@
-use Rattle.std.proofs.Common.{rules, ◌∙◌, ap, Some, refl}
+use Rattle.std.proofs.Common.{rules, ◌∙◌, ap, refl}
 use Rattle.prodash_core.specs.Tables.{with_name}
 use Rattle.prodash_core.specs.declared.tree.table.Task.{Task}
 use Rattle.prodash_core.proofs.TableChanges.{table_of, change_at-none, change_at-some}
-use Rattle.prodash_core.proofs.Sorting.{lookup_by_eq, update_by_eq}
 use Rattle.prodash_core.proofs.tree.table.TreeCore.set_name.Goals as goal
 use Rattle.prodash_core.proofs.tree.table.TreeCore.set_name.Goals.{in-Some, in_default}
 
@@ -13,8 +12,8 @@ returns-clause-ok g c =
       | in-Some w ↦
           let task : Task g.row.C.Denot = record { name = c.in_ok-name.name; id = w.in-Some.task.now.id; progress = w.in-Some.task.now.progress } in
           ap (λ t. table_of t.tasks.entries) w.self-inside-is
-          ∙ change_at-some es _ c.args.key (with_name c.in_ok-name.name) w.in-Some.task.now task (w.in-Some.ensures.value ∙ lookup_by_eq es c.args.key) refl
-          (update_by_eq es _ c.args.key (Some task) ((c.get_mut.follows.holds task).3 (search (rules, w.in-Some.ensures.value))).0)
+          ∙ change_at-some es _ c.args.key (with_name c.in_ok-name.name) w.in-Some.task.now task w.in-Some.ensures.value refl
+          ((c.get_mut.follows.holds task).3 (search (rules, w.in-Some.ensures.value))).0
       | in_default w ↦ ap (λ t. table_of t.tasks.entries) w.self-inside-is ∙ ap (λ t. table_of t.entries) c.get_mut.follows.holds-at-none
-          ∙ change_at-none es c.args.key (with_name c.in_ok-name.name) (w.in_default.ensures.value ∙ lookup_by_eq es c.args.key)
+          ∙ change_at-none es c.args.key (with_name c.in_ok-name.name) w.in_default.ensures.value
     ])

@@ -1,0 +1,8 @@
+use Rattle.prodash_core.proofs.Boxes.{becomes}
+use Rattle.prodash_core.proofs.traits.boxed.BoxedProgressProgress.set_max.Goals as goal
+
+pub returns : goal.returns
+returns g c =
+    becomes c.args.self.now c.deref_box_mut-1.result.now
+    (λ i v w. (goal.Progress-dyn g (i, v)).Progress.gets_bound v c.args.max c.set_max.result w)
+    _ c.deref_box_mut-1.ensures.value.1 c.set_max.ensures
