@@ -1,2 +1,3 @@
 mod NamedItems
 mod Numerals
+mod UnitWords

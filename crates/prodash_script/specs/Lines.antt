@@ -1,5 +1,5 @@
 -- The lines of events.
-use Rattle.std.specs.Prelude.{◌≡◌, ℕ, List, ◌++◌, Bool, true, false, not, nat_eq, codes, string_bytes, Option, Some, None, Result, String, IsTrue, IfOk, IfSome, ⊤}
+use Rattle.std.specs.Prelude.{◌≡◌, ℕ, List, ◌++◌, Bool, true, false, not, nat_eq, codes, string_bytes, Option, Some, None, MatchOption, Result, String, IsTrue, IfOk, ⊤, option_map}
 use Rattle.std.specs.List.{list_any}
 use Rattle.std.specs.Fmt.{decimal}
 use Rattle.prodash_base.specs.declared.messages.MessageLevel.{MessageLevel}
@@ -7,6 +7,8 @@ use Rattle.prodash_base.specs.declared.messages.MessageLevel.TheVariants.{Info, 
 use Rattle.prodash_base.specs.Rows.{unknown_id}
 use Rattle.prodash_core.specs.declared.tree.event.Event.{Event}
 use Rattle.prodash_core.specs.declared.tree.event.Event.TheVariants.{AddChild, Drop, Init, SetName, SetMax, Set, IncBy, Blocked, Halted, Running, Message, DropRoot, Tick, Resize, Quit}
+use Rattle.prodash_base.specs.declared.unit.units.Unit.{Unit}
+use Rattle.prodash_script.specs.Words.{lookup, plain_unit, units}
 
 -- two texts with a space between them
 abbrev pub spaced : List ℕ → List ℕ → List ℕ
@@ -36,18 +38,25 @@ abbrev pub tick_word : Bool → List ℕ
 tick_word true = codes "tick"
 tick_word false = codes "hold"
 
+-- whether a text has no line feed
+abbrev pub is_one_line : List ℕ → Bool
+is_one_line text = not (list_any (λ b. nat_eq b 10) text)
+
 -- a text without a line feed
 abbrev pub IsOneLine : List ℕ → Type 0
-IsOneLine text = IsTrue (not (list_any (λ b. nat_eq b 10) text))
+IsOneLine text = IsTrue (is_one_line text)
 
--- the line of an event, which says all of it but which unit its word names; of some events there is
--- none
+-- a word that names a unit; `-` names none
+abbrev pub NamesUnit : Option Unit → List ℕ → Type 0
+NamesUnit unit word = lookup units word ≡ Some (option_map plain_unit unit)
+
+-- the line of an event, which says all of it; of some events there is none
 abbrev pub IsLineOf : Event → List ℕ → Type 0
 IsLineOf (AddChild parent name id) line =
     (line ≡ text_line (codes "add") parent name) × IsOneLine name × (id ≡ unknown_id)
 IsLineOf (Drop item) line = line ≡ word_line (codes "drop") item
 IsLineOf (Init item max unit) line = (word : List ℕ)
-    × (line ≡ text_line (codes "init") item (spaced (bound_word max) word))
+    × (line ≡ text_line (codes "init") item (spaced (bound_word max) word)) × NamesUnit unit word
 IsLineOf (SetName item name) line =
     (line ≡ text_line (codes "name") item name) × IsOneLine name
 IsLineOf (SetMax item max) line = line ≡ text_line (codes "max") item (bound_word max)
@@ -68,9 +77,10 @@ IsLineOf (Resize at show columns rows) line =
 IsLineOf (Quit at) line = line ≡ word_line (codes "quit") at
 IsLineOf _ line = ⊥
 
--- what the line is, if there is one
-abbrev pub IfLine : {Z E : Type 0} → Result (Option (String Z)) E → (List ℕ → Type 0) → Type 0
-IfLine result P = IfOk result (λ found. IfSome found (λ line. P (string_bytes line)))
+-- on success the line with a property, or none exactly if no text has it
+abbrev pub GivesLine : {Z E : Type 0} → Result (Option (String Z)) E → (List ℕ → Type 0) → Type 0
+GivesLine result P = IfOk result (λ found.
+    MatchOption found ((line : List ℕ) → ¬ P line) (λ line. P (string_bytes line)))
 
 -- an event that adds an item
 abbrev pub IsAddition : Event → Type 0

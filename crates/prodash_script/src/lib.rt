@@ -11,8 +11,8 @@ mod words;
 mod writing;
 
 pub use reading::{REASON, add, parse, parse_with};
-pub use request::Request;
-pub use script::{NO_ITEM, Names, request_of};
+pub use request::{NO_ITEM, Request};
+pub use script::{Names, request_of};
 pub use stream::{LIMIT, Lines, Next};
 pub use units::unit_of;
 pub use words::{Numbers, Words, number};

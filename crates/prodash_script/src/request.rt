@@ -1,4 +1,7 @@
-use prodash_core::tree::Event;
+use prodash_core::tree::{Event, Handle};
+
+/// A handle that no item has.
+pub const NO_ITEM: Handle = u64::MAX;
 
 /// What a line asks for.
 #[derive(Debug, Drop)]

@@ -3,7 +3,7 @@ ghost use Rattle.std.specs.Prelude.{◌≡◌, IfOk, option_map};
 ghost use Rattle.prodash_script.specs.Requests.{AsksForNoFrame, name_in};
 
 use crate::reading::{add, parse_with};
-use crate::request::Request;
+use crate::request::{NO_ITEM, Request};
 use crate::words::{Words, number};
 use prodash_base::time::Moment;
 use prodash_core::tree::Handle;
@@ -13,9 +13,6 @@ use std::str;
 
 /// The handle of each word, without its `@`.
 pub type Names = BTreeMap<String, Handle>;
-
-/// A handle that no item has.
-pub const NO_ITEM: Handle = u64::MAX;
 
 /// The words of a script: a handle is a number, or a word after `@`; a moment is a number, or `-`
 /// for now.

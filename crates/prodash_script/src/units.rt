@@ -1,4 +1,5 @@
-ghost use Rattle.std.specs.Prelude.{◌≡◌, option_map};
+ghost use Rattle.std.specs.Prelude.{◌≡◌, ◌↔◌, ℕ, IsTrue, List, MatchOption, map, option_map};
+ghost use Rattle.prodash_script.specs.Lines.{NamesUnit};
 ghost use Rattle.prodash_script.specs.Words.{lookup, plain_unit, units};
 
 use prodash_base::unit::display::Mode;
@@ -33,11 +34,25 @@ pub fn unit_of(word: &str) -> Option<Option<Unit>>
 }
 
 /// Returns the word of a unit, or `None` if it has none.
-pub(crate) fn word_of(unit: Option<Unit>) -> Option<&'static str> {
-    for word in &WORDS {
-        if unit_of(word) == Some(unit) {
-            return Some(*word);
-        }
-    }
-    None
+pub(crate) fn word_of(unit: Option<Unit>) -> Option<&'static str>
+    ensures { MatchOption result
+        ((word : List ℕ) → ¬ NamesUnit unit word) (λ word. NamesUnit unit word.now) }
+{
+    first_word(&WORDS, unit)
+}
+
+/// Returns the first of all words of units that is that of a unit, or `None` if it has none.
+fn first_word(words: &[&'static str], unit: Option<Unit>) -> Option<&'static str>
+    requires all { map (λ word. word.now) words.now ≡ map (λ entry. entry.0) units }
+    ensures { MatchOption result
+        ((word : List ℕ) → ¬ NamesUnit unit word) (λ word. NamesUnit unit word.now) }
+{
+    words.iter().copied().find(|word| names(word, unit))
+}
+
+/// Returns whether a word is that of a unit.
+fn names(word: &str, unit: Option<Unit>) -> bool
+    ensures { IsTrue result ↔ NamesUnit unit word.now }
+{
+    unit_of(word) == Some(unit)
 }

@@ -1,6 +1,6 @@
-ghost use Rattle.std.specs.Prelude.{◌≡◌, codes, IfOk, IsTrue, string_bytes, true};
+ghost use Rattle.std.specs.Prelude.{◌≡◌, codes, IfOk, string_bytes, true};
 ghost use Rattle.std.specs.Fmt.{decimal};
-ghost use Rattle.prodash_script.specs.Lines.{IfLine, IsLineOf, IsOneLine, bound_word, spaced, text_line, word_line};
+ghost use Rattle.prodash_script.specs.Lines.{GivesLine, IsLineOf, IsOneLine, bound_word, is_one_line, spaced, text_line, word_line};
 
 use crate::reading::REASON;
 use crate::units::word_of;
@@ -12,9 +12,8 @@ use prodash_core::tree::{Event, Handle};
 use std::alloc::{AllocError, Global};
 
 /// Returns the line of an event, without a line feed, which `parse` reads as this event; or `None`
-/// if it has no line: a query, a resize whose rows are hidden, an identifier,
-/// another reason than `REASON`, a moment at which a task continues, a unit without a word, or a
-/// text with a line feed.
+/// if it has no line: a query, a resize whose rows are hidden, an identifier, another reason than
+/// `REASON`, a moment at which a task continues, a unit without a word, or a text with a line feed.
 ///
 /// ```rust
 /// let line = to_line(alloc, &Event::Set { item: 1, step: 3 })?;
@@ -24,7 +23,7 @@ use std::alloc::{AllocError, Global};
 ///
 /// `AllocError`, if there is no memory for the line.
 pub fn to_line(alloc: Global, event: &Event) -> Result<Option<String>, AllocError>
-    ensures { IfLine result (IsLineOf event.now) }
+    ensures { GivesLine result (IsLineOf event.now) }
 {
     match event {
         Event::AddChild { parent, name, id } => {
@@ -95,14 +94,14 @@ fn resize_line(
     columns: u16,
     rows: u16,
 ) -> Result<Option<String>, AllocError>
-    ensures { IfLine result (IsLineOf (Event.Resize at true columns rows)) }
+    ensures { GivesLine result (IsLineOf (Event.Resize at true columns rows)) }
 {
     Ok(Some(format!(in alloc; "resize {at} {columns} {rows}")?))
 }
 
 /// Returns whether a text has no line feed.
 fn is_one_line(text: &str) -> bool
-    ensures { IsTrue result → IsOneLine text.now }
+    ensures { result ≡ is_one_line text.now }
 {
     !text.as_bytes().contains(&b'\n')
 }
@@ -119,28 +118,28 @@ fn bound(alloc: Global, max: Option<Step>) -> Result<String, AllocError>
 
 /// Returns the line of a word and a number.
 fn with_number(alloc: Global, word: &str, n: u64) -> Result<Option<String>, AllocError>
-    ensures { IfLine result (λ line. line ≡ word_line word.now n) }
+    ensures { GivesLine result (λ line. line ≡ word_line word.now n) }
 {
     Ok(Some(format!(in alloc; "{word} {n}")?))
 }
 
 /// Returns the line of a word and two numbers.
 fn with_numbers(alloc: Global, word: &str, n: u64, m: u64) -> Result<Option<String>, AllocError>
-    ensures { IfLine result (λ line. line ≡ text_line word.now n (decimal m)) }
+    ensures { GivesLine result (λ line. line ≡ text_line word.now n (decimal m)) }
 {
     Ok(Some(format!(in alloc; "{word} {n} {m}")?))
 }
 
 /// Returns the line of a word, a number and a text without a line feed.
 fn with_text(alloc: Global, word: &str, n: u64, text: &str) -> Result<Option<String>, AllocError>
-    ensures { IfLine result (λ line. line ≡ text_line word.now n text.now) }
+    ensures { GivesLine result (λ line. line ≡ text_line word.now n text.now) }
 {
     Ok(Some(format!(in alloc; "{word} {n} {text}")?))
 }
 
 /// Returns the line of a word, a number and a text, or `None` if the text has a line feed.
 fn with_line(alloc: Global, word: &str, n: u64, text: &str) -> Result<Option<String>, AllocError>
-    ensures { IfLine result (λ line.
+    ensures { GivesLine result (λ line.
         (line ≡ text_line word.now n text.now) × IsOneLine text.now) }
 {
     if !is_one_line(text) {
@@ -157,7 +156,7 @@ fn message(
     level: MessageLevel,
     text: &str,
 ) -> Result<Option<String>, AllocError>
-    ensures { IfLine result (IsLineOf (Event.Message item at level text.now)) }
+    ensures { GivesLine result (IsLineOf (Event.Message item at level text.now)) }
 {
     if !is_one_line(text) {
         return Ok(None);
@@ -177,7 +176,7 @@ fn init(
     max: Option<Step>,
     unit: Option<Unit>,
 ) -> Result<Option<String>, AllocError>
-    ensures { IfLine result (IsLineOf (Event.Init item max unit)) }
+    ensures { GivesLine result (IsLineOf (Event.Init item max unit)) }
 {
     let Some(word) = word_of(unit) else {
         return Ok(None);
@@ -193,7 +192,7 @@ fn init_line(
     max: &str,
     unit: &str,
 ) -> Result<Option<String>, AllocError>
-    ensures { IfLine result (λ line.
+    ensures { GivesLine result (λ line.
         line ≡ text_line (codes "init") item (spaced max.now unit.now)) }
 {
     Ok(Some(format!(in alloc; "init {item} {max} {unit}")?))
