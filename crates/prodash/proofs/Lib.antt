@@ -1,4 +1,7 @@
 pub mod EngineSteps
+mod HistoryLaws
+mod HistorySteps
 mod JournalLaws
+mod ListPrefixes
 mod TurnLaws
 mod WorkedItems

@@ -1,5 +1,5 @@
 -- What a turn finds and leaves: a fact, or a change, from what its calls say.
-use Rattle.std.proofs.Common.{Option, Some, None, Result, Ok, Err, IfSome, IfOk, OnErr}
+use Rattle.std.proofs.Common.{Result, Ok, Err, IfOk, OnErr}
 use Rattle.std.specs.Sync.Mutex.{mutex_guard_value}
 use Rattle.std.specs.declared.sync.MutexGuard.{MutexGuard}
 use Rattle.prodash.specs.Turns.{OfTurn, Finds, Changes}
@@ -43,9 +43,3 @@ pub changes_on_err : {T E : Type 0} (found left : OfTurn) (fact : Locked → Loc
 changes_on_err found left fact (Ok x) begun new from to h = h
 changes_on_err found left fact (Err e) begun new from to h =
     changes found left fact begun new from to h
-
--- a fact of an option, at its value
-pub if_some : {T : Type 0} (fact : Option T → Type 0) (x : Option T)
-    → fact x → IfSome x (λ v. fact (Some v))
-if_some fact (Some v) h = h
-if_some fact None h = tt

@@ -1,6 +1,10 @@
 -- Journals: the accepted events of a tree, each with its reply.
-use Rattle.std.specs.Prelude.{◌≡◌, ℕ, ◌+◌, List, [], ◌∷◌, ◌++◌, Option, Some, Ok}
+use Rattle.std.specs.Prelude.{◌≡◌, ℕ, ◌+◌, ◌<◌, ◌⊎◌, List, [], ◌∷◌, ◌++◌, length, Option, Some, None, Ok}
 use Rattle.std.specs.List.{sum_by}
+use Rattle.std.specs.Option.{ForSome}
+use Rattle.prodash_base.specs.declared.refusal.Refusal.{Refusal}
+use Rattle.prodash_base.specs.declared.refusal.Refusal.TheVariants.{Memory, TooManyHandles}
+use Rattle.prodash_core.specs.Refusals.{refusal_of}
 use Rattle.prodash_core.specs.Trees.{Tree, new_tree, Plays}
 use Rattle.prodash_core.specs.declared.tree.event.Event.{Event}
 use Rattle.prodash_core.specs.declared.tree.event.Event.TheVariants.{IncBy}
@@ -66,3 +70,48 @@ pub record Records (old : Recorded) (e : Event) (reply : Reply) (new : Recorded)
 abbrev pub RecordsIn : Option Recorded → Event → Reply → Option Recorded → Type 0
 RecordsIn (Some old) e reply (Some new) = Records old e reply new
 RecordsIn _ e reply _ = ⊥
+
+-- a receipt of an accepted call: the number of its entry in the journal, its event and its reply
+pub record Received : Type 0 where
+  pub number : ℕ
+  pub event : Event
+  pub reply : Reply
+
+-- an item of a recorded tree: what it has done, and the number of its last accepted call, if any
+pub record Caller : Type 0 where
+  pub tally : Tally
+  pub last : Option ℕ
+
+-- an item that has made no call
+abbrev pub new_caller : Caller
+new_caller = record { tally = no_calls; last = None }
+
+-- the item after an accepted call that has this number
+abbrev pub after_call : Caller → Event → ℕ → Caller
+after_call caller e number = record { tally = with_call caller.tally e; last = Some number }
+
+-- The number is greater than that of the last call, if there is one.
+abbrev pub IsAfter : Option ℕ → ℕ → Type 0
+IsAfter last number = ForSome last (λ n. n < number)
+
+-- why a call may be refused: for memory, if there is no other reason
+abbrev pub MayRefuse : Option Refusal → Refusal → Type 0
+MayRefuse None refusal = refusal ≡ Memory
+MayRefuse (Some reason) refusal = refusal ≡ reason
+
+-- why a call on a recorded tree may be refused: its item has made the most calls, or for what the
+-- tree refuses the event
+abbrev pub RefusesOn : Option Recorded → Event → Refusal → Type 0
+RefusesOn (Some recorded) e refusal =
+    (refusal ≡ TooManyHandles) ⊎ MayRefuse (refusal_of recorded.tree e) refusal
+RefusesOn None e refusal = refusal ≡ TooManyHandles
+
+-- why a call on some recorded tree may be refused
+abbrev pub RefusesCall : Event → Refusal → Type 0
+RefusesCall e refusal = (recorded : Option Recorded) × RefusesOn recorded e refusal
+
+-- The receipt is that of the next call on a recorded tree whose journal isn't taken out.
+abbrev pub IsReceiptOf : Option Recorded → Event → Reply → Received → Type 0
+IsReceiptOf (Some recorded) e reply receipt =
+    receipt ≡ record { number = length recorded.entries; event = e; reply = reply }
+IsReceiptOf None e reply receipt = ⊥

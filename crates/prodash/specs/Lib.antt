@@ -4,6 +4,7 @@ pub mod Turns
 pub mod Engines
 pub mod Logs
 pub mod Wrappers
+pub mod Histories
 pub mod Journals
 pub use Rattle.prodash_base.specs.Path
 pub use Rattle.prodash_base.specs.Rows

@@ -6,7 +6,7 @@ pub mod root;
 mod slots;
 mod steps;
 mod traits;
-mod turns;
+pub(crate) mod turns;
 
 pub use item::Item;
 pub use prodash_core::tree::{

@@ -116,7 +116,7 @@ pub(crate) fn assert_lines<
     let mut last = root.share(&rt)?;
     let mut shares = Vec::new(alloc);
     join_all(&rt, workers(rt, alloc, &root)?, &mut shares)?;
-    let seen = last.call(&rt, alloc, Event::Snapshot)?;
+    let (seen, _) = last.call(&rt, alloc, Event::Snapshot)?;
     shares.push(last.give_back())?;
     let journal = closed(&rt, root, shares, 171)?;
     let (text, without) = written(alloc, &journal)?;

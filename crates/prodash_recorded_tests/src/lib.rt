@@ -8,4 +8,6 @@ mod fixtures;
 #[cfg(test)]
 mod journal_lines;
 #[cfg(test)]
+mod receipts;
+#[cfg(test)]
 mod recorded;

@@ -4,9 +4,12 @@ ghost use Rattle.std.specs.Prelude.{◌≡◌};
 use crate::child_numbers::assert_children;
 use crate::fixtures::assert_same;
 use crate::journal_lines::assert_lines;
+use crate::receipts::{assert_one_item, assert_workers};
 use prodash::progress::UNKNOWN;
 use prodash::time::Moment;
-use prodash::tree::recorded::{Journal, Ledgers, RecordedItem, RecordedRoot, Share, TreeLedger};
+use prodash::tree::recorded::{
+    Journal, Ledgers, Receipt, RecordedItem, RecordedRoot, Share, TreeLedger,
+};
 use prodash::tree::root::Options;
 use prodash::tree::{Event, Handle, Reply, RootOptions, TreeState};
 use prodash::{Refusal, Text};
@@ -35,6 +38,10 @@ pub(crate) enum Case {
     Lines,
     /// More children of the root than 16 bits count.
     Children,
+    /// Receipts of the calls of one item.
+    OneItem,
+    /// Receipts of two workers.
+    Receipts,
 }
 
 #[test]
@@ -78,6 +85,7 @@ fn done<
 >(rt: R, alloc: Global, ledgers: Ledgers, case: Case) -> Result<(), Fail>
     requires calls { (ledgers.calls.name ≡ C.name) × (ledgers.calls.parts ≡ C.parts) }
     requires sums { (ledgers.sums.name ≡ S.name) × (ledgers.sums.parts ≡ S.parts) }
+    requires history { ledgers.history.seen.book ≡ C.history }
     requires capacity { C.message_buffer_capacity ≡ 20 }
 {
     let root = RecordedRoot::<C, S>::new(alloc, ledgers, &Options::default())?;
@@ -88,6 +96,8 @@ fn done<
         Case::Dropped => assert_dropped(&rt, alloc, root),
         Case::Lines => assert_lines(rt, alloc, root),
         Case::Children => assert_children(&rt, alloc, root),
+        Case::OneItem => assert_one_item(&rt, alloc, root),
+        Case::Receipts => assert_workers(rt, alloc, root),
     }
 }
 
@@ -103,10 +113,21 @@ pub(crate) fn add<C: TreeLedger, S: Ledger>(
         name,
         id: UNKNOWN,
     };
-    match item.call(rt, alloc, event)? {
+    match item.call(rt, alloc, event)?.0 {
         Reply::Made(handle) => Ok(handle),
         _ => Err(Refusal::Gone),
     }
+}
+
+/// Adds a task below the root, and returns the receipt.
+pub(crate) fn add_with_receipt<C: TreeLedger, S: Ledger>(
+    rt: &impl Wait,
+    alloc: Global,
+    item: &mut RecordedItem<C, S>,
+) -> Result<Receipt<C>, Refusal> {
+    let (parent, name, id) = (0, Text::from_str(alloc, "task")?, UNKNOWN);
+    let (_, receipt) = item.call(rt, alloc, Event::AddChild { parent, name, id })?;
+    Ok(receipt)
 }
 
 /// Adds 3 to the step of an item, that many times.
@@ -370,7 +391,7 @@ fn assert_mixed<
     let mut shares = Vec::new(alloc);
     let mut last = root.share(&rt)?;
     join_all(&rt, mixers(rt, alloc, &root)?, &mut shares)?;
-    let seen = last.call(&rt, alloc, Event::Snapshot)?;
+    let (seen, _) = last.call(&rt, alloc, Event::Snapshot)?;
     shares.push(last.give_back())?;
     assert_same(&rt, totals(&shares), (1521, 320), "totals");
     let journal = closed(&rt, root, shares, 1521)?;

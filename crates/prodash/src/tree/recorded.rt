@@ -3,16 +3,21 @@
 //! Each thread has a [`RecordedItem`], and makes its calls under the lock of the tree. At the end
 //! each item gives back its [`Share`], and [`RecordedRoot::close`] takes them for the [`Journal`]:
 //! the events and their replies, as one thread could have made them, with as many entries as calls
-//! were accepted.
+//! were accepted. For each accepted call there is a [`Receipt`], by which its caller finds it in the
+//! journal.
+mod history;
 mod journal;
 mod ledgers;
 mod locked;
+mod receipt;
 mod root;
 mod share;
 mod state;
 
+pub use history::History;
 pub use journal::Journal;
 pub use ledgers::{Ledgers, TreeLedger};
+pub use receipt::Receipt;
 pub use root::{RecordedItem, RecordedRoot, Unclosed};
 pub use share::Share;
 pub use state::RecordedState;

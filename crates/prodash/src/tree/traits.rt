@@ -1,6 +1,6 @@
 //! The traits of progress and of roots for the locked tree. A call means what it finds or changes
 //! in one turn at the lock of the tree.
-ghost use Rattle.std.specs.Prelude.{◌≡◌, Some, is_some};
+ghost use Rattle.std.specs.Prelude.{◌≡◌, is_some};
 ghost use Rattle.prodash.specs.Items.{new_place, next_path, with_child};
 ghost use Rattle.prodash.specs.Turns.{Finds, Changes, HasTasks, KeepsAtMost, HasRows, HasMessages, HasNews, HasRowsAndNews, HasName, HasId, HasBound, HasUnit, Begins, SetsName, SetsBound, Sends, Adds, Upgrades};
 
@@ -42,9 +42,9 @@ impl<R: TakesTurns + Send + Sync> Progress for Item<R> {
     ghost begins = { λ item max unit after.
         (after ≡ item) × Changes R.found R.left (Begins item.path max unit) };
 
-    ghost has_unit = { λ item unit. Finds R.found (HasUnit item.path (Some unit)) };
+    ghost has_unit = { λ item unit. Finds R.found (HasUnit item.path unit) };
 
-    ghost has_bound = { λ item max. Finds R.found (HasBound item.path (Some max)) };
+    ghost has_bound = { λ item max. Finds R.found (HasBound item.path max) };
 
     ghost gets_bound = { λ item max before after.
         (after ≡ item) × Changes R.found R.left (SetsBound item.path max before) };

@@ -1,5 +1,5 @@
 //! A log as a progress.
-ghost use Rattle.std.specs.Prelude.{◌≡◌, Some};
+ghost use Rattle.std.specs.Prelude.{◌≡◌};
 ghost use Rattle.prodash.specs.Logs.{child_log, Renames, IsSecondPart};
 
 use super::Log;
@@ -33,9 +33,9 @@ impl<L: Logger + Drop, K: Clock + Drop> Count for Log<L, K> {
 impl<L: Logger + Drop + Send + Sync, K: Clock + Drop + Send + Sync> Progress for Log<L, K> {
     ghost begins = { λ log max unit after. after ≡ record log { max = max; unit = unit } };
 
-    ghost has_unit = { λ log unit. log.unit ≡ Some unit };
+    ghost has_unit = { λ log unit. unit ≡ log.unit };
 
-    ghost has_bound = { λ log max. log.max ≡ Some max };
+    ghost has_bound = { λ log max. max ≡ log.max };
 
     ghost gets_bound = { λ log max before after. (before ≡ log.max)
         × (after ≡ record log { max = max }) };

@@ -1,8 +1,9 @@
 //! Progress of any kind that this crate has.
-ghost use Rattle.std.specs.Prelude.{◌≡◌, None, Some, List, ℕ};
+ghost use Rattle.std.specs.Prelude.{◌≡◌, None, List, ℕ};
 ghost use Rattle.prodash_base.specs.Rows.{unknown_id};
 ghost use Rattle.prodash.specs.Items.{new_place, next_path, with_child};
 ghost use Rattle.prodash.specs.Logs.{child_log, joined, IsFirstPart, IsSecondPart};
+ghost use Rattle.prodash.specs.Turns.{Finds, Changes, HasName, HasId, HasBound, HasUnit, Begins, SetsName, SetsBound, Sends, Adds};
 ghost use Rattle.prodash.specs.declared.progress.utils.any_progress.AnyProgress.TheVariants as any;
 
 use super::discard::Discard;
@@ -10,7 +11,8 @@ use crate::messages::MessageLevel;
 use crate::progress::{Id, Log, Step, StepShared};
 use crate::time::{Clock, Moment};
 use crate::tree::Item;
-use crate::unit::{Unit, throughput_message};
+use crate::tree::turns::TakesTurns;
+use crate::unit::Unit;
 use log::Log as Logger;
 use prodash_base::Refusal;
 use prodash_core::traits::{Count, NestedProgress, Progress};
@@ -34,7 +36,7 @@ pub enum AnyProgress<R: Wait + Clone + Drop, L: Logger + Drop, K: Clock + Drop> 
     Discard(Discard),
 }
 
-impl<R: Wait + Clone + Drop, L: Logger + Drop, K: Clock + Drop> Count for AnyProgress<R, L, K> {
+impl<R: TakesTurns, L: Logger + Drop, K: Clock + Drop> Count for AnyProgress<R, L, K> {
     ghost shows = { elim [
       | any.Item _ ↦ (λ _. Unit {0})
       | any.Log _ ↦ (λ _. Unit {0})
@@ -76,52 +78,61 @@ impl<R: Wait + Clone + Drop, L: Logger + Drop, K: Clock + Drop> Count for AnyPro
 
 impl<R, L, K> Progress for AnyProgress<R, L, K>
 where
-    R: Wait + Clone + Drop + Send + Sync,
+    R: TakesTurns + Send + Sync,
     L: Logger + Drop + Send + Sync,
     K: Clock + Drop + Send + Sync,
 {
     ghost begins = { elim [
-      | any.Item item ↦ (λ max unit after. after ≡ any.Item item)
+      | any.Item item ↦ (λ max unit after. (after ≡ any.Item item)
+          × Changes R.found R.left (Begins item.path max unit))
       | any.Log log ↦ (λ max unit after. after ≡ any.Log (record log { max = max; unit = unit }))
       | any.Discard none ↦ (λ max unit after. after ≡ any.Discard none)
     ] };
 
     ghost has_unit = { elim [
-      | any.Item _ ↦ (λ _. Unit {0})
-      | any.Log log ↦ (λ unit. log.unit ≡ Some unit)
-      | any.Discard _ ↦ (λ _. ⊥)
+      | any.Item item ↦ (λ unit. Finds R.found (HasUnit item.path unit))
+      | any.Log log ↦ (λ unit. unit ≡ log.unit)
+      | any.Discard _ ↦ (λ unit. unit ≡ None)
     ] };
 
     ghost has_bound = { elim [
-      | any.Item _ ↦ (λ _. Unit {0})
-      | any.Log log ↦ (λ max. log.max ≡ Some max)
-      | any.Discard _ ↦ (λ _. ⊥)
+      | any.Item item ↦ (λ max. Finds R.found (HasBound item.path max))
+      | any.Log log ↦ (λ max. max ≡ log.max)
+      | any.Discard _ ↦ (λ max. max ≡ None)
     ] };
 
     ghost gets_bound = { elim [
-      | any.Item item ↦ (λ max before after. after ≡ any.Item item)
+      | any.Item item ↦ (λ max before after. (after ≡ any.Item item)
+          × Changes R.found R.left (SetsBound item.path max before))
       | any.Log log ↦ (λ max before after.
           (before ≡ log.max) × (after ≡ any.Log (record log { max = max })))
-      | any.Discard _ ↦ (λ _ _ _. ⊥)
+      | any.Discard none ↦ (λ max before after. (before ≡ None) × (after ≡ any.Discard none))
     ] };
 
     ghost gets_name = { elim [
-      | any.Item item ↦ (λ name after. after ≡ any.Item item)
+      | any.Item item ↦ (λ name after. (after ≡ any.Item item)
+          × Changes R.found R.left (SetsName item.path name))
       | any.Log log ↦ (λ name after. (first : List ℕ) × IsFirstPart log.name first
           × (after ≡ any.Log (record log { name = joined first name })))
       | any.Discard none ↦ (λ name after. after ≡ any.Discard none)
     ] };
 
     ghost has_name = { elim [
-      | any.Item _ ↦ (λ _. Unit {0})
+      | any.Item item ↦ (λ name. Finds R.found (HasName item.path name))
       | any.Log log ↦ (λ name. IsSecondPart log.name name)
       | any.Discard _ ↦ (λ name. name ≡ None)
     ] };
 
     ghost has_id = { elim [
-      | any.Item _ ↦ (λ _. Unit {0})
+      | any.Item item ↦ (λ id. Finds R.found (HasId item.path id))
       | any.Log log ↦ (λ id. id ≡ log.id)
       | any.Discard _ ↦ (λ id. id ≡ unknown_id)
+    ] };
+
+    ghost was_sent = { elim [
+      | any.Item item ↦ (λ at level text. Changes R.found R.left (Sends item.path at level text))
+      | any.Log _ ↦ (λ _ _ _. Unit {0})
+      | any.Discard _ ↦ (λ _ _ _. Unit {0})
     ] };
 
     fn init(&mut self, max: Option<Step>, unit: Option<Unit>) {
@@ -203,14 +214,23 @@ where
         unit: Option<Unit>,
         level: MessageLevel,
     ) -> Result<(), Refusal> {
-        let text = throughput_message(alloc, start, now, step, unit.as_ref())?;
-        self.message(alloc, now, level, &text)
+        match self {
+            AnyProgress::Item(item) => {
+                Progress::show_throughput_with(item, alloc, start, now, step, unit, level)
+            }
+            AnyProgress::Log(log) => {
+                Progress::show_throughput_with(log, alloc, start, now, step, unit, level)
+            }
+            AnyProgress::Discard(none) => {
+                none.show_throughput_with(alloc, start, now, step, unit, level)
+            }
+        }
     }
 }
 
 impl<R, L, K> NestedProgress for AnyProgress<R, L, K>
 where
-    R: Wait + Clone + Drop + Send + Sync,
+    R: TakesTurns + Send + Sync,
     L: Logger + Drop + Send + Sync,
     K: Clock + Drop + Send + Sync,
 {
@@ -218,7 +238,8 @@ where
 
     ghost gets_child = { elim [
       | any.Item item ↦ (λ name id after child.
-          (after ≡ any.Item (with_child item)) × (child ≡ any.Item (new_place (next_path item))))
+          (after ≡ any.Item (with_child item)) × (child ≡ any.Item (new_place (next_path item)))
+          × Changes R.found R.left (Adds (next_path item) name id))
       | any.Log log ↦ (λ name id after child.
           (after ≡ any.Log log) × (child ≡ any.Log (child_log log name id)))
       | any.Discard none ↦ (λ name id after child.

@@ -39,11 +39,11 @@ impl Count for Discard {
 impl Progress for Discard {
     ghost begins = { λ it _ _ after. after ≡ it };
 
-    ghost has_unit = { λ _ _. ⊥ };
+    ghost has_unit = { λ _ unit. unit ≡ None };
 
-    ghost has_bound = { λ _ _. ⊥ };
+    ghost has_bound = { λ _ max. max ≡ None };
 
-    ghost gets_bound = { λ _ _ _ _. ⊥ };
+    ghost gets_bound = { λ it _ before after. (before ≡ None) × (after ≡ it) };
 
     ghost gets_name = { λ it _ after. after ≡ it };
 
@@ -52,6 +52,18 @@ impl Progress for Discard {
     ghost has_id = { λ _ id. id ≡ unknown_id };
 
     fn init(&mut self, _max: Option<Step>, _unit: Option<Unit>) {}
+
+    fn unit(&self) -> Option<Unit> {
+        None
+    }
+
+    fn max(&self) -> Option<Step> {
+        None
+    }
+
+    fn set_max(&mut self, _max: Option<Step>) -> Option<Step> {
+        None
+    }
 
     fn set_name(&mut self, _alloc: Global, _name: &str) -> Result<(), Refusal>
         ensures { is_err result ≡ false }

@@ -98,12 +98,14 @@ impl<T: Progress> Progress for DoOrDiscard<T> {
     ghost begins = { λ it max unit after.
         OnBoth (λ p q. T.begins p max unit q) (λ p q. q ≡ p) it.inner after.inner };
 
-    ghost has_unit = { λ it unit. OnEither (λ p. T.has_unit p unit) (λ _. ⊥) it.inner };
+    ghost has_unit = { λ it unit.
+        OnEither (λ p. T.has_unit p unit) (λ _. unit ≡ None) it.inner };
 
-    ghost has_bound = { λ it max. OnEither (λ p. T.has_bound p max) (λ _. ⊥) it.inner };
+    ghost has_bound = { λ it max.
+        OnEither (λ p. T.has_bound p max) (λ _. max ≡ None) it.inner };
 
-    ghost gets_bound = { λ it max before after.
-        OnBoth (λ p q. T.gets_bound p max before q) (λ _ _. ⊥) it.inner after.inner };
+    ghost gets_bound = { λ it max before after. OnBoth (λ p q. T.gets_bound p max before q)
+        (λ p q. (before ≡ None) × (q ≡ p)) it.inner after.inner };
 
     ghost gets_name = { λ it name after.
         OnBoth (λ p q. T.gets_name p name q) (λ p q. q ≡ p) it.inner after.inner };

@@ -1,11 +1,14 @@
 //! Journals of recorded trees.
-ghost use Rattle.std.specs.Prelude.{◌≡◌};
+ghost use Rattle.std.specs.Prelude.{◌≡◌, Some, true, slice_get};
+ghost use Rattle.prodash.specs.Histories.{ended};
 ghost use Rattle.prodash.specs.Journals.{IsJournal};
 
+use crate::tree::recorded::history::Prefix;
 use crate::tree::recorded::ledgers::TreeLedger;
+use crate::tree::recorded::receipt::Receipt;
 use crate::tree::recorded::state::RecordedState;
 use prodash_core::tree::{Event, Reply};
-use std::marker::{Model, PhantomData};
+use std::marker::Model;
 
 /// The events that a recorded tree accepted, in order, each with its reply. One thread could have
 /// made these calls: a tree without tasks, which keeps as many messages as this one, accepts each
@@ -13,31 +16,34 @@ use std::marker::{Model, PhantomData};
 #[derive(Drop)]
 pub struct Journal<C: TreeLedger> {
     entries: Vec<(Event, Reply)>,
-    tree: PhantomData<C>,
+    history: Prefix<C>,
 }
 
 impl<C: TreeLedger> Model for Journal<C> {
-    ghost use Rattle.std.specs.Prelude.{List};
+    ghost use Rattle.std.specs.Prelude.{◌≡◌, List};
     ghost use Rattle.prodash_core.specs.declared.tree.event.Event.{Event};
     ghost use Rattle.prodash_core.specs.declared.tree.event.Reply.{Reply};
+    ghost use Rattle.prodash.specs.Histories.{ended};
     ghost use Rattle.prodash.specs.Journals.{IsJournal};
 
     ghost Value = { List (Event × Reply) };
 
     ghost view = { λ j. j.entries.items };
 
-    ghost invariant = { λ j. IsJournal C.message_buffer_capacity j.entries.items };
+    ghost invariant = { λ j. IsJournal C.message_buffer_capacity j.entries.items
+        × (j.history ≡ ended j.entries.items) };
 }
 
 impl<C: TreeLedger> Journal<C> {
-    /// Returns the journal of a tree.
-    pub(crate) fn new(state: RecordedState) -> Journal<C>
-        requires { state.capacity ≡ C.message_buffer_capacity }
+    /// Returns the journal of a tree, whose history has ended.
+    pub(crate) fn new(state: RecordedState, history: Prefix<C>) -> Journal<C>
+        requires capacity { state.capacity ≡ C.message_buffer_capacity }
+        requires history { history ≡ ended state.entries }
         ensures { result ≡ state.entries }
     {
         Journal {
             entries: state.into_entries(),
-            tree: PhantomData,
+            history,
         }
     }
 
@@ -47,5 +53,16 @@ impl<C: TreeLedger> Journal<C> {
         ensures replays { IsJournal C.message_buffer_capacity self.now }
     {
         self.entries.as_slice()
+    }
+
+    /// Returns whether there is an entry at the receipt's number. There always is, and it has the
+    /// receipt's event and reply: a receipt of another tree has another type.
+    pub fn agrees(&self, receipt: &Receipt<C>) -> bool
+        ensures value { result ≡ true }
+        ensures entry { slice_get self.now receipt.now.number
+            ≡ Some (receipt.now.event, receipt.now.reply) }
+    {
+        self.history.covers(receipt.prefix());
+        receipt.number() < self.entries.len() as u64
     }
 }

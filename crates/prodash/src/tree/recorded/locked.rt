@@ -1,18 +1,26 @@
 //! What the locks of a recorded tree protect.
-ghost use Rattle.std.specs.Prelude.{◌≡◌, ◌+◌, ◌<◌, ◌≤◌, ◌↔◌, ◌++◌, ◌∷◌, [], Ok, Err, true, false, is_some, IsTrue, IfOk, IfSome, OnOk, OnErr, length};
+ghost use Rattle.std.specs.Prelude.{◌≡◌, ◌≢◌, Some, slice_get, ◌+◌, ◌<◌, ◌≤◌, ◌↔◌, ◌++◌, ◌∷◌, [], Ok, Err, true, false, is_some, IsTrue, IfOk, IfErr, IfSome, OnOk, OnErr, length};
 ghost use Rattle.std.specs.Option.{ForSome, ForNone};
 ghost use Rattle.prodash_core.specs.Trees.{is_frame};
-ghost use Rattle.prodash.specs.Journals.{RecordsIn, no_calls, with_call, amount, calls_of, sum_of};
+ghost use Rattle.prodash.specs.Histories.{history_of, ended};
+ghost use Rattle.prodash.specs.declared.tree.recorded.history.HistoryEntry.TheVariants.{Call};
+ghost use Rattle.prodash_core.specs.Refusals.{refusal_of};
+ghost use Rattle.prodash.specs.Journals.{RecordsIn, IsReceiptOf, IsAfter, RefusesOn, RefusesCall, MayRefuse, Records, no_calls, with_call, amount, calls_of, sum_of};
 
+use crate::tree::recorded::history::{Length, Prefix, stuck};
 use crate::tree::recorded::journal::Journal;
 use crate::tree::recorded::ledgers::{Cut, TreeLedger};
+use crate::tree::recorded::receipt::Receipt;
 use crate::tree::recorded::share::Share;
 use crate::tree::recorded::state::RecordedState;
 use prodash_base::Refusal;
 use prodash_core::tree::{Event, Reply};
 use std::alloc::Global;
-use std::sync::ledger;
 use std::sync::ledger::{Book, Ledger};
+use std::sync::{Wait, ledger};
+
+/// The most entries of a journal before which a call is added. No memory has more.
+const LONGEST: u64 = 1 << 61;
 
 /// The parts of the ledgers that no share has yet.
 #[derive(Drop)]
@@ -108,11 +116,16 @@ pub(crate) struct Locked<C: TreeLedger, S: Ledger> {
     sums: Book<S>,
     /// All parts, once the journal is taken out.
     all: ledger::Share<C>,
+    word: Length<C>,
+    /// The history, until the journal is taken out.
+    history: Prefix<C>,
     call_cut: Cut<C>,
     sum_cut: Cut<S>,
     ghost opened: { ForSome state (λ s. s.capacity ≡ C.message_buffer_capacity) },
     ghost counted: { ForSome state (λ s. calls.total ≡ length s.entries) },
     ghost summed: { ForSome state (λ s. sums.total ≡ amount s.entries) },
+    ghost known: { ForSome state (λ s. history ≡ history_of s.entries) },
+    ghost short: { ForSome state (λ s. length s.entries ≤ 4611686018427387000) },
     ghost taken: { ForNone state (all.parts ≡ 18446744073709551615) },
 }
 
@@ -123,34 +136,46 @@ impl<C: TreeLedger, S: Ledger> Locked<C, S> {
         calls: Book<C>,
         sums: Book<S>,
         none: ledger::Share<C>,
+        of_tree: (Length<C>, Prefix<C>),
     ) -> Locked<C, S>
         requires opened { (state.capacity ≡ C.message_buffer_capacity) × (state.entries ≡ []) }
         requires calls { (calls.total ≡ 0) × (C.parts ≡ 18446744073709551615) }
         requires sums { (sums.total ≡ 0) × (S.parts ≡ 18446744073709551615) }
+        requires history { of_tree.1 ≡ [] }
     {
+        let (word, history) = of_tree;
         Locked {
             state: Some(state),
             calls,
             sums,
             all: none,
+            word,
+            history,
             call_cut: Cut::new(),
             sum_cut: Cut::new(),
         }
     }
 
-    /// Applies an event that is no frame, for the item that has the share, and returns the reply.
+    /// Applies an event that is no frame, for the item that has the share and whose last call has
+    /// the number `last`, and returns the reply and the receipt.
     #[tactic(auto, using(crate::proofs::JournalLaws::counting))]
-    pub(crate) fn call(
+    pub(crate) fn call<R: Wait>(
         &mut self,
+        rt: &R,
         alloc: Global,
-        event: &Event,
+        event: Event,
         share: &mut Share<C, S>,
-    ) -> Result<Reply, Refusal>
-        requires { is_frame event.now ≡ false }
-        ensures reply { IfOk result (λ r. RecordsIn self.old.state event.now r self.new.state) }
-        ensures ok { OnOk result (share.new ≡ with_call share.old event.now) }
+        last: Option<u64>,
+    ) -> Result<(Reply, Receipt<C>), Refusal>
+        requires { is_frame event ≡ false }
+        ensures reply { IfOk result (λ r. RecordsIn self.old.state event r.0 self.new.state) }
+        ensures receipt { IfOk result (λ r. IsReceiptOf self.old.state event r.0 r.1) }
+        ensures number { IfOk result (λ r. IsAfter last r.1.number) }
+        ensures ok { OnOk result (share.new ≡ with_call share.old event) }
         ensures err { OnErr result ((share.new ≡ share.old) × (self.new.state ≡ self.old.state)) }
         ensures full { (share.old.calls ≡ u64.MAX) ↔ (result ≡ Err Refusal.TooManyHandles) }
+        ensures reason { IfErr result (RefusesOn self.old.state event) }
+        ensures refused { IfErr result (RefusesCall event) }
     {
         if share.calls() == u64::MAX {
             return Err(Refusal::TooManyHandles);
@@ -161,13 +186,16 @@ impl<C: TreeLedger, S: Ledger> Locked<C, S> {
             calls,
             sums,
             all,
+            word,
+            history,
             ..
         } = self;
         match state {
             Some(state) => {
-                let reply = state.apply(alloc, event)?;
-                share.count(event, calls, sums);
-                Ok(reply)
+                let number = number_after(rt, last, state);
+                let (reply, entry) = recorded(rt, alloc, event, state, word, history)?;
+                share.count(&entry.0, calls, sums);
+                Ok((reply, Receipt::new(number, entry, history.again())))
             }
             None => {
                 share.has_a_part(all);
@@ -177,8 +205,9 @@ impl<C: TreeLedger, S: Ledger> Locked<C, S> {
     }
 
     /// Takes the journal out, against all parts.
-    pub(crate) fn finish(
+    pub(crate) fn finish<R: Wait>(
         &mut self,
+        rt: &R,
         mut calls: ledger::Share<C>,
         mut sums: ledger::Share<S>,
     ) -> Journal<C>
@@ -198,7 +227,8 @@ impl<C: TreeLedger, S: Ledger> Locked<C, S> {
                 self.calls.audit(&mut calls);
                 self.sums.audit(&mut sums);
                 self.all = calls;
-                Journal::new(state)
+                let history = ended_history(rt, &self.word, &self.history, &state);
+                Journal::new(state, history)
             }
             None => {
                 self.all.give(&mut calls, 0, 0);
@@ -206,4 +236,69 @@ impl<C: TreeLedger, S: Ledger> Locked<C, S> {
             }
         }
     }
+}
+
+/// Returns the number of the next call. A journal has one entry more than the number of each call,
+/// and never 2^61; if that weren't so, this call would never return.
+fn number_after<R: Wait>(rt: &R, last: Option<u64>, state: &RecordedState) -> u64
+    ensures number { result ≡ length state.now.entries }
+    ensures after { IsAfter last result }
+    ensures short { result ≤ 2305843009213693952 }
+{
+    let number = state.entries().len() as u64;
+    let is_after = match last {
+        Some(last) => last < number,
+        None => true,
+    };
+    if !is_after || number > LONGEST {
+        match stuck(rt) {}
+    }
+    number
+}
+
+/// Applies an event that is no frame, and appends it to the journal and to the history. Returns the
+/// reply and the entry.
+#[tactic(auto, using(crate::proofs::HistoryLaws::appending))]
+fn recorded<C: TreeLedger, R: Wait>(
+    rt: &R,
+    alloc: Global,
+    event: Event,
+    state: &mut RecordedState,
+    word: &Length<C>,
+    history: &mut Prefix<C>,
+) -> Result<(Reply, (Event, Reply)), Refusal>
+    requires frame { is_frame event ≡ false }
+    requires known { history.old ≡ history_of state.old.entries }
+    requires short { length state.old.entries ≤ 2305843009213693952 }
+    ensures reply { IfOk result (λ r. Records state.old event r.0 state.new) }
+    ensures entry { IfOk result (λ r. r.1 ≡ (event, r.0)) }
+    ensures found { IfOk result (λ r.
+        slice_get history.new (length state.old.entries) ≡ Some (Call r.1)) }
+    ensures capacity { state.new.capacity ≡ state.old.capacity }
+    ensures history { history.new ≡ history_of state.new.entries }
+    ensures err { OnErr result (state.new ≡ state.old) }
+    ensures reason { IfErr result (MayRefuse (refusal_of state.old.tree event)) }
+    ensures handles { IfErr result (λ e. e ≢ Refusal.TooManyHandles) }
+{
+    let (reply, copy) = state.record(alloc, &event)?;
+    let entry = (event, copy);
+    history.push(rt, word, &entry);
+    Ok((reply, entry))
+}
+
+/// Returns the history of a tree, with its end.
+#[tactic(auto, using(crate::proofs::HistoryLaws::appending))]
+fn ended_history<C: TreeLedger, R: Wait>(
+    rt: &R,
+    word: &Length<C>,
+    history: &Prefix<C>,
+    state: &RecordedState,
+) -> Prefix<C>
+    requires known { history.now ≡ history_of state.now.entries }
+    requires short { length state.now.entries ≤ 4611686018427387000 }
+    ensures { result ≡ ended state.now.entries }
+{
+    let mut history = history.again();
+    history.end(rt, word);
+    history
 }

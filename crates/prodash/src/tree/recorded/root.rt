@@ -2,11 +2,12 @@
 ghost use Rattle.std.specs.Prelude.{◌≡◌, ◌+◌, ◌↔◌, Err, false, IfOk, IfErr, OnOk, OnErr, length, IsOkUnless};
 ghost use Rattle.prodash_base.specs.Refusals.{RefusesHandle};
 ghost use Rattle.prodash_core.specs.Trees.{is_frame};
-ghost use Rattle.prodash.specs.Journals.{IsJournal, no_calls, with_call, amount, calls_of, sum_of};
+ghost use Rattle.prodash.specs.Journals.{IsJournal, IsAfter, RefusesCall, new_caller, after_call, amount, calls_of, sum_of};
 
 use crate::tree::recorded::journal::Journal;
 use crate::tree::recorded::ledgers::{Ledgers, TreeLedger};
 use crate::tree::recorded::locked::{Locked, Rest};
+use crate::tree::recorded::receipt::Receipt;
 use crate::tree::recorded::share::Share;
 use crate::tree::recorded::state::RecordedState;
 use crate::tree::root::Options;
@@ -23,11 +24,11 @@ use std::sync::{Arc, Mutex, Wait};
 /// let root = RecordedRoot::<C, S>::new(alloc, ledgers, &Options::default())?;
 /// let mut item = root.share(&rt)?;
 /// let name = Text::from_str(alloc, "task")?;
-/// let made = item.call(&rt, alloc, Event::AddChild { parent: 0, name, id: UNKNOWN })?;
+/// let (made, receipt) = item.call(&rt, alloc, Event::AddChild { parent: 0, name, id: UNKNOWN })?;
 /// let mut shares = Vec::new(alloc);
 /// shares.push(item.give_back())?;
 /// if let Ok(journal) = root.close(&rt, shares) {
-///     assert_eq!(rt; journal.entries().len(), 1);
+///     assert!(rt; journal.agrees(&receipt));
 /// }
 /// ```
 #[derive(Drop)]
@@ -36,19 +37,21 @@ pub struct RecordedRoot<C: TreeLedger, S: Ledger> {
     rest: Mutex<Rest<C, S>>,
 }
 
-/// Makes calls on a recorded tree. Contracts see the number of the accepted calls and their sum.
+/// Makes calls on a recorded tree. Contracts see how many calls were accepted, their sum, and the
+/// number of the last one.
 #[derive(Drop)]
 pub struct RecordedItem<C: TreeLedger, S: Ledger> {
     tree: Arc<Mutex<Locked<C, S>>>,
     share: Share<C, S>,
+    last: Option<u64>,
 }
 
 impl<C: TreeLedger, S: Ledger> Model for RecordedItem<C, S> {
-    ghost use Rattle.prodash.specs.Journals.{Tally};
+    ghost use Rattle.prodash.specs.Journals.{Caller};
 
-    ghost Value = { Tally };
+    ghost Value = { Caller };
 
-    ghost view = { λ item. item.share };
+    ghost view = { λ item. record { tally = item.share; last = item.last } };
 }
 
 /// What is returned if a recorded tree can't be closed, since shares are missing: its root, and the
@@ -74,14 +77,19 @@ impl<C: TreeLedger, S: Ledger> RecordedRoot<C, S> {
     ) -> Result<RecordedRoot<C, S>, Refusal>
         requires calls { (ledgers.calls.name ≡ C.name) × (ledgers.calls.parts ≡ C.parts) }
         requires sums { (ledgers.sums.name ≡ S.name) × (ledgers.sums.parts ≡ S.parts) }
+        requires history { ledgers.history.seen.book ≡ C.history }
         requires capacity { options.now.message_buffer_capacity ≡ C.message_buffer_capacity }
         ensures { IsOkUnless result Refusal.Memory }
     {
         let state = RecordedState::new(alloc, options)?;
-        let Ledgers { calls, sums } = ledgers;
+        let Ledgers {
+            calls,
+            sums,
+            history,
+        } = ledgers;
         let (calls, mut call_part) = calls.open::<C>();
         let (sums, sum_part) = sums.open::<S>();
-        let locked = Locked::new(state, calls, sums, call_part.empty());
+        let locked = Locked::new(state, calls, sums, call_part.empty(), history.of_tree());
         let tree = Arc::new(alloc, Mutex::new(locked))?;
         let rest = Mutex::new(Rest::new(call_part, sum_part));
         Ok(RecordedRoot { tree, rest })
@@ -94,7 +102,7 @@ impl<C: TreeLedger, S: Ledger> RecordedRoot<C, S> {
     /// `TooManyHandles`, if 2^64-1 shares have been made. `Memory`, if the reference count of the
     /// tree is at its limit.
     pub fn share<R: Wait>(&self, rt: &R) -> Result<RecordedItem<C, S>, Refusal>
-        ensures ok { IfOk result (λ item. item ≡ no_calls) }
+        ensures ok { IfOk result (λ item. item ≡ new_caller) }
         ensures reason { IfErr result RefusesHandle }
     {
         shared(&self.tree, &mut self.rest.lock(rt))
@@ -124,7 +132,7 @@ impl<C: TreeLedger, S: Ledger> RecordedRoot<C, S> {
             return Err(Unclosed { root, shares });
         }
         let (calls, sums) = rest.with_shares(shares);
-        let journal = tree.lock(rt).finish(calls, sums);
+        let journal = tree.lock(rt).finish(rt, calls, sums);
         // shows that it replays
         let _ = journal.entries();
         Ok(journal)
@@ -132,29 +140,44 @@ impl<C: TreeLedger, S: Ledger> RecordedRoot<C, S> {
 }
 
 impl<C: TreeLedger, S: Ledger> RecordedItem<C, S> {
-    /// Applies an event that is no frame, and returns the reply. May wait for the lock of the tree.
-    /// A refused event gets no entry in the journal.
+    /// Applies an event that is no frame, and returns the reply, and a receipt by which the call is
+    /// found in the journal. The numbers of the receipts rise from call to call. May wait for the
+    /// lock of the tree. A refused event gets no entry in the journal.
     ///
     /// # Errors
     ///
     /// `TooManyHandles`, if the item has made 2^64-1 calls. Then `Gone`, `TooManyMessages` and
     /// `Memory`, as `RecordedState::apply`.
-    pub fn call<R: Wait>(&mut self, rt: &R, alloc: Global, event: Event) -> Result<Reply, Refusal>
+    pub fn call<R: Wait>(
+        &mut self,
+        rt: &R,
+        alloc: Global,
+        event: Event,
+    ) -> Result<(Reply, Receipt<C>), Refusal>
         requires { is_frame event ≡ false }
-        ensures ok { OnOk result (self.new ≡ with_call self.old event) }
+        ensures ok { IfOk result (λ r. self.new ≡ after_call self.old event r.1.number) }
+        ensures receipt { IfOk result (λ r. (r.1.event ≡ event) × (r.1.reply ≡ r.0)) }
+        ensures number { IfOk result (λ r. IsAfter self.old.last r.1.number) }
         ensures err { OnErr result (self.new ≡ self.old) }
-        ensures full { (self.old.calls ≡ u64.MAX) ↔ (result ≡ Err Refusal.TooManyHandles) }
+        ensures full { (self.old.tally.calls ≡ u64.MAX) ↔ (result ≡ Err Refusal.TooManyHandles) }
+        ensures reason { IfErr result (RefusesCall event) }
     {
-        let RecordedItem { tree, share } = self;
-        tree.lock(rt).call(alloc, &event, share)
+        let RecordedItem { tree, share, last } = self;
+        let (reply, receipt) = tree.lock(rt).call(rt, alloc, event, share, *last)?;
+        *last = Some(receipt.number());
+        Ok((reply, receipt))
     }
 
     /// Returns the item's share, which says what the item has done.
     pub fn give_back(self) -> Share<C, S>
-        ensures { result ≡ self }
+        ensures { result ≡ self.tally }
     {
-        let RecordedItem { tree: _, share } = self;
-        share
+        let RecordedItem {
+            tree: _,
+            share: given,
+            last: _,
+        } = self;
+        given
     }
 }
 
@@ -163,7 +186,7 @@ fn shared<C: TreeLedger, S: Ledger>(
     tree: &Arc<Mutex<Locked<C, S>>>,
     rest: &mut Rest<C, S>,
 ) -> Result<RecordedItem<C, S>, Refusal>
-    ensures item { IfOk result (λ item. item ≡ no_calls) }
+    ensures item { IfOk result (λ item. item ≡ new_caller) }
     ensures ok { OnOk result (rest.new.made ≡ rest.old.made + 1) }
     ensures err { OnErr result (rest.new ≡ rest.old) }
     ensures full { (result ≡ Err Refusal.TooManyHandles) ↔ (rest.old.made ≡ u64.MAX) }
@@ -174,5 +197,9 @@ fn shared<C: TreeLedger, S: Ledger>(
     }
     let tree = Arc::try_clone(tree)?;
     let share = rest.share();
-    Ok(RecordedItem { tree, share })
+    Ok(RecordedItem {
+        tree,
+        share,
+        last: None,
+    })
 }

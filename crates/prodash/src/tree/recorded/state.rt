@@ -73,12 +73,30 @@ impl RecordedState {
     ///
     /// As `TreeState::apply`, and `Memory` also if there is no memory for the entry. An event that
     /// is refused leaves the tree and the journal as they were.
-    #[tactic(auto, using(crate::proofs::JournalLaws::applying))]
     pub fn apply(&mut self, alloc: Global, event: &Event) -> Result<Reply, Refusal>
         requires { is_frame event.now ≡ false }
         ensures reply { IfOk result (λ r. Plays self.old.tree event.now (Ok r) self.new.tree) }
         ensures entry { IfOk result (λ r.
             self.new.entries ≡ self.old.entries ++ (event.now, r) ∷ []) }
+        ensures capacity { self.new.capacity ≡ self.old.capacity }
+        ensures err { OnErr result (self.new ≡ self.old) }
+        ensures refused { IfSome (refusal_of self.old.tree event.now) (λ e. result ≡ Err e) }
+        ensures memory { IfNone (refusal_of self.old.tree event.now)
+            (IsOkUnless result Refusal.Memory) }
+        ensures handles { IfErr result (λ e. e ≢ Refusal.TooManyHandles) }
+    {
+        let (reply, _) = self.record(alloc, event)?;
+        Ok(reply)
+    }
+
+    /// Applies an event as `apply`, and returns the reply and a copy of it.
+    #[tactic(auto, using(crate::proofs::JournalLaws::applying))]
+    pub(crate) fn record(&mut self, alloc: Global, event: &Event) -> Result<(Reply, Reply), Refusal>
+        requires { is_frame event.now ≡ false }
+        ensures reply { IfOk result (λ r. Plays self.old.tree event.now (Ok r.0) self.new.tree) }
+        ensures copy { IfOk result (λ r. r.1 ≡ r.0) }
+        ensures entry { IfOk result (λ r.
+            self.new.entries ≡ self.old.entries ++ (event.now, r.0) ∷ []) }
         ensures capacity { self.new.capacity ≡ self.old.capacity }
         ensures err { OnErr result (self.new ≡ self.old) }
         ensures refused { IfSome (refusal_of self.old.tree event.now) (λ e. result ≡ Err e) }
@@ -92,9 +110,9 @@ impl RecordedState {
         }
         entries.reserve(1)?;
         let kept = event.clone()?;
-        let (reply, copy) = applied(tree, alloc, event)?;
+        let (reply, first, second) = applied(tree, alloc, event)?;
         entries.push_reserved((kept, reply));
-        Ok(copy)
+        Ok((first, second))
     }
 
     /// Returns the journal so far.
@@ -119,18 +137,23 @@ impl RecordedState {
     }
 }
 
-/// Applies an event that the tree doesn't refuse, and returns the reply and a copy of it. An event
-/// that is refused leaves the tree as it was.
+/// Applies an event that the tree doesn't refuse, and returns the reply and two copies of it. An
+/// event that is refused leaves the tree as it was.
 #[tactic(auto, using(crate::proofs::JournalLaws::copying))]
-fn applied(tree: &mut TreeState, alloc: Global, event: &Event) -> Result<(Reply, Reply), Refusal>
+fn applied(
+    tree: &mut TreeState,
+    alloc: Global,
+    event: &Event,
+) -> Result<(Reply, Reply, Reply), Refusal>
     requires frame { is_frame event.now ≡ false }
     requires refused { refusal_of tree.old event.now ≡ None }
     ensures reply { IfOk result (λ r. Plays tree.old event.now (Ok r.0) tree.new) }
-    ensures copy { IfOk result (λ r. r.1 ≡ r.0) }
+    ensures copies { IfOk result (λ r. (r.1 ≡ r.0) × (r.2 ≡ r.0)) }
     ensures err { OnErr result (tree.new ≡ tree.old) }
     ensures reason { IsOkUnless result Refusal.Memory }
 {
     let reply = tree.apply(alloc, event)?;
-    let copy = reply.clone()?;
-    Ok((reply, copy))
+    let first = reply.clone()?;
+    let second = reply.clone()?;
+    Ok((reply, first, second))
 }

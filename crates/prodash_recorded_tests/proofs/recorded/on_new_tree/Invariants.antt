@@ -1,7 +1,10 @@
 use Rattle.prodash_recorded_tests.proofs.recorded.on_new_tree.Given as goal
 
 abbrev pub ghosts-done-C-TreeLedger : goal.ghosts-done-C-TreeLedger
-ghosts-done-C-TreeLedger g a = record { message_buffer_capacity = 20 }
+ghosts-done-C-TreeLedger g a = record {
+  message_buffer_capacity = 20;
+  history = a.ledgers.history.seen.book;
+}
 
 abbrev pub ghosts-done-C-Ledger : goal.ghosts-done-C-Ledger
 ghosts-done-C-Ledger g a = record { name = a.ledgers.calls.name; parts = a.ledgers.calls.parts }

@@ -1,0 +1,246 @@
+//! The history of a recorded tree: a list of its accepted calls that only grows. It exists in
+//! proofs alone, but for its length.
+ghost use Rattle.std.specs.Prelude.{◌≡◌, ◌<◌, ◌^◌, ◌++◌, ◌∷◌, [], length, MatchBool};
+ghost use mathlib.Core.List.{IsPrefix};
+ghost use Rattle.prodash.specs.Histories.{IsLonger, IsOpen, IsOrderly, ended, length_word};
+ghost use Rattle.prodash.specs.declared.tree.recorded.history.HistoryEntry.TheVariants.{Call, End};
+
+use crate::tree::recorded::ledgers::TreeLedger;
+use logbook::{Gain, Offer, Plain, Play, Rule, Seen, Start, Word};
+use prodash_core::tree::{Event, Reply};
+use std::convert::Infallible;
+use std::marker::{Model, PhantomData};
+use std::sync::Wait;
+
+/// An entry of a history: an accepted call with its reply, or the mark that no further call comes.
+/// No value of it is ever made.
+pub enum HistoryEntry {
+    /// A call that was accepted.
+    Call((Event, Reply)),
+    /// The end.
+    End,
+}
+
+/// The rule of a history: one word has its length, and nothing follows its end.
+pub struct HistoryRule;
+
+impl Rule<HistoryEntry, u64> for HistoryRule {
+    ghost use Rattle.std.specs.Prelude.{[]};
+    ghost use base.Fml.{ftrue};
+    ghost use Rattle.prodash.specs.Histories.{IsKept};
+
+    ghost holds = { λ cells log. IsKept cells log };
+
+    ghost first = { [] };
+
+    ghost hinted = { λ n log. Unit {0} };
+
+    ghost shows = { λ log. [] };
+
+    ghost keeps = { λ names log. ftrue };
+
+    ghost moves = { λ ask before after answer. Unit {0} };
+}
+
+/// Who appends gains nothing but what it has seen.
+struct NoGain;
+
+impl Gain<HistoryEntry, u64> for NoGain {
+    ghost use base.Fml.{ftrue};
+
+    ghost after = { λ names about answer. ftrue };
+}
+
+/// The step that appends an entry.
+struct Append;
+
+impl Play<HistoryEntry, u64> for Append {
+    ghost use Rattle.prodash.specs.Histories.{Appends};
+
+    ghost then = { Appends };
+}
+
+impl Plain<(Event, Reply), HistoryEntry, u64> for Append {
+    ghost use Rattle.std.specs.Prelude.{None};
+    ghost use Rattle.prodash.specs.declared.tree.recorded.history.HistoryEntry.TheVariants.{Call};
+
+    ghost ask = { λ entry. Call entry };
+
+    ghost state = { λ entry. None };
+}
+
+impl Plain<(), HistoryEntry, u64> for Append {
+    ghost use Rattle.std.specs.Prelude.{None};
+    ghost use Rattle.prodash.specs.declared.tree.recorded.history.HistoryEntry.TheVariants.{End};
+
+    ghost ask = { λ entry. End };
+
+    ghost state = { λ entry. None };
+}
+
+/// The empty history of a tree that is to be recorded.
+#[derive(Drop)]
+pub struct History {
+    word: Word<HistoryEntry, u64, HistoryRule>,
+    seen: Seen<HistoryEntry, u64, HistoryRule>,
+    ghost empty: { seen.log ≡ [] },
+    ghost counted: { word ≡ length_word seen.book },
+}
+
+impl History {
+    /// Returns an empty history, which differs from every other.
+    pub fn new() -> History {
+        let (seen, mut first, _second) = Seen::open(Start::alone(), 0, 0);
+        History {
+            word: Word::tracked(0, &mut first),
+            seen,
+        }
+    }
+
+    /// Returns the length of the history of this tree, and its empty prefix.
+    pub(crate) fn of_tree<C: TreeLedger>(self) -> (Length<C>, Prefix<C>)
+        requires { self.seen.book ≡ C.history }
+        ensures { result.1 ≡ [] }
+    {
+        let History { word, seen } = self;
+        let word = Length {
+            word,
+            tree: PhantomData,
+        };
+        let prefix = Prefix {
+            len: 0,
+            seen,
+            tree: PhantomData,
+        };
+        (word, prefix)
+    }
+}
+
+/// The length of the history of a tree.
+#[derive(Drop)]
+pub(crate) struct Length<C: TreeLedger> {
+    word: Word<HistoryEntry, u64, HistoryRule>,
+    tree: PhantomData<C>,
+    ghost counted: { word ≡ length_word C.history },
+}
+
+/// A prefix of the history of a tree. Contracts see its entries.
+#[derive(Drop)]
+pub(crate) struct Prefix<C: TreeLedger> {
+    len: u64,
+    seen: Seen<HistoryEntry, u64, HistoryRule>,
+    tree: PhantomData<C>,
+}
+
+impl<C: TreeLedger> Model for Prefix<C> {
+    ghost use Rattle.std.specs.Prelude.{◌≡◌, List, length};
+    ghost use Rattle.prodash.specs.declared.tree.recorded.history.HistoryEntry.{HistoryEntry};
+    ghost use Rattle.prodash.specs.Histories.{IsOrderly};
+
+    ghost Value = { List HistoryEntry };
+
+    ghost view = { λ p. p.seen.log };
+
+    ghost invariant = { λ p. (p.len ≡ length p.seen.log)
+        × (p.seen.book ≡ C.history) × IsOrderly p.seen.log };
+}
+
+impl<C: TreeLedger> Prefix<C> {
+    /// Returns the same prefix.
+    pub(crate) fn again(&self) -> Prefix<C>
+        ensures { result ≡ self.now }
+    {
+        Prefix {
+            len: self.len,
+            seen: self.seen.again(),
+            tree: PhantomData,
+        }
+    }
+
+    /// Proof only: every prefix of the history is one of the whole history.
+    pub(crate) fn covers(&self, other: &Prefix<C>)
+        ensures { (entries : _) → self.now ≡ ended entries → IsPrefix other.now self.now }
+    {
+        let mut both = self.seen.again();
+        both.learn(&other.seen);
+    }
+
+    /// Appends a call to the whole history, which is this prefix. If the history is longer, which
+    /// the lock of its tree rules out, this call never returns.
+    pub(crate) fn push<R: Wait>(&mut self, rt: &R, word: &Length<C>, entry: &(Event, Reply))
+        requires room { length self.old < 2 ^ 62 }
+        requires open { IsOpen self.old }
+        ensures { self.new ≡ self.old ++ Call entry.now ∷ [] }
+    {
+        if !self.try_push(word, entry) {
+            match stuck(rt) {}
+        }
+    }
+
+    /// Appends the end to the whole history, as `push` a call.
+    pub(crate) fn end<R: Wait>(&mut self, rt: &R, word: &Length<C>)
+        requires room { length self.old < 2 ^ 62 }
+        requires open { IsOpen self.old }
+        ensures { self.new ≡ self.old ++ End ∷ [] }
+    {
+        if !self.try_end(word) {
+            match stuck(rt) {}
+        }
+    }
+
+    /// Appends a call if this prefix is the whole history, and returns whether it is.
+    fn try_push(&mut self, word: &Length<C>, entry: &(Event, Reply)) -> bool
+        requires room { length self.old < 2 ^ 62 }
+        requires open { IsOpen self.old }
+        ensures { MatchBool result (self.new ≡ self.old ++ Call entry.now ∷ [])
+            (IsLonger self.old self.new) }
+    {
+        let mut offer: Offer<HistoryEntry, u64, HistoryRule, NoGain> = self
+            .seen
+            .plain::<NoGain, (Event, Reply), Append>(entry);
+        let mut pen = self.seen.no_pen();
+        let before = self.len;
+        let found = word
+            .word
+            .compare_exchange::<Append, NoGain>(
+                before,
+                before + 1,
+                &mut self.seen,
+                &mut offer,
+                &mut pen,
+            );
+        self.len = if found == before { before + 1 } else { found };
+        found == before
+    }
+
+    /// Appends the end if this prefix is the whole history, and returns whether it is.
+    fn try_end(&mut self, word: &Length<C>) -> bool
+        requires room { length self.old < 2 ^ 62 }
+        requires open { IsOpen self.old }
+        ensures { MatchBool result (self.new ≡ self.old ++ End ∷ [])
+            (IsLonger self.old self.new) }
+    {
+        let mut offer: Offer<HistoryEntry, u64, HistoryRule, NoGain> = self
+            .seen
+            .plain::<NoGain, (), Append>(&());
+        let mut pen = self.seen.no_pen();
+        let before = self.len;
+        let found = word
+            .word
+            .compare_exchange::<Append, NoGain>(
+                before,
+                before + 1,
+                &mut self.seen,
+                &mut offer,
+                &mut pen,
+            );
+        self.len = if found == before { before + 1 } else { found };
+        found == before
+    }
+}
+
+/// Never returns.
+pub(crate) fn stuck<R: Wait>(rt: &R) -> Infallible {
+    for _ in rt.forever() {}
+    unreachable!()
+}
