@@ -97,11 +97,7 @@ fn workers<
     C: TreeLedger + Send + Sync + 'static,
     S: Ledger + Send + Sync + 'static,
     R: Threads + Wait + Abort + Copy + Send + Sync + 'static,
->(
-    rt: R,
-    alloc: Global,
-    root: &RecordedRoot<C, S>,
-) -> Result<Vec<JoinHandle<Worked<C, S>>>, Fail> {
+>(rt: R, alloc: Global, root: &RecordedRoot<C, S>) -> Result<Vec<JoinHandle<Worked<C, S>>>, Fail> {
     let mut running = Vec::new(alloc);
     for _ in 0..2u32 {
         let item = root.share(&rt)?;
