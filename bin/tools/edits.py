@@ -5,6 +5,7 @@ import itertools
 import os
 
 import functions
+import switches
 
 # Where edits are: those that `rt ci` tries one by one, and the others.
 FOLDERS = ("must-fail", "edits")
@@ -21,8 +22,12 @@ class Edit:
         self.crate, self.names = crate, modules
         self.function = "::".join([crate.name, *modules]) if modules else None
         self.label = "/".join([crate.name, *modules, name.removesuffix(".edit")])
-        # The changed files by their paths, or why `rt` can't apply the edit.
+        # The changed files by their paths, or why the edit can't be applied.
         self.texts, self.fault = rt.read_edit(file, crate.folder)
+        if self.fault and modules:
+            # a text that the file has more than once may be there once in the function
+            self.texts = in_function(file, crate.folder, modules[-1])
+            self.fault = None if self.texts else self.fault
         # The name of the copy of its function that it changes, or None if it changes the function.
         self.copy = None
 
@@ -54,6 +59,28 @@ class Edit:
         inserted = "\n\n" + functions.renamed(wrong, name, self.copy)
         proofs = functions.proofs_of(self.crate.folder, self.names, self.copy)
         return [(path, span[1], span[1], inserted), *((it, 0, 0, new) for it, new in proofs)]
+
+
+def in_function(file, folder, name):
+    """Returns the files that an edit changes in the bodies of functions of this name, by their paths.
+
+    Returns None if an old text isn't there once.
+    """
+    texts = {}
+    for path, old, new in switches.steps_in(file):
+        if path not in texts and not os.path.isfile(f"{folder}/{path}"):
+            return None
+        if path not in texts:
+            with open(f"{folder}/{path}", encoding="utf-8") as it:
+                texts[path] = it.read()
+        text = texts[path]
+        places = [(begin, end) for begin, end, of in switches.bodies(text) if of == name]
+        places = [(begin, end) for begin, end in places if old in text[begin:end]]
+        if not old or len(places) != 1 or text[slice(*places[0])].count(old) != 1:
+            return None
+        begin, end = places[0]
+        texts[path] = text[:begin] + text[begin:end].replace(old, new) + text[end:]
+    return texts
 
 
 def changes(old, new):

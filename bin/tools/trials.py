@@ -17,7 +17,7 @@ ENDS = (REFUSED, LOST, NO_GOAL, THROUGH, UNREAD, UNTOLD)
 
 # The most edits of a round, the bytes that a check is likely to take, and the seconds in which it
 # takes them.
-ROUND, CHECK_BYTES, GROWTH = 200, 2_500_000_000, 20
+ROUND, CHECK_BYTES, GROWTH = 250, 2_500_000_000, 20
 
 
 class Slots:
