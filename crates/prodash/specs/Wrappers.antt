@@ -1,6 +1,5 @@
 -- Progress that wraps other progress, or none.
 use Rattle.std.specs.Prelude.{Option, Some, None}
-use Rattle.prodash.specs.declared.progress.utils.discard.Discard.{Discard}
 use Rattle.prodash.specs.declared.progress.utils.do_or_discard.DoOrDiscard.{DoOrDiscard}
 use Rattle.prodash.specs.declared.progress.utils.either.Either.{Either}
 use Rattle.prodash.specs.declared.progress.utils.either.Either.TheVariants.{Left, Right}

@@ -1,9 +1,14 @@
 //! The ledgers of a recorded tree.
 ghost use Rattle.std.specs.Prelude.{◌≡◌, ℕ};
+ghost use Rattle.prodash.specs.declared.tree.recorded.ledgers.TheConstants.{PARTS};
 
 use crate::tree::recorded::history::History;
 use std::marker::{Brand, PhantomData};
 use std::sync::ledger::{Blank, Ledger};
+
+/// The number of parts of each ledger of a tree, one for each share. It is the number of shares that
+/// can be made.
+pub(crate) const PARTS: u64 = u64::MAX;
 
 /// The ledger of the calls on a recorded tree, which names the tree. Contracts read from it how
 /// many messages the tree keeps, and which history is its own.
@@ -31,40 +36,40 @@ pub struct Ledgers {
     pub sums: Blank,
     /// The history of the tree.
     pub history: History,
-    ghost call_parts: { calls.parts ≡ 18446744073709551615 },
-    ghost sum_parts: { sums.parts ≡ 18446744073709551615 },
+    ghost call_parts: { calls.parts ≡ PARTS },
+    ghost sum_parts: { sums.parts ≡ PARTS },
 }
 
 impl Ledgers {
     /// Returns new ledgers and an empty history.
     pub fn new() -> Ledgers {
         Ledgers {
-            calls: Blank::new(u64::MAX),
-            sums: Blank::new(u64::MAX),
+            calls: Blank::new(PARTS),
+            sums: Blank::new(PARTS),
             history: History::new(),
         }
     }
 }
 
-/// A proof that a ledger has 2^64-1 parts.
+/// A proof that a ledger has `PARTS` parts.
 #[derive(Drop)]
 pub(crate) struct Cut<L: Ledger> {
     ledger: PhantomData<L>,
-    ghost parts: { L.parts ≡ 18446744073709551615 },
+    ghost parts: { L.parts ≡ PARTS },
 }
 
 impl<L: Ledger> Cut<L> {
     pub(crate) fn new() -> Cut<L>
-        requires { L.parts ≡ 18446744073709551615 }
+        requires { L.parts ≡ PARTS }
     {
         Cut {
             ledger: PhantomData,
         }
     }
 
-    /// Proof only: the ledger has 2^64-1 parts.
+    /// Proof only: the ledger has `PARTS` parts.
     pub(crate) fn show(&self)
-        ensures { L.parts ≡ 18446744073709551615 }
+        ensures { L.parts ≡ PARTS }
     {
         let _ = &self.ledger;
     }

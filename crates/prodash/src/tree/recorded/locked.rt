@@ -5,11 +5,12 @@ ghost use Rattle.prodash_core.specs.Trees.{is_frame};
 ghost use Rattle.prodash.specs.Histories.{history_of, ended};
 ghost use Rattle.prodash.specs.declared.tree.recorded.history.HistoryEntry.TheVariants.{Call};
 ghost use Rattle.prodash_core.specs.Refusals.{refusal_of};
+ghost use Rattle.prodash.specs.declared.tree.recorded.ledgers.TheConstants.{PARTS};
 ghost use Rattle.prodash.specs.Journals.{RecordsIn, IsReceiptOf, IsAfter, RefusesOn, RefusesCall, MayRefuse, Records, no_calls, with_call, amount, calls_of, sum_of};
 
 use crate::tree::recorded::history::{Length, Prefix, stuck};
 use crate::tree::recorded::journal::Journal;
-use crate::tree::recorded::ledgers::{Cut, TreeLedger};
+use crate::tree::recorded::ledgers::{Cut, PARTS, TreeLedger};
 use crate::tree::recorded::receipt::Receipt;
 use crate::tree::recorded::share::Share;
 use crate::tree::recorded::state::RecordedState;
@@ -29,8 +30,8 @@ pub(crate) struct Rest<C: TreeLedger, S: Ledger> {
     made: u64,
     call_part: ledger::Share<C>,
     sum_part: ledger::Share<S>,
-    ghost calls: { call_part.parts + made ≡ 18446744073709551615 },
-    ghost sums: { sum_part.parts + made ≡ 18446744073709551615 },
+    ghost calls: { call_part.parts + made ≡ PARTS },
+    ghost sums: { sum_part.parts + made ≡ PARTS },
     ghost no_calls: { call_part.amount ≡ 0 },
     ghost no_sum: { sum_part.amount ≡ 0 },
 }
@@ -38,8 +39,8 @@ pub(crate) struct Rest<C: TreeLedger, S: Ledger> {
 impl<C: TreeLedger, S: Ledger> Rest<C, S> {
     /// Returns all parts: no share was made.
     pub(crate) fn new(call_part: ledger::Share<C>, sum_part: ledger::Share<S>) -> Rest<C, S>
-        requires calls { (call_part.parts ≡ 18446744073709551615) × (call_part.amount ≡ 0) }
-        requires sums { (sum_part.parts ≡ 18446744073709551615) × (sum_part.amount ≡ 0) }
+        requires calls { (call_part.parts ≡ PARTS) × (call_part.amount ≡ 0) }
+        requires sums { (sum_part.parts ≡ PARTS) × (sum_part.amount ≡ 0) }
         ensures { result.made ≡ 0 }
     {
         Rest {
@@ -51,14 +52,14 @@ impl<C: TreeLedger, S: Ledger> Rest<C, S> {
 
     /// Returns whether no further share can be made.
     pub(crate) fn is_full(&self) -> bool
-        ensures { IsTrue result ↔ (self.now.made ≡ u64.MAX) }
+        ensures { IsTrue result ↔ (self.now.made ≡ PARTS) }
     {
-        self.made == u64::MAX
+        self.made == PARTS
     }
 
     /// Makes the share of an item that has made no call.
     pub(crate) fn share(&mut self) -> Share<C, S>
-        requires { self.old.made < u64.MAX }
+        requires { self.old.made < PARTS }
         ensures share { result ≡ no_calls }
         ensures made { self.new.made ≡ self.old.made + 1 }
     {
@@ -86,9 +87,9 @@ impl<C: TreeLedger, S: Ledger> Rest<C, S> {
         shares: Vec<Share<C, S>>,
     ) -> (ledger::Share<C>, ledger::Share<S>)
         requires { self.made ≤ length shares.items }
-        ensures call_parts { 18446744073709551615 ≤ result.0.parts }
+        ensures call_parts { PARTS ≤ result.0.parts }
         ensures calls { result.0.amount ≡ calls_of shares.items }
-        ensures sum_parts { 18446744073709551615 ≤ result.1.parts }
+        ensures sum_parts { PARTS ≤ result.1.parts }
         ensures sums { result.1.amount ≡ sum_of shares.items }
     {
         let Rest {
@@ -126,7 +127,7 @@ pub(crate) struct Locked<C: TreeLedger, S: Ledger> {
     ghost summed: { ForSome state (λ s. sums.total ≡ amount s.entries) },
     ghost known: { ForSome state (λ s. history ≡ history_of s.entries) },
     ghost short: { ForSome state (λ s. length s.entries ≤ 4611686018427387000) },
-    ghost taken: { ForNone state (all.parts ≡ 18446744073709551615) },
+    ghost taken: { ForNone state (all.parts ≡ PARTS) },
 }
 
 impl<C: TreeLedger, S: Ledger> Locked<C, S> {
@@ -139,8 +140,8 @@ impl<C: TreeLedger, S: Ledger> Locked<C, S> {
         of_tree: (Length<C>, Prefix<C>),
     ) -> Locked<C, S>
         requires opened { (state.capacity ≡ C.message_buffer_capacity) × (state.entries ≡ []) }
-        requires calls { (calls.total ≡ 0) × (C.parts ≡ 18446744073709551615) }
-        requires sums { (sums.total ≡ 0) × (S.parts ≡ 18446744073709551615) }
+        requires calls { (calls.total ≡ 0) × (C.parts ≡ PARTS) }
+        requires sums { (sums.total ≡ 0) × (S.parts ≡ PARTS) }
         requires history { of_tree.1 ≡ [] }
     {
         let (word, history) = of_tree;
@@ -211,8 +212,8 @@ impl<C: TreeLedger, S: Ledger> Locked<C, S> {
         mut calls: ledger::Share<C>,
         mut sums: ledger::Share<S>,
     ) -> Journal<C>
-        requires calls { 18446744073709551615 ≤ calls.parts }
-        requires sums { 18446744073709551615 ≤ sums.parts }
+        requires calls { PARTS ≤ calls.parts }
+        requires sums { PARTS ≤ sums.parts }
         ensures count { length result ≡ calls.amount }
         ensures sum { amount result ≡ sums.amount }
     {

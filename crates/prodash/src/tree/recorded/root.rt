@@ -1,5 +1,6 @@
 //! Owners of recorded trees, and their items.
 ghost use Rattle.std.specs.Prelude.{◌≡◌, ◌+◌, ◌↔◌, Err, false, IfOk, IfErr, OnOk, OnErr, length, IsOkUnless};
+ghost use Rattle.prodash.specs.declared.tree.recorded.ledgers.TheConstants.{PARTS};
 ghost use Rattle.prodash_base.specs.Refusals.{RefusesHandle};
 ghost use Rattle.prodash_core.specs.Trees.{is_frame};
 ghost use Rattle.prodash.specs.Journals.{IsJournal, IsAfter, RefusesCall, new_caller, after_call, amount, calls_of, sum_of};
@@ -189,7 +190,7 @@ fn shared<C: TreeLedger, S: Ledger>(
     ensures item { IfOk result (λ item. item ≡ new_caller) }
     ensures ok { OnOk result (rest.new.made ≡ rest.old.made + 1) }
     ensures err { OnErr result (rest.new ≡ rest.old) }
-    ensures full { (result ≡ Err Refusal.TooManyHandles) ↔ (rest.old.made ≡ u64.MAX) }
+    ensures full { (result ≡ Err Refusal.TooManyHandles) ↔ (rest.old.made ≡ PARTS) }
     ensures reason { IfErr result RefusesHandle }
 {
     if rest.is_full() {

@@ -62,7 +62,7 @@ impl<C: TreeLedger, S: Ledger> Share<C, S> {
 
     /// Counts an accepted call.
     pub(crate) fn count(&mut self, event: &Event, calls: &mut Book<C>, sums: &mut Book<S>)
-        requires { self.old.calls < 18446744073709551615 }
+        requires { self.old.calls < u64.MAX }
         ensures after { self.new ≡ with_call self.old event.now }
         ensures calls { calls.new.total ≡ calls.old.total + 1 }
         ensures sums { sums.new.total ≡ sums.old.total + amount_of event.now }
