@@ -584,6 +584,31 @@ fn refused_ticks_are_skipped(rt: HostRuntime) -> Result<(), Fail> {
     Ok(())
 }
 
+/// A last frame that finds no memory is drawn once there is memory, and then the closing frame.
+#[test]
+fn the_last_frame_is_tried_again(rt: HostRuntime) -> Result<(), Fail> {
+    let alloc: Global = rt.alloc();
+    let next = Arc::new(alloc, AtomicU64::new(HAS_NO_MEMORY))?;
+    let weak = WeakTask::new(alloc, &next)?;
+    let asked = Arc::try_clone(&weak.asked)?;
+    let collected = Collected::new(alloc, true)?;
+    let out = Collector {
+        rt,
+        alloc,
+        collected: Arc::try_clone(&collected)?,
+    };
+    let clock = SteppedClock::new(alloc, rt)?;
+    let mut handle = render(rt, alloc, out, weak, Arc::try_clone(&clock)?, options())?;
+    assert_asked(&rt, &asked, 1);
+    handle.shutdown();
+    assert_asked(&rt, &asked, 2);
+    next.store(FINDS, Ordering::SeqCst);
+    clock.end(u64::MAX);
+    handle.wait();
+    assert_frames(&rt, &collected, &[TASK_FRAME, CLOSING_WIDE]);
+    Ok(())
+}
+
 #[test]
 fn options_are_not_configured(rt: HostRuntime) {
     let options = options().auto_configure(StreamKind::Stderr);

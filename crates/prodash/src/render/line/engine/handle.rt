@@ -70,8 +70,7 @@ impl<R: Wait + Threads + Clone + Drop> JoinHandle<R> {
     /// for them.
     pub fn shutdown(&mut self) {
         if self.is_connected {
-            self.mailbox.tick(&self.rt);
-            self.mailbox.quit(&self.rt);
+            self.mailbox.finish(&self.rt);
         }
     }
 

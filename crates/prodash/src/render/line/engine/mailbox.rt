@@ -119,10 +119,30 @@ impl Mailbox {
         self.changed.notify_all();
     }
 
-    /// Requests the closing frame.
-    pub(crate) fn quit<R: Wait>(&self, rt: &R) {
-        self.pending.lock(rt).quit = true;
+    /// Requests a last frame, and then the closing frame.
+    pub(crate) fn finish<R: Wait>(&self, rt: &R) {
+        let mut pending = self.pending.lock(rt);
+        // at once, so that a last frame that is refused is known to be the last
+        pending.tick = true;
+        pending.quit = true;
+        drop(pending);
         self.changed.notify_all();
+    }
+
+    /// Requests again what was refused for now, and returns whether it did. A newer size stays. Of
+    /// frames only the last one before a quit is requested again, since the ticker requests the
+    /// others.
+    pub(crate) fn again<R: Wait>(&self, rt: &R, refused: Request) -> bool {
+        let mut pending = self.pending.lock(rt);
+        match refused {
+            Request::Resize(columns, rows) => {
+                pending.size = pending.size.or(Some((columns, rows)));
+            }
+            Request::Tick if pending.quit => pending.tick = true,
+            Request::Quit => pending.quit = true,
+            Request::Tick | Request::Cancel => return false,
+        }
+        true
     }
 
     /// Waits for a request, and removes and returns it.

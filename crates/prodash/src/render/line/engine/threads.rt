@@ -201,8 +201,8 @@ fn starts_delay<
         .is_ok()
 }
 
-/// The event loop: draws a frame for each request, until the renderer has ended. A quit that is
-/// refused for now is tried again after the frame interval.
+/// The event loop: draws a frame for each request, until the renderer has ended. A size, a last
+/// frame or a quit that is refused for now is tried again after the frame interval.
 fn run<
     R: Wait + Drop,
     K: Clock + Drop,
@@ -218,8 +218,7 @@ fn run<
         match engine.step(event) {
             Ok(Answer::Drawn) => {}
             Err(Refusal::Memory | Refusal::TooManyHandles) => {
-                if let EngineEvent::Quit { .. } = event {
-                    shared.mailbox.quit(&shared.rt);
+                if shared.mailbox.again(&shared.rt, request) {
                     shared.clock.sleep(shared.frame);
                 }
             }
