@@ -4,12 +4,12 @@ A program whose allocations are refused in turn
 With the first allocation refused, then the second, and so on until none is: `prodash-live` ends with
 an error before its renderer is started, or its renderer does without and draws the closing frame.
 
-  $ build-allocations .
+  $ build-failures .
   $ closing_frame=$(printf '\033[2K\r')
   $ number=0
   $ until [ -f refused ] && [ ! -s refused ]; do
   >   number=$((number + 1)) status=0
-  >   timeout 10 env REFUSED=$number LD_PRELOAD=./allocations.so \
+  >   timeout 10 env REFUSED=$number MARK=9 LD_PRELOAD=./failures.so \
   >     prodash-live --terminal always </dev/null 2>written 9>refused || status=$?
   >   case "$status $(cat written)" in
   >   "0 $closing_frame" | "1 no memory" | "1 no thread" | "2 error: out of memory") ;;

@@ -1,5 +1,5 @@
 //! Calls of the libraries, many at a time: `bin/bench` counts what they cost, and
-//! `bin/fail-each-allocation` refuses memory to those of the workload `recorded`.
+//! `bin/fail-each` refuses memory to those of the workload `recorded`.
 #![tactic(auto)]
 
 ghost use Rattle.std.specs.Prelude.{◌≡◌, IfErr};

@@ -2,7 +2,7 @@ ghost use Rattle.std.specs.Prelude.{◌≡◌};
 
 use prodash::messages::MessageLevel;
 use prodash::progress::UNKNOWN;
-use prodash::tree::recorded::{Journal, Ledgers, RecordedItem, RecordedRoot, TreeLedger};
+use prodash::tree::recorded::{Journal, Ledgers, Receipt, RecordedItem, RecordedRoot, TreeLedger};
 use prodash::tree::root::Options;
 use prodash::tree::{Event, Handle, RootOptions, TreeState};
 use prodash::{Refusal, Text};
@@ -11,6 +11,9 @@ use std::alloc::Global;
 use std::marker::Brand;
 use std::sync::Wait;
 use std::sync::ledger::Ledger;
+
+/// How many calls are made.
+const CALLS: u64 = 70;
 
 /// How calls ended.
 #[derive(Clone, Copy)]
@@ -22,7 +25,7 @@ struct Counts {
 
 /// Makes calls of many kinds on a recorded tree, and prints how many were refused for want of
 /// memory. The journal must have just the accepted calls: as many as the item counts, with the same
-/// sum and replies.
+/// sum and replies. It must agree with the receipt of each.
 pub(crate) fn run<R: Wait + Print>(rt: &R, alloc: Global) -> Result<(), Fault> {
     let counts = record::<Brand, Brand, R>(rt, alloc, Ledgers::new())?;
     match println!(rt; "{} refused", counts.refused) {
@@ -45,7 +48,8 @@ fn record<C: TreeLedger, S: Ledger, R: Wait>(
     let root = RecordedRoot::<C, S>::new(alloc, ledgers, &Options::default())?;
     let mut item = root.share(rt)?;
     let mut shares = Vec::with_capacity(alloc, 1)?;
-    let counts = make_calls(rt, alloc, &mut item);
+    let mut receipts = Vec::with_capacity(alloc, CALLS as usize)?;
+    let counts = make_calls(rt, alloc, &mut item, &mut receipts);
     let share = item.give_back();
     let is_counted = share.calls() == counts.accepted && share.sum() == counts.sum;
     shares.push(share)?;
@@ -53,25 +57,28 @@ fn record<C: TreeLedger, S: Ledger, R: Wait>(
         return Err(Fault::Journal);
     };
     let is_whole = journal.entries().len() as u64 == counts.accepted;
-    if is_counted && is_whole && replays(alloc, &journal)? {
+    let is_received = receipts.len() as u64 == counts.accepted && agrees(&journal, &receipts);
+    if is_counted && is_whole && is_received && replays(alloc, &journal)? {
         Ok(counts)
     } else {
         Err(Fault::Journal)
     }
 }
 
-/// Makes 70 calls. One that is refused, or whose event can't be made, isn't made again.
+/// Makes the calls, and appends the receipts of those that are accepted. A call that is refused, or
+/// whose event can't be made, isn't made again.
 fn make_calls<C: TreeLedger, S: Ledger>(
     rt: &impl Wait,
     alloc: Global,
     item: &mut RecordedItem<C, S>,
+    receipts: &mut Vec<Receipt<C>>,
 ) -> Counts {
     let mut counts = Counts {
         accepted: 0,
         sum: 0,
         refused: 0,
     };
-    for call in 0..70u64 {
+    for call in 0..CALLS {
         let kind = call % 10;
         let Ok(event) = event(alloc, kind, call / 10 + 1) else {
             continue;
@@ -80,7 +87,10 @@ fn make_calls<C: TreeLedger, S: Ledger>(
             continue;
         }
         match item.call(rt, alloc, event) {
-            Ok(_) => {
+            Ok((_, receipt)) => {
+                if receipts.push(receipt).is_err() {
+                    continue;
+                }
                 counts.accepted = counts.accepted.wrapping_add(1);
                 counts.sum = counts.sum.wrapping_add(if kind == 3 { 3 } else { 0 });
             }
@@ -121,6 +131,11 @@ fn event(alloc: Global, kind: u64, item: Handle) -> Result<Event, Refusal> {
         8 => Event::CopyNew { previous: None },
         _ => Event::NumTasks,
     })
+}
+
+/// Returns whether a journal agrees with these receipts.
+fn agrees<C: TreeLedger>(journal: &Journal<C>, receipts: &[Receipt<C>]) -> bool {
+    receipts.iter().all(|it| journal.agrees(it))
 }
 
 /// Returns whether a new tree gives the events of a journal its replies.
