@@ -1,3 +1,4 @@
 mod NamedItems
 mod Numerals
 mod UnitWords
+mod WrittenLines

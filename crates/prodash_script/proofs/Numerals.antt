@@ -24,7 +24,7 @@ digits_of_number word is = grind (arith, nat_tests)
 some_digits : (word : List ℕ) → is_number word ≡ true → 0 < length word
 some_digits word is = grind (arith, nat_tests)
 
-fits : (word : List ℕ) → is_number word ≡ true → digits_value 10 word < 2 ^ 64 → Some (digits_value 10 word) ≡ number_of word
+pub fits : (word : List ℕ) → is_number word ≡ true → digits_value 10 word < 2 ^ 64 → Some (digits_value 10 word) ≡ number_of word
 fits word is small =
     let test : nat_lt (digits_value 10 word) (2 ^ 64) ≡ true = grind (arith, nat_tests) in
     rw (is, test)

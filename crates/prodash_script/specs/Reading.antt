@@ -164,3 +164,7 @@ read_line handle moment line =
 -- what was read on success, wherever its reason and the name of its unit are stored
 abbrev pub Reads : {E : Type 0} → Result (Option Event) E → Option Event → Type 0
 Reads result event = IfOk result (λ found. option_map plain found ≡ event)
+
+-- a text that is read as an event, where handles and moments are numbers
+abbrev pub IsReadAs : Event → List ℕ → Type 0
+IsReadAs event line = read_line number_of number_of line ≡ Some (plain event)

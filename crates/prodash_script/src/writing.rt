@@ -1,6 +1,7 @@
-ghost use Rattle.std.specs.Prelude.{◌≡◌, codes, IfOk, string_bytes, true};
+ghost use Rattle.std.specs.Prelude.{◌≡◌, ◌<◌, ◌^◌, codes, IfOk, IfSome, string_bytes, true};
 ghost use Rattle.std.specs.Fmt.{decimal};
 ghost use Rattle.prodash_script.specs.Lines.{GivesLine, IsLineOf, IsOneLine, bound_word, is_one_line, spaced, text_line, word_line};
+ghost use Rattle.prodash_script.specs.Reading.{IsReadAs};
 
 use crate::reading::REASON;
 use crate::units::word_of;
@@ -23,7 +24,9 @@ use std::alloc::{AllocError, Global};
 ///
 /// `AllocError`, if there is no memory for the line.
 pub fn to_line(alloc: Global, event: &Event) -> Result<Option<String>, AllocError>
-    ensures { GivesLine result (IsLineOf event.now) }
+    ensures line { GivesLine result (IsLineOf event.now) }
+    ensures read { IfOk result (λ found. IfSome found (λ line.
+        IsReadAs event.now (string_bytes line))) }
 {
     match event {
         Event::AddChild { parent, name, id } => {
@@ -108,7 +111,8 @@ fn is_one_line(text: &str) -> bool
 
 /// Returns the word of a bound.
 fn bound(alloc: Global, max: Option<Step>) -> Result<String, AllocError>
-    ensures { IfOk result (λ word. string_bytes word ≡ bound_word max) }
+    ensures word { IfOk result (λ word. string_bytes word ≡ bound_word max) }
+    ensures fits { IfSome max (λ n. n < 2 ^ 64) }
 {
     match max {
         Some(max) => format!(in alloc; "{max}"),
@@ -176,7 +180,8 @@ fn init(
     max: Option<Step>,
     unit: Option<Unit>,
 ) -> Result<Option<String>, AllocError>
-    ensures { GivesLine result (IsLineOf (Event.Init item max unit)) }
+    ensures line { GivesLine result (IsLineOf (Event.Init item max unit)) }
+    ensures fits { IfSome max (λ n. n < 2 ^ 64) }
 {
     let Some(word) = word_of(unit) else {
         return Ok(None);
