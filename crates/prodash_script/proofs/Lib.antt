@@ -1,4 +1,5 @@
 mod NamedItems
 mod Numerals
+mod ScriptLines
 mod UnitWords
 mod WrittenLines

@@ -1,9 +1,13 @@
 -- What the lines of a script ask for.
-use Rattle.std.specs.Prelude.{◌≡◌, ℕ, List, [], ◌∷◌, Option, Some, None, String, ◌&&◌, false, ⊤, bytes_eq, codes, unwrap_or, length, nat_eq, nat_lt, if◌then◌else◌}
+use Rattle.std.specs.Prelude.{◌≡◌, ℕ, List, [], ◌∷◌, Option, Some, None, String, ◌&&◌, false, ⊤, bytes_eq, codes, unwrap_or, length, drop, nat_eq, nat_lt, option_map, option_and_then, string_bytes, if◌then◌else◌}
+use Rattle.std.specs.List.{starts_with}
 use Rattle.std.specs.Option.{option_map_or}
+use Rattle.std.specs.Str.{is_utf8}
 use Rattle.std.specs.BTreeMap.{BTreeMap, get_by_text}
 use Rattle.prodash_core.specs.Trees.{is_frame}
+use Rattle.prodash_core.specs.declared.tree.event.Event.{Event}
 use Rattle.prodash_script.specs.Lines.{IsAddition}
+use Rattle.prodash_script.specs.Reading.{Reader, add_of, plain, read_line, then_read}
 use Rattle.prodash_script.specs.Words.{number_of}
 use Rattle.prodash_script.specs.declared.request.TheConstants.{NO_ITEM}
 use Rattle.prodash_script.specs.declared.request.Request.{Request}
@@ -29,3 +33,44 @@ handle_in names word =
 -- the moment that a word names, which is now for a `-`
 abbrev pub moment_in : ℕ → List ℕ → Option ℕ
 moment_in now word = if bytes_eq word (codes "-") then Some now else number_of word
+
+-- any text but the empty one
+abbrev pub nonempty_text_of : Reader (List ℕ)
+nonempty_text_of text = if nat_lt 0 (length text) then Some text else None
+
+-- the text after a prefix, if there is this prefix
+abbrev pub after_prefix : List ℕ → Reader (List ℕ)
+after_prefix prefix text =
+    if starts_with nat_eq text prefix then Some (drop (length prefix) text) else None
+
+-- what a line asks for: an event, with the name of the item that it adds, if the line has one
+abbrev pub Asked : Type 0
+Asked = Option (List ℕ) × Event
+
+-- `WORD H NAME` as an item that is added, with the word as its name
+abbrev pub named_add_of : Reader ℕ → Reader Asked
+named_add_of handle rest =
+    option_map (λ a. (Some a.0, a.1)) (then_read nonempty_text_of (add_of handle) rest)
+
+-- a line of events as one that draws no frame, and names no item
+abbrev pub unnamed_of : Reader ℕ → Reader ℕ → Reader Asked
+unnamed_of handle moment line =
+    option_and_then (λ event. if is_frame event then None else Some (None, event))
+    (read_line handle moment line)
+
+-- what a line of a script asks for: after `add @` an item with a name, else any event but a frame
+abbrev pub asked_by : Reader ℕ → Reader ℕ → Reader Asked
+asked_by handle moment line =
+    option_map_or (named_add_of handle) (after_prefix (codes "add @") line)
+    (unnamed_of handle moment line)
+
+-- the same of bytes, which ask for nothing if they are no text
+abbrev pub asked_by_bytes : {Z : Type 0} → BTreeMap (String Z) ℕ → ℕ → Reader Asked
+asked_by_bytes names now bytes =
+    if is_utf8 bytes then asked_by (handle_in names) (moment_in now) bytes else None
+
+-- what a request is for, wherever its texts are stored; a fault is for nothing
+abbrev pub asked : Request → Option Asked
+asked (Apply event) = Some (None, plain event)
+asked (Name name event) = Some (Some (string_bytes name), plain event)
+asked Fault = None

@@ -102,7 +102,7 @@ fn bound(word: &str) -> Option<Option<Step>>
 
 /// Returns the text before the first space and the text after it, or `None` if there is no space.
 #[tactic(auto, unfolding(crate::specs::Reading::cut_at_space))]
-fn cut(text: &str) -> Option<(&str, &str)>
+pub(crate) fn cut(text: &str) -> Option<(&str, &str)>
     ensures { option_map (λ parts. (parts.0.now, parts.1.now)) result ≡ cut_at_space text.now }
 {
     text.split_once(' ')

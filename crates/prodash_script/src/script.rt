@@ -1,8 +1,8 @@
 //! What a line asks for: an event, whose items may have words for names.
-ghost use Rattle.std.specs.Prelude.{◌≡◌, IfOk, option_map};
-ghost use Rattle.prodash_script.specs.Requests.{AsksForNoFrame, name_in};
+ghost use Rattle.std.specs.Prelude.{◌≡◌, codes, IfOk, option_map};
+ghost use Rattle.prodash_script.specs.Requests.{AsksForNoFrame, after_prefix, asked, asked_by_bytes, handle_in, moment_in, name_in, named_add_of, unnamed_of};
 
-use crate::reading::{add, parse_with};
+use crate::reading::{add, cut, parse_with};
 use crate::request::{NO_ITEM, Request};
 use crate::words::{Words, number};
 use prodash_base::time::Moment;
@@ -64,40 +64,62 @@ pub fn request_of(
     now: Moment,
     line: &[u8],
 ) -> Result<Request, AllocError>
-    ensures { IfOk result AsksForNoFrame }
+    ensures no_frame { IfOk result AsksForNoFrame }
+    ensures asks { IfOk result (λ request.
+        asked request ≡ asked_by_bytes names.now now line.now) }
 {
     let Ok(line) = str::from_utf8(line) else {
         return Ok(Request::Fault);
     };
     let script = Script { names, now };
-    if let Some(rest) = line.strip_prefix("add @") {
-        return named(alloc, script, rest);
+    match named_arguments(line) {
+        Some(rest) => named(alloc, script, rest),
+        None => unnamed(alloc, script, line),
     }
+}
+
+/// Returns what comes after `add @`, if a line begins with it.
+fn named_arguments(line: &str) -> Option<&str>
+    ensures { option_map (λ rest. rest.now) result ≡ after_prefix (codes "add @") line.now }
+{
+    line.strip_prefix("add @")
+}
+
+/// Parses the arguments `WORD H NAME`, after the `@` of the word.
+#[tactic(auto, unfolding(crate::specs::Reading::first_of))]
+fn named(alloc: Global, script: Script<'_>, rest: &str) -> Result<Request, AllocError>
+    ensures no_frame { IfOk result AsksForNoFrame }
+    ensures asks { IfOk result (λ request.
+        asked request ≡ named_add_of (handle_in script.entry.names.now) rest.now) }
+{
+    let Some((word, rest)) = cut(rest) else {
+        return Ok(Request::Fault);
+    };
+    if word.is_empty() {
+        return Ok(Request::Fault);
+    }
+    match add(alloc, &script, rest)? {
+        Some(event) => {
+            let word = String::from_str(alloc, word)?;
+            Ok(Request::Name(word, event))
+        }
+        None => Ok(Request::Fault),
+    }
+}
+
+/// Parses a line as an event that draws no frame.
+fn unnamed(alloc: Global, script: Script<'_>, line: &str) -> Result<Request, AllocError>
+    ensures no_frame { IfOk result AsksForNoFrame }
+    ensures asks { let handle = handle_in script.entry.names.now in
+        let moment = moment_in script.entry.now in
+        IfOk result (λ request. asked request ≡ unnamed_of handle moment line.now) }
+{
     match parse_with(alloc, &script, line)? {
         Some(event) => {
             if event.is_frame() {
                 return Ok(Request::Fault);
             }
             Ok(Request::Apply(event))
-        }
-        None => Ok(Request::Fault),
-    }
-}
-
-/// Parses the arguments `WORD H NAME`, after the `@` of the word.
-fn named(alloc: Global, script: Script<'_>, rest: &str) -> Result<Request, AllocError>
-    ensures { IfOk result AsksForNoFrame }
-{
-    let Some((name, rest)) = rest.split_once(' ') else {
-        return Ok(Request::Fault);
-    };
-    if name.is_empty() {
-        return Ok(Request::Fault);
-    }
-    match add(alloc, &script, rest)? {
-        Some(event) => {
-            let name = String::from_str(alloc, name)?;
-            Ok(Request::Name(name, event))
         }
         None => Ok(Request::Fault),
     }
