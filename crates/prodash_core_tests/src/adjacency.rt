@@ -107,25 +107,31 @@ fn neighbours_are_found_past_orphans(rt: HostRuntime) -> Result<(), Fail> {
     Ok(())
 }
 
+/// Writes the locations of two levels.
+fn assert_written(rt: &impl Abort, adjacency: &mut Adjacency) {
+    adjacency[2] = Below;
+    assert_same(rt, *adjacency, Adjacency(No, Below, No, No, No, No), "one");
+    if let Some(location) = adjacency.get_mut(6) {
+        *location = Both;
+    }
+    let both = Adjacency(No, Below, No, No, No, Both);
+    assert_same(rt, *adjacency, both, "both");
+}
+
+/// Reads them again, and levels that there are not.
+fn assert_read(rt: &impl Abort, adjacency: &Adjacency) {
+    assert_same(rt, adjacency[2], Below, 2);
+    for (level, want) in [(6, Some(Both)), (0, None), (7, None)] {
+        assert_same(rt, adjacency.get(level).copied(), want, level);
+    }
+}
+
 #[test]
 fn locations_are_read_and_written_by_level(rt: HostRuntime) {
     let mut adjacency = Adjacency::default();
     assert_same(&rt, adjacency.level(), 0, "no location");
-    adjacency[2] = Below;
-    assert_same(&rt, adjacency, Adjacency(No, Below, No, No, No, No), "one");
-    if let Some(location) = adjacency.get_mut(6) {
-        *location = Both;
-    }
-    assert_same(
-        &rt,
-        adjacency,
-        Adjacency(No, Below, No, No, No, Both),
-        "both",
-    );
-    assert_same(&rt, adjacency[2], Below, 2);
-    for (level, want) in [(6, Some(Both)), (0, None), (7, None)] {
-        assert_same(&rt, adjacency.get(level).copied(), want, level);
-    }
+    assert_written(&rt, &mut adjacency);
+    assert_read(&rt, &adjacency);
     assert!(rt; adjacency.get_mut(0).is_none() && adjacency.get_mut(7).is_none());
     assert!(rt; Above < Below && Below < Both && Both < No);
 }

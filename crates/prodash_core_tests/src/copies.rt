@@ -1,7 +1,10 @@
 //! Copies of sessions. What is applied to a session or its copy leaves the other as it was.
 use crate::runs::options;
 use crate::transcripts::assert_session;
+use prodash_base::Refusal;
 use prodash_core::tree::Session;
+use std::alloc::Global;
+use std::process::Abort;
 use std::test::Fail;
 
 /// Before the copy is made.
@@ -24,19 +27,44 @@ const NEW: &str = r#"add 0 task -> Made(1)
 info 1 0 one -> Done
 messages -> Messages(Messages [Message 0 Info "task" "one"])"#;
 
+/// A session that keeps 20 messages. Its contract promises nothing, so that callers stay cheap.
+fn new_session(alloc: Global) -> Result<Session, Refusal> {
+    let options = options(20);
+    Session::new(alloc, &options)
+}
+
+/// A copy of a session, again without a promise.
+fn copy_of(alloc: Global, session: &Session) -> Result<Session, Refusal> {
+    session.deep_clone(alloc)
+}
+
+/// Asserts that the copy replies as in `AFTER`, and the session still does after that.
+fn assert_apart(
+    rt: &impl Abort,
+    alloc: Global,
+    session: &mut Session,
+    copy: &mut Session,
+) -> Result<(), Fail> {
+    assert_session(rt, alloc, copy, AFTER)?;
+    assert_session(rt, alloc, session, AFTER)
+}
+
 #[test]
 fn copies_are_apart(rt: HostRuntime) -> Result<(), Fail> {
     let alloc = rt.alloc();
-    let mut session = Session::new(alloc, &options(20))?;
+    let mut session = new_session(alloc)?;
     assert_session(&rt, alloc, &mut session, BEFORE)?;
-    let mut copy = session.deep_clone(alloc)?;
-    assert_session(&rt, alloc, &mut copy, AFTER)?;
-    assert_session(&rt, alloc, &mut session, AFTER)
+    let mut copy = copy_of(alloc, &session)?;
+    assert_apart(&rt, alloc, &mut session, &mut copy)
+}
+
+fn copy_of_new_session(alloc: Global) -> Result<Session, Refusal> {
+    copy_of(alloc, &new_session(alloc)?)
 }
 
 #[test]
 fn copies_of_new_sessions_take_messages(rt: HostRuntime) -> Result<(), Fail> {
     let alloc = rt.alloc();
-    let mut copy = Session::new(alloc, &options(20))?.deep_clone(alloc)?;
+    let mut copy = copy_of_new_session(alloc)?;
     assert_session(&rt, alloc, &mut copy, NEW)
 }

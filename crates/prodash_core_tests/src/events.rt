@@ -106,10 +106,10 @@ const REPLIES: &[ShortReply] = &[
 /// Replies to the queries of an item, and of the number of tasks.
 #[rattlefmt::skip]
 fn replies_to_queries(alloc: Global) -> Result<Vec<Reply>, AllocError> {
+    let (a, b) = (Text::from_str(alloc, "a")?, Text::from_str(alloc, "b")?);
     Ok(vec![in alloc;
         Reply::Bound(None), Reply::Bound(Some(1)), Reply::Bound(Some(2)),
-        Reply::Name(None), Reply::Name(Some(Text::from_str(alloc, "a")?)),
-        Reply::Name(Some(Text::from_str(alloc, "b")?)),
+        Reply::Name(None), Reply::Name(Some(a)), Reply::Name(Some(b)),
         Reply::Id(UNKNOWN), Reply::Id(*b"TASK"),
         Reply::Step(1), Reply::Step(2),
         Reply::Unit(None), Reply::Unit(Some(label("a"))), Reply::Unit(Some(label("b"))),

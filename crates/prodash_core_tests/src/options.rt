@@ -178,20 +178,42 @@ add 0 longer; init 1 9 -; add 1 b; init 2 10 -; set 2 3; tick 0; set 2 4; tick 0
 const FIRST_TWO_RUNS: &str = r#"add 0 a; add 1 b; add 2 c; tick 0 -> Drawn
 " a\n  b\n\u{1b}[2A""#;
 
-/// Returns the replies of a run, and its screen.
-fn run_with(
+/// Runs on a screen, and returns the replies.
+fn run_on(
     alloc: Global,
     draw: Options,
     events: &[Event],
-) -> Result<(Vec<Reply>, MemoryScreen), Refusal> {
+    screen: &mut MemoryScreen,
+) -> Result<Vec<Reply>, Refusal> {
     let options = SessionOptions {
         root: RootOptions::default(),
         draw,
         throughput: false,
     };
-    let mut screen = MemoryScreen::new(alloc, 0)?;
-    let replies = run(alloc, &options, events, &mut screen)?;
-    Ok((replies, screen))
+    run(alloc, &options, events, screen)
+}
+
+/// Returns the events of a line, which has `; ` between two of them.
+fn events_of(alloc: Global, line: &str) -> Result<Vec<Event>, Fail> {
+    let mut events = Vec::new(alloc);
+    for part in line.split("; ") {
+        events.push(event_of(alloc, part)?)?;
+    }
+    Ok(events)
+}
+
+/// Asserts that the last reply is this.
+fn assert_last(
+    rt: &impl Abort,
+    alloc: Global,
+    replies: &[Reply],
+    told: &str,
+    of: &str,
+) -> Result<(), Fail> {
+    let last = format!(in alloc; "{:?}", replies.last())?;
+    let want = format!(in alloc; "Some({told})")?;
+    assert_same(rt, last.as_str(), want.as_str(), of);
+    Ok(())
 }
 
 /// Asserts that a run replies and draws as its lines say. The first line has its events, ` -> `, and
@@ -199,19 +221,32 @@ fn run_with(
 fn assert_run(rt: &impl Abort, alloc: Global, draw: Options, run: &str) -> Result<(), Fail> {
     let (asked, drawn) = run.split_once('\n').ok_or("no bytes")?;
     let (lines, told) = asked.split_once(" -> ").ok_or("no reply")?;
-    let mut events = Vec::new(alloc);
-    for line in lines.split("; ") {
-        events.push(event_of(alloc, line)?)?;
-    }
-    let (replies, screen) = run_with(alloc, draw, &events)?;
-    let last = format!(in alloc; "{:?}", replies.last())?;
-    let want = format!(in alloc; "Some({told})")?;
-    assert_same(rt, last.as_str(), want.as_str(), asked);
+    let mut screen = MemoryScreen::new(alloc, 0)?;
+    assert_replies(rt, alloc, draw, lines, told, &mut screen)?;
     assert_bytes(rt, alloc, screen.bytes(), drawn)
 }
 
+/// Runs the events of a line on a screen, and asserts that the last reply is this.
+fn assert_replies(
+    rt: &impl Abort,
+    alloc: Global,
+    draw: Options,
+    line: &str,
+    told: &str,
+    screen: &mut MemoryScreen,
+) -> Result<(), Fail> {
+    let events = events_of(alloc, line)?;
+    let replies = run_on(alloc, draw, &events, screen)?;
+    assert_last(rt, alloc, &replies, told, line)
+}
+
 /// Asserts that bytes are those of string literals, one on each line.
-fn assert_bytes(rt: &impl Abort, alloc: Global, bytes: &[u8], parts: &str) -> Result<(), Fail> {
+pub(crate) fn assert_bytes(
+    rt: &impl Abort,
+    alloc: Global,
+    bytes: &[u8],
+    parts: &str,
+) -> Result<(), Fail> {
     let mut want = String::new(alloc);
     for part in parts.lines() {
         want.push_str(part.trim_matches('"'))?;
@@ -231,25 +266,35 @@ pub(crate) fn assert_runs(
     runs: &str,
 ) -> Result<(), Fail> {
     for run in runs.split("\n\n") {
-        let run = match run.split_once('\n') {
-            Some((comment, rest)) if comment.starts_with('#') => rest,
-            _ => run,
-        };
-        assert_run(rt, alloc, draw, run)?;
+        assert_run(rt, alloc, draw, without_comment(run))?;
     }
     Ok(())
 }
 
+/// Returns the lines of a run after its comment, if it has one.
+fn without_comment(run: &str) -> &str {
+    match run.split_once('\n') {
+        Some((comment, rest)) if comment.starts_with('#') => rest,
+        _ => run,
+    }
+}
+
+const RUNS: &[(Options, &str)] = &[
+    (STOPS, STOPS_RUNS),
+    (HIDES_AND_STOPS, HIDES_AND_STOPS_RUNS),
+    (STOPS_PLAIN, STOPS_PLAIN_RUNS),
+    (TERMINAL, TERMINAL_RUNS),
+    (PLAIN, PLAIN_RUNS),
+    (HIDES, HIDES_RUNS),
+    (HIDES_PLAIN, HIDES_PLAIN_RUNS),
+    (SECOND, SECOND_RUNS),
+    (FIRST_TWO, FIRST_TWO_RUNS),
+];
+
 #[test]
 fn options_have_exact_bytes(rt: HostRuntime) -> Result<(), Fail> {
-    let alloc = rt.alloc();
-    assert_runs(&rt, alloc, STOPS, STOPS_RUNS)?;
-    assert_runs(&rt, alloc, HIDES_AND_STOPS, HIDES_AND_STOPS_RUNS)?;
-    assert_runs(&rt, alloc, STOPS_PLAIN, STOPS_PLAIN_RUNS)?;
-    assert_runs(&rt, alloc, TERMINAL, TERMINAL_RUNS)?;
-    assert_runs(&rt, alloc, PLAIN, PLAIN_RUNS)?;
-    assert_runs(&rt, alloc, HIDES, HIDES_RUNS)?;
-    assert_runs(&rt, alloc, HIDES_PLAIN, HIDES_PLAIN_RUNS)?;
-    assert_runs(&rt, alloc, SECOND, SECOND_RUNS)?;
-    assert_runs(&rt, alloc, FIRST_TWO, FIRST_TWO_RUNS)
+    for (draw, runs) in RUNS {
+        assert_runs(&rt, rt.alloc(), *draw, runs)?;
+    }
+    Ok(())
 }

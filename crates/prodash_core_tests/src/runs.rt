@@ -1,4 +1,5 @@
 use crate::fixtures::{FakeScreen, TERMINAL, assert_same};
+use crate::options::assert_bytes;
 use crate::transcripts::{assert_session, events_of};
 use prodash_core::tree::{Reply, RootOptions, Session, SessionOptions, run};
 use prodash_line::render::line::draw::MemoryScreen;
@@ -174,6 +175,57 @@ fn frames_show_throughput(rt: HostRuntime) -> Result<(), Fail> {
     assert_session(&rt, alloc, &mut session, MEASURED)
 }
 
+/// Splits what a line has after its event into the reply and the frame, which may be empty.
+fn outcome_of(line: &str) -> Option<(&str, &str)> {
+    let (_, outcome) = line.split_once(" -> ")?;
+    Some(outcome.split_once(" -> ").unwrap_or((outcome, "")))
+}
+
+/// Returns the replies of a transcript, one on each line.
+fn replies_of(alloc: Global, transcript: &str) -> Result<String, Fail> {
+    let mut replies = String::new(alloc);
+    for line in transcript.lines() {
+        let (reply, _) = outcome_of(line).ok_or("no reply")?;
+        replies.push_str(reply)?;
+        replies.push('\n')?;
+    }
+    Ok(replies)
+}
+
+/// Returns the frames of a transcript, one on each line.
+fn frames_of(alloc: Global, transcript: &str) -> Result<String, Fail> {
+    let mut frames = String::new(alloc);
+    for line in transcript.lines() {
+        let (_, frame) = outcome_of(line).ok_or("no reply")?;
+        frames.push_str(frame)?;
+        frames.push('\n')?;
+    }
+    Ok(frames)
+}
+
+/// Returns replies as `Debug` writes them, one on each line.
+fn shown(alloc: Global, replies: &[Reply]) -> Result<String, Fail> {
+    let mut shown = String::new(alloc);
+    for reply in replies {
+        let line = format!(in alloc; "{reply:?}\n")?;
+        shown.push_str(line.as_str())?;
+    }
+    Ok(shown)
+}
+
+/// Asserts that replies are those of a transcript.
+fn assert_replies(
+    rt: &impl Abort,
+    alloc: Global,
+    transcript: &str,
+    replies: &[Reply],
+) -> Result<(), Fail> {
+    let told = replies_of(alloc, transcript)?;
+    let got = shown(alloc, replies)?;
+    assert_same(rt, got.as_str(), told.as_str(), transcript);
+    Ok(())
+}
+
 /// Asserts that a run on a screen, which has these bytes after it, has the replies and bytes of a
 /// transcript.
 fn assert_ran(
@@ -183,29 +235,9 @@ fn assert_ran(
     replies: &[Reply],
     bytes: &[u8],
 ) -> Result<(), Fail> {
-    let mut told = String::new(alloc);
-    let mut drawn = String::new(alloc);
-    for line in transcript.lines() {
-        let (_, outcome) = line.split_once(" -> ").ok_or("no reply")?;
-        let (reply, frame) = outcome.split_once(" -> ").unwrap_or((outcome, ""));
-        told.push_str(reply)?;
-        told.push('\n')?;
-        drawn.push_str(frame.trim_matches('"'))?;
-    }
-    let mut got = String::new(alloc);
-    for reply in replies {
-        got.push_str(format!(in alloc; "{reply:?}\n")?.as_str())?;
-    }
-    assert_same(rt, got.as_str(), told.as_str(), transcript);
-    let bytes = str::from_utf8(bytes).ok().ok_or("not UTF-8")?;
-    let got = format!(in alloc; "{bytes:?}")?;
-    assert_same(
-        rt,
-        got.as_str().trim_matches('"'),
-        drawn.as_str(),
-        transcript,
-    );
-    Ok(())
+    assert_replies(rt, alloc, transcript, replies)?;
+    let drawn = frames_of(alloc, transcript)?;
+    assert_bytes(rt, alloc, bytes, drawn.as_str())
 }
 
 /// Asserts that a run has the replies and bytes of a transcript.

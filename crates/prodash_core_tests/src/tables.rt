@@ -1,6 +1,6 @@
 ghost use Rattle.std.specs.Prelude.{◌≡◌};
 
-use crate::fixtures::{ShortRow, assert_same, key_at, messages, rows};
+use crate::fixtures::{ShortMessage, ShortRow, assert_same, key_at, messages, rows};
 use crate::transcripts::event_of;
 use prodash_base::Refusal;
 use prodash_base::messages::{MessageCopyState, Messages};
@@ -46,13 +46,25 @@ const INSERTED: &[(&[u32], &str)] = &[(&[1], "c"), (&[0, 1], "x"), (&[0, 1], "b"
 
 const LEFT: &[ShortRow] = &[(&[0], "a", None), (&[0, 1], "b", Some((3, Some(10))))];
 
+/// A table after all insertions.
+fn inserted(alloc: Global) -> Result<Table, Refusal> {
+    let mut table: Table = TreeCore::new(alloc);
+    for (path, name) in INSERTED {
+        table.insert(alloc, key_at(path), name, UNKNOWN)?;
+    }
+    Ok(table)
+}
+
+/// Asserts that the rows of a table are `LEFT`.
+fn assert_left(rt: &impl Abort, alloc: Global, table: &Table) -> Result<(), Fail> {
+    let got = table.rows(alloc, &OwnNumbers)?;
+    assert_rows(rt, alloc, &got, LEFT)
+}
+
 #[test]
 fn a_table_has_one_entry_for_a_key(rt: HostRuntime) -> Result<(), Fail> {
     let (b, c) = (key_at(&[0, 1]), key_at(&[1]));
-    let mut table: Table = TreeCore::new(rt.alloc());
-    for (path, name) in INSERTED {
-        table.insert(rt.alloc(), key_at(path), name, UNKNOWN)?;
-    }
+    let mut table = inserted(rt.alloc())?;
     let progress = Some(Counted {
         counter: 3,
         done_at: Some(10),
@@ -65,9 +77,7 @@ fn a_table_has_one_entry_for_a_key(rt: HostRuntime) -> Result<(), Fail> {
     assert_init(&rt, &mut table, c, progress, false);
     assert_name(&rt, &table, b, Some("b"));
     assert_name(&rt, &table, c, None);
-    let want = rows(rt.alloc(), LEFT)?;
-    assert_same(&rt, table.rows(rt.alloc(), &OwnNumbers)?, want, "rows");
-    Ok(())
+    assert_left(&rt, rt.alloc(), &table)
 }
 
 const EVENTS: &str = "add 0 a
@@ -88,11 +98,17 @@ fn apply(alloc: Global, tree: &mut TreeState, event: &Event) -> Result<(), Refus
     Ok(())
 }
 
+/// Parses an event, and applies it.
+fn apply_line(alloc: Global, tree: &mut TreeState, line: &str) -> Result<(), Fail> {
+    let event = event_of(alloc, line)?;
+    Ok(apply(alloc, tree, &event)?)
+}
+
 /// A tree after all events.
 fn grown(alloc: Global) -> Result<TreeState, Fail> {
     let mut tree = TreeState::new(alloc, &RootOptions::default())?;
     for line in EVENTS.lines() {
-        apply(alloc, &mut tree, &event_of(alloc, line)?)?;
+        apply_line(alloc, &mut tree, line)?;
     }
     Ok(tree)
 }
@@ -106,15 +122,43 @@ fn snapshot(alloc: Global, tree: &TreeState) -> Result<(Rows, Messages, MessageC
     )
 }
 
+fn assert_rows(rt: &impl Abort, alloc: Global, got: &Rows, want: &[ShortRow]) -> Result<(), Fail> {
+    let want = rows(alloc, want)?;
+    assert_same(rt, got, &want, "rows");
+    Ok(())
+}
+
+fn assert_messages(
+    rt: &impl Abort,
+    alloc: Global,
+    got: &Messages,
+    want: &[ShortMessage],
+) -> Result<(), Fail> {
+    let want = messages(alloc, want)?;
+    assert_same(rt, got, &want, "messages");
+    Ok(())
+}
+
+/// Asserts that the rows of a tree are `ROWS`.
+fn assert_tree(rt: &impl Abort, alloc: Global, tree: &TreeState) -> Result<(), Fail> {
+    let got = tree.rows(alloc)?;
+    assert_rows(rt, alloc, &got, ROWS)
+}
+
+/// Asserts that a frame sees `ROWS` and the second message.
+fn assert_snapshot(rt: &impl Abort, alloc: Global, tree: &TreeState) -> Result<(), Fail> {
+    let (rows, messages, state) = snapshot(alloc, tree)?;
+    assert_same(rt, state, MessageCopyState::new(2), "state");
+    assert_rows(rt, alloc, &rows, ROWS)?;
+    assert_messages(rt, alloc, &messages, &[("b", "y")])
+}
+
 #[test]
 fn a_tree_needs_no_renderer(rt: HostRuntime) -> Result<(), Fail> {
     let alloc = rt.alloc();
     let tree = grown(alloc)?;
-    assert_same(&rt, tree.rows(alloc)?, rows(alloc, ROWS)?, "rows");
-    let new = messages(alloc, &[("b", "y")])?;
-    let want = (rows(alloc, ROWS)?, new, MessageCopyState::new(2));
-    assert_same(&rt, snapshot(alloc, &tree)?, want, "snapshot");
-    Ok(())
+    assert_tree(&rt, alloc, &tree)?;
+    assert_snapshot(&rt, alloc, &tree)
 }
 
 #[test]

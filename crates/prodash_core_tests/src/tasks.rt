@@ -55,6 +55,18 @@ mod tests {
         })
     }
 
+    /// Asserts that a tree replies as a line of a transcript says.
+    fn assert_line(
+        rt: &impl Abort,
+        alloc: Global,
+        tree: &mut TreeState,
+        line: &str,
+    ) -> Result<(), Fail> {
+        let (asked, told) = line.split_once(" -> ").ok_or("no reply")?;
+        let event = event(alloc, asked)?;
+        assert_reply(rt, alloc, tree, &event, told)
+    }
+
     fn assert_replies(
         rt: &impl Abort,
         alloc: Global,
@@ -62,8 +74,7 @@ mod tests {
         transcript: &str,
     ) -> Result<(), Fail> {
         for line in transcript.lines() {
-            let (asked, told) = line.split_once(" -> ").ok_or("no reply")?;
-            assert_reply(rt, alloc, tree, &event(alloc, asked)?, told)?;
+            assert_line(rt, alloc, tree, line)?;
         }
         Ok(())
     }
@@ -144,18 +155,39 @@ step? ITEM
 max? ITEM
 unit? ITEM";
 
+    /// Asserts that a tree refuses an event of this item.
+    fn assert_gone(
+        rt: &impl Abort,
+        alloc: Global,
+        tree: &mut TreeState,
+        item: u64,
+        line: &str,
+    ) -> Result<(), Fail> {
+        let (word, rest) = line.split_once("ITEM").ok_or("no item")?;
+        let line = format!(in alloc; "{word}{item}{rest} -> Refused(Gone)")?;
+        assert_line(rt, alloc, tree, line.as_str())
+    }
+
+    /// Asserts that a tree refuses all events of this item.
+    fn assert_all_gone(
+        rt: &impl Abort,
+        alloc: Global,
+        tree: &mut TreeState,
+        item: u64,
+    ) -> Result<(), Fail> {
+        for line in EVENTS.lines() {
+            assert_gone(rt, alloc, tree, item, line)?;
+        }
+        Ok(())
+    }
+
     /// The root, an item that was dropped, and one that wasn't made.
     #[test]
     fn events_need_an_item(rt: HostRuntime) -> Result<(), Fail> {
         let alloc = rt.alloc();
         let mut tree = grown(&rt, alloc, DROPPED)?;
         for item in 0..3 {
-            for line in EVENTS.lines() {
-                let (word, rest) = line.split_once("ITEM").ok_or("no item")?;
-                let line = format!(in alloc; "{word}{item}{rest}")?;
-                let event = event_of(alloc, line.as_str())?;
-                assert_reply(&rt, alloc, &mut tree, &event, "Refused(Gone)")?;
-            }
+            assert_all_gone(&rt, alloc, &mut tree, item)?;
         }
         Ok(())
     }
@@ -172,15 +204,25 @@ tasks? -> Count(6)
 name? 6 -> Name(Some("child"))
 name? 7 -> Name(Some("child"))"#;
 
+    /// Asserts that the last row of a tree has this key.
+    fn assert_last_key(
+        rt: &impl Abort,
+        alloc: Global,
+        tree: &TreeState,
+        want: Key,
+    ) -> Result<(), Fail> {
+        let rows = tree.rows(alloc)?;
+        let last = rows.as_slice().last().ok_or("no row")?;
+        assert_same(rt, last.key, want, "key");
+        Ok(())
+    }
+
     #[test]
     fn a_child_of_the_sixth_level_takes_the_place_of_its_parent(
         rt: HostRuntime,
     ) -> Result<(), Fail> {
         let tree = grown(&rt, rt.alloc(), SIXTH_LEVEL)?;
-        let rows = tree.rows(rt.alloc())?;
-        let last = rows.as_slice().last().ok_or("no row")?;
-        assert_same(&rt, last.key, key_at(&[0, 0, 0, 0, 0, 0]), "key");
-        Ok(())
+        assert_last_key(&rt, rt.alloc(), &tree, key_at(&[0, 0, 0, 0, 0, 0]))
     }
 
     const ORPHAN: &str = "add 0 a -> Made(1)
@@ -188,16 +230,25 @@ add 1 b -> Made(2)
 drop 1 -> Done
 tasks? -> Count(1)";
 
+    /// Asserts that the tree that these events grow has this adjacency of its first row.
+    fn assert_first(
+        rt: &impl Abort,
+        alloc: Global,
+        transcript: &str,
+        want: Option<Adjacency>,
+    ) -> Result<(), Fail> {
+        let tree = grown(rt, alloc, transcript)?;
+        let got = adjacency_of_first(alloc, &tree)?;
+        assert_same(rt, got, want, transcript);
+        Ok(())
+    }
+
     #[test]
     fn the_row_below_a_dropped_task_has_no_neighbours(rt: HostRuntime) -> Result<(), Fail> {
-        let alloc = rt.alloc();
-        let empty = adjacency_of_first(alloc, &new_tree(alloc)?)?;
-        assert_same(&rt, empty, None, "empty tree");
-        let tree = grown(&rt, alloc, ORPHAN)?;
         let adjacency = Adjacency(No, No, No, No, No, No);
         assert_same(&rt, adjacency.level(), 0, "level");
-        assert_same(&rt, adjacency_of_first(alloc, &tree)?, Some(adjacency), "b");
-        Ok(())
+        assert_first(&rt, rt.alloc(), "", None)?;
+        assert_first(&rt, rt.alloc(), ORPHAN, Some(adjacency))
     }
 
     /// What comes after that, once the parent is dropped.
@@ -245,17 +296,39 @@ max? 65537 -> Bound(Some(1))"#;
         Ok(())
     }
 
+    /// Asserts that the item that this event makes gets this handle.
+    fn assert_made(
+        rt: &impl Abort,
+        alloc: Global,
+        tree: &mut TreeState,
+        event: &Event,
+        handle: u64,
+    ) -> Result<(), Fail> {
+        let told = format!(in alloc; "Made({handle})")?;
+        assert_reply(rt, alloc, tree, event, told.as_str())
+    }
+
+    /// Adds 65535 children to the root, after its first.
+    fn add_children(rt: &impl Abort, alloc: Global, tree: &mut TreeState) -> Result<(), Fail> {
+        let child = event(alloc, "child a")?;
+        for handle in 2..65537 {
+            assert_made(rt, alloc, tree, &child, handle)?;
+        }
+        Ok(())
+    }
+
+    /// Asserts that after 65535 more children a tree goes on as `AFTER_ALL` says.
+    fn assert_children(rt: &impl Abort, alloc: Global, tree: &mut TreeState) -> Result<(), Fail> {
+        add_children(rt, alloc, tree)?;
+        assert_replies(rt, alloc, tree, AFTER_ALL)?;
+        assert_last_row(rt, alloc, tree)
+    }
+
     #[test]
     fn the_child_after_65536_has_a_place_of_its_own(rt: HostRuntime) -> Result<(), Fail> {
         let alloc = rt.alloc();
         let mut tree = grown(&rt, alloc, "add 0 A -> Made(1)")?;
-        let child = event(alloc, "child a")?;
-        for handle in 2..65537 {
-            let told = format!(in alloc; "Made({handle})")?;
-            assert_reply(&rt, alloc, &mut tree, &child, told.as_str())?;
-        }
-        assert_replies(&rt, alloc, &mut tree, AFTER_ALL)?;
-        assert_last_row(&rt, alloc, &tree)
+        assert_children(&rt, alloc, &mut tree)
     }
 
     const HALTED: State = State::Halted("pause", None);

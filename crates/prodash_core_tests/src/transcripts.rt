@@ -91,13 +91,40 @@ pub(crate) fn assert_session(
     transcript: &str,
 ) -> Result<(), Fail> {
     for line in transcript.lines() {
-        let (asked, told) = line.split_once(" -> ").ok_or("no reply")?;
-        let mut screen = MemoryScreen::new(alloc, 0)?;
-        let reply = session.apply(alloc, &event_of(alloc, asked)?, &mut screen);
-        let got = outcome(alloc, &reply, screen.bytes())?;
-        assert_same(rt, got.as_str(), told, asked);
+        assert_line(rt, alloc, session, line)?;
     }
     Ok(())
+}
+
+/// Asserts that a session replies and draws as a line of a transcript says.
+fn assert_line(
+    rt: &impl Abort,
+    alloc: Global,
+    session: &mut Session,
+    line: &str,
+) -> Result<(), Fail> {
+    let (asked, told) = line.split_once(" -> ").ok_or("no reply")?;
+    let event = event_of(alloc, asked)?;
+    let got = outcome_of(alloc, session, &event)?;
+    assert_same(rt, got.as_str(), told, asked);
+    Ok(())
+}
+
+/// Applies an event to a session, and returns what a transcript has after it.
+fn outcome_of(alloc: Global, session: &mut Session, event: &Event) -> Result<String, Fail> {
+    let mut screen = MemoryScreen::new(alloc, 0)?;
+    let reply = applied(alloc, session, event, &mut screen);
+    outcome(alloc, &reply, screen.bytes())
+}
+
+/// Applies an event to a session, without a promise about the reply.
+fn applied(
+    alloc: Global,
+    session: &mut Session,
+    event: &Event,
+    screen: &mut MemoryScreen,
+) -> Reply {
+    session.apply(alloc, event, screen)
 }
 
 /// Asserts that a tree replies to an event of no frame as a transcript says.
