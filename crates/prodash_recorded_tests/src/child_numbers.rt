@@ -42,7 +42,8 @@ fn assert_name<C: TreeLedger, S: Ledger, R: Wait + Abort>(
     task: Handle,
     want: &str,
 ) -> Result<(), Fail> {
-    match item.call(rt, alloc, Event::Name { item: task })?.0 {
+    let (reply, _) = item.call(rt, alloc, Event::Name { item: task })?;
+    match reply {
         Reply::Name(Some(name)) => assert_same(rt, name.as_str(), want, task),
         _ => return Err("no name")?,
     }
