@@ -1,4 +1,5 @@
-ghost use Rattle.std.specs.Prelude.{◌≡◌};
+ghost use Rattle.std.specs.Prelude.{◌≡◌, false};
+ghost use Rattle.prodash_core.specs.Trees.{is_frame};
 
 use prodash::messages::MessageLevel;
 use prodash::progress::UNKNOWN;
@@ -86,11 +87,8 @@ fn make_calls<C: TreeLedger, S: Ledger>(
         if event.is_frame() {
             continue;
         }
-        match item.call(rt, alloc, event) {
-            Ok((_, receipt)) => {
-                if receipts.push(receipt).is_err() {
-                    continue;
-                }
+        match make_call(rt, alloc, item, event, receipts) {
+            Ok(()) => {
                 counts.accepted = counts.accepted.wrapping_add(1);
                 counts.sum = counts.sum.wrapping_add(if kind == 3 { 3 } else { 0 });
             }
@@ -99,6 +97,21 @@ fn make_calls<C: TreeLedger, S: Ledger>(
         }
     }
     counts
+}
+
+/// Makes a call, and appends its receipt.
+fn make_call<C: TreeLedger, S: Ledger>(
+    rt: &impl Wait,
+    alloc: Global,
+    item: &mut RecordedItem<C, S>,
+    event: Event,
+    receipts: &mut Vec<Receipt<C>>,
+) -> Result<(), Refusal>
+    requires { is_frame event ≡ false }
+{
+    let (_, receipt) = item.call(rt, alloc, event)?;
+    receipts.push(receipt)?;
+    Ok(())
 }
 
 /// Returns an event of one of ten kinds.
