@@ -137,7 +137,7 @@ class Trial:
         self.try_rounds(rounds, left)
 
     def try_rounds(self, rounds, left):
-        """Tries the edits of rounds that have not ended, and then alone what these leave open."""
+        """Tries the edits of rounds that have not ended, and then those that these leave open."""
         ended = {it.label for it in left} | set(self.ends)
         rounds = [[it for it in each if it.label not in ended] for each in rounds]
         if self.is_after_ci and rounds:
@@ -145,7 +145,23 @@ class Trial:
         # more tasks than slots are no harm: a check waits for its slot
         with ThreadPoolExecutor(8) as pool:
             left = left + [edit for it in pool.map(self.try_round, rounds) for edit in it]
-            list(pool.map(self.try_alone, left))
+            list(pool.map(self.try_alone, self.try_again(left)))
+
+    def try_again(self, left):
+        """Tries edits that rounds left open in more of them, while these end some of the edits.
+
+        A function can have no goals where a callee isn't proved, so an edit of it ends in a round
+        that leaves the callee as it is. Returns the edits that are still open.
+        """
+        alone = [it for it in left if not it.function]
+        left = [it for it in left if it.function]
+        while len(left) > 1:
+            rounds = rounds_of(left, ROUND, self.read)
+            still = [it for each in rounds for it in self.try_round(each, self.check_and_keep)]
+            if len(still) == len(left):
+                break
+            left = still
+        return alone + left
 
     def first_round(self, edits, *flags):
         """Checks the crate with these edits, which brings the kept work up to date.
