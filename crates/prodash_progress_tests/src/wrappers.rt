@@ -235,3 +235,26 @@ fn drops_say_how_fast_it_was(rt: HostRuntime) -> Result<(), Fail> {
     assert_same(&rt, root.num_tasks(), 0, "tasks");
     Ok(())
 }
+
+/// What a drop sends half a second after the first moment.
+const IN_NO_TIME: &[Sent] = &[(
+    500_000_000,
+    MessageLevel::Info,
+    "done 1 items in 0.00s (18446744073709551615 items/s)",
+)];
+
+/// On a clock that goes back no time has passed.
+#[test]
+fn a_clock_that_goes_back_counts_no_time(rt: HostRuntime) -> Result<(), Fail> {
+    let alloc: Global = rt.alloc();
+    let root = Root::new(rt, alloc)?;
+    let item = root.add_child(alloc, "task")?;
+    let clock = make_stopped(alloc)?;
+    clock.sleep(2_000_000_000);
+    let timed = ThroughputOnDrop::new(alloc, item, Arc::try_clone(&clock)?);
+    timed.set(1);
+    clock.now.store(500_000_000, Ordering::SeqCst);
+    drop(timed);
+    assert_sent(&rt, alloc, &root, IN_NO_TIME)?;
+    Ok(())
+}
