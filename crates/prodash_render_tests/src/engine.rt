@@ -16,6 +16,7 @@ use prodash::unit::display::Mode;
 use prodash::unit::label_and_mode;
 use prodash::{Refusal, Root, WeakRoot};
 use std::alloc::Global;
+use std::io::{self, Error, ErrorKind, Write};
 use std::process::Abort;
 use std::rt;
 use std::sync::atomic::{AtomicU64, Ordering};
@@ -317,7 +318,7 @@ fn frames_show_throughput(rt: HostRuntime) -> Result<(), Fail> {
 const FRAME: u64 = 1_000_000;
 
 /// Frames of 40 columns and 20 rows.
-fn options() -> Options {
+pub(crate) fn options() -> Options {
     Options {
         terminal_dimensions: (40, 20),
         colored: false,
@@ -345,6 +346,37 @@ struct Drawn<R: Wait + Threads + rt::Clock + Clone + Drop> {
     handle: JoinHandle<R>,
 }
 
+/// A renderer with its clock, and what its writer collects.
+#[derive(Drop)]
+pub(crate) struct Collecting<R: Wait + Threads + rt::Clock + Clone + Drop> {
+    pub collected: Arc<Collected>,
+    pub clock: Arc<SteppedClock<R>>,
+    pub handle: JoinHandle<R>,
+}
+
+/// A renderer of this root, which holds its first write if it isn't open. Its ticker sleeps until
+/// the clock lets it go on.
+pub(crate) fn make_collecting<
+    R: Wait + Threads + rt::Clock + Clone + Drop + Send + Sync + 'static,
+    T: Root + Drop + Send + 'static,
+    W: WeakRoot<Root = T> + Drop + Send + 'static,
+>(rt: &R, alloc: Global, weak: W, is_open: bool) -> Result<Collecting<R>, Fail> {
+    let collected = Collected::new(alloc, is_open)?;
+    let out = Collector {
+        rt: rt.clone()?,
+        alloc,
+        collected: Arc::try_clone(&collected)?,
+    };
+    let clock = SteppedClock::new(alloc, rt.clone()?)?;
+    let theirs = Arc::try_clone(&clock)?;
+    let handle = render(rt.clone()?, alloc, out, weak, theirs, options())?;
+    Ok(Collecting {
+        collected,
+        clock,
+        handle,
+    })
+}
+
 /// A renderer of a task at 3 of 10, which has drawn it, or holds that write if it isn't open. Its
 /// ticker sleeps until the clock lets it go on.
 fn make_drawn<R: Wait + Threads + rt::Clock + Clone + Drop + Send + Sync + 'static>(
@@ -356,15 +388,12 @@ fn make_drawn<R: Wait + Threads + rt::Clock + Clone + Drop + Send + Sync + 'stat
     let item = root.add_child(alloc, "task")?;
     item.init(Some(10), None);
     item.set(3);
-    let collected = Collected::new(alloc, is_open)?;
-    let out = Collector {
-        rt: rt.clone()?,
-        alloc,
-        collected: Arc::try_clone(&collected)?,
-    };
-    let clock = SteppedClock::new(alloc, rt.clone()?)?;
-    let (weak, theirs) = (root.downgrade()?, Arc::try_clone(&clock)?);
-    let handle = render(rt.clone()?, alloc, out, weak, theirs, options())?;
+    let made = make_collecting(rt, alloc, root.downgrade()?, is_open)?;
+    let Collecting {
+        collected,
+        clock,
+        handle,
+    } = made;
     let is_drawn = if is_open {
         is_collected_soon(rt, &collected, TASK_FRAME)
     } else {
@@ -411,7 +440,7 @@ fn has_frames(bytes: &[u8], frames: &[&str]) -> bool {
 }
 
 /// Asserts that the threads of a renderer end soon, and drop their clock.
-fn assert_ended<R: rt::Clock + Abort + Drop>(rt: &R, clock: &Arc<SteppedClock<R>>) {
+pub(crate) fn assert_ended<R: rt::Clock + Abort + Drop>(rt: &R, clock: &Arc<SteppedClock<R>>) {
     clock.end(u64::MAX);
     let is_ended = is_so_soon(rt, &|| Arc::strong_count(clock) == 1);
     assert_same(rt, is_ended, true, "the ticker ends");
@@ -564,23 +593,16 @@ fn refused_ticks_are_skipped(rt: HostRuntime) -> Result<(), Fail> {
     let next = Arc::new(alloc, AtomicU64::new(HAS_NO_MEMORY))?;
     let weak = WeakTask::new(alloc, &next)?;
     let asked = Arc::try_clone(&weak.asked)?;
-    let collected = Collected::new(alloc, true)?;
-    let out = Collector {
-        rt,
-        alloc,
-        collected: Arc::try_clone(&collected)?,
-    };
-    let clock = SteppedClock::new(alloc, rt)?;
-    let handle = render(rt, alloc, out, weak, Arc::try_clone(&clock)?, options())?;
+    let it = make_collecting(&rt, alloc, weak, true)?;
     assert_asked(&rt, &asked, 1);
     next.store(IS_FULL, Ordering::SeqCst);
-    clock.end(1);
+    it.clock.end(1);
     assert_asked(&rt, &asked, 2);
     next.store(FINDS, Ordering::SeqCst);
-    clock.end(2);
-    assert_drawn(&rt, &collected, &[TASK_FRAME]);
-    handle.shutdown_and_wait();
-    assert_ended(&rt, &clock);
+    it.clock.end(2);
+    assert_drawn(&rt, &it.collected, &[TASK_FRAME]);
+    it.handle.shutdown_and_wait();
+    assert_ended(&rt, &it.clock);
     Ok(())
 }
 
@@ -591,21 +613,64 @@ fn the_last_frame_is_tried_again(rt: HostRuntime) -> Result<(), Fail> {
     let next = Arc::new(alloc, AtomicU64::new(HAS_NO_MEMORY))?;
     let weak = WeakTask::new(alloc, &next)?;
     let asked = Arc::try_clone(&weak.asked)?;
-    let collected = Collected::new(alloc, true)?;
-    let out = Collector {
-        rt,
-        alloc,
-        collected: Arc::try_clone(&collected)?,
-    };
-    let clock = SteppedClock::new(alloc, rt)?;
-    let mut handle = render(rt, alloc, out, weak, Arc::try_clone(&clock)?, options())?;
+    let mut it = make_collecting(&rt, alloc, weak, true)?;
     assert_asked(&rt, &asked, 1);
-    handle.shutdown();
+    it.handle.shutdown();
     assert_asked(&rt, &asked, 2);
     next.store(FINDS, Ordering::SeqCst);
-    clock.end(u64::MAX);
+    it.clock.end(u64::MAX);
+    it.handle.wait();
+    assert_frames(&rt, &it.collected, &[TASK_FRAME, CLOSING_WIDE]);
+    Ok(())
+}
+
+/// A writer that takes a number of bytes and then fails.
+#[derive(Drop)]
+struct Breaking {
+    left: usize,
+    failures: Arc<AtomicU64>,
+}
+
+impl Write for Breaking {
+    fn write(&mut self, bytes: &[u8]) -> io::Result<usize> {
+        let count = bytes.len().min(self.left);
+        if count == 0 {
+            self.failures.fetch_add(1, Ordering::SeqCst);
+            return Err(Error::from(ErrorKind::BrokenPipe));
+        }
+        self.left -= count;
+        Ok(count)
+    }
+
+    fn flush(&mut self) -> io::Result<()> {
+        Ok(())
+    }
+}
+
+/// A writer that breaks in the middle of a frame ends its renderer. The tree can be drawn by
+/// another.
+#[test]
+fn a_broken_writer_ends_its_renderer(rt: HostRuntime) -> Result<(), Fail> {
+    let alloc: Global = rt.alloc();
+    let root = TreeRoot::new(rt, alloc)?;
+    let item = root.add_child(alloc, "task")?;
+    item.init(Some(10), None);
+    let failures = Arc::new(alloc, AtomicU64::new(0))?;
+    let out = Breaking {
+        left: 5,
+        failures: Arc::try_clone(&failures)?,
+    };
+    let clock = SteppedClock::new(alloc, rt)?;
+    let (weak, theirs) = (root.downgrade()?, Arc::try_clone(&clock)?);
+    let handle = render(rt, alloc, out, weak, theirs, options())?;
+    assert_ended(&rt, &clock);
     handle.wait();
-    assert_frames(&rt, &collected, &[TASK_FRAME, CLOSING_WIDE]);
+    assert_same(&rt, failures.load(Ordering::SeqCst), 1, "failed writes");
+    item.set(3);
+    let it = make_collecting(&rt, alloc, root.downgrade()?, true)?;
+    it.handle.shutdown_and_wait();
+    assert_frames(&rt, &it.collected, &[TASK_FRAME, CLOSING_WIDE]);
+    drop(item);
     Ok(())
 }
 

@@ -19,8 +19,8 @@ const TOO_LARGE: usize = usize::MAX;
 
 /// A writer that counts its writes.
 #[derive(Drop)]
-struct Counting {
-    writes: Arc<AtomicU64>,
+pub(crate) struct Counting {
+    pub writes: Arc<AtomicU64>,
 }
 
 impl Write for Counting {
