@@ -1,0 +1,60 @@
+//! Calls of the libraries that need memory. One that is refused it must have changed nothing, and
+//! is made again. `bin/fail-each` refuses each allocation of a case in turn.
+#![tactic(auto)]
+
+mod calls;
+mod messages;
+mod pages;
+mod rates;
+mod texts;
+mod tree;
+
+use calls::Calls;
+use prodash_programs::{Fault, arguments, report};
+use std::alloc::Global;
+use std::process::ExitCode;
+use std::sync::Wait;
+
+/// The fault of arguments that name no case.
+const USAGE: Fault = Fault::Usage("prodash-refusals tree | messages | rates | texts | pages");
+
+fn main(rt: HostRuntime) -> ExitCode {
+    let mut calls = Calls::new();
+    let ended = match arguments(&rt, USAGE) {
+        Ok(words) => run(&rt, rt.alloc(), &words, &mut calls),
+        Err(fault) => Err(fault),
+    };
+    match (calls.wrong(), ended) {
+        (Some(call), _) => {
+            let _ = eprintln!(&rt; "{call} is wrong");
+            ExitCode::FAILURE
+        }
+        (None, Ok(())) => ExitCode::SUCCESS,
+        (None, Err(fault)) => ExitCode::from(report(&mut rt.stderr(), fault)),
+    }
+}
+
+/// Makes the calls of the case that the command line names, and prints how many were refused,
+/// unless one was wrong.
+fn run<R: Wait + Print + Clone + Drop>(
+    rt: &R,
+    alloc: Global,
+    words: &[String],
+    calls: &mut Calls,
+) -> Result<(), Fault> {
+    let [_, case] = words else {
+        return Err(USAGE);
+    };
+    match case.as_str() {
+        "tree" => tree::run(rt, alloc, calls)?,
+        "messages" => messages::run(alloc, calls)?,
+        "rates" => rates::run(alloc, calls)?,
+        "texts" => texts::run(alloc, calls)?,
+        "pages" => pages::run(alloc, calls)?,
+        _ => return Err(USAGE),
+    }
+    if calls.wrong().is_some() {
+        return Ok(());
+    }
+    println!(rt; "{} refused", calls.refused()).or(Err(Fault::Output))
+}
