@@ -105,17 +105,12 @@ def ready(name, stderr_is_output=False):
     return unproved(name)
 
 
-def run(name, words, keeps_signals=False, stderr_is_output=False):
-    """Runs a program with these words in place of this one. Returns a status if it can't be built.
-
-    With keeps_signals a write to a closed pipe or past a limit is an error for the program, and
-    doesn't end it.
-    """
+def run(name, words, stderr_is_output=False):
+    """Runs a program with these words in place of this one, or returns a status if it isn't built."""
     program = ready(name, stderr_is_output)
     if program is None:
         return 1
-    if not keeps_signals:
-        # Python ignores these two signals, and the program would too
-        for it in (signal.SIGPIPE, signal.SIGXFSZ):
-            signal.signal(it, signal.SIG_DFL)
+    # Python ignores these two signals, and the program would too
+    for it in (signal.SIGPIPE, signal.SIGXFSZ):
+        signal.signal(it, signal.SIG_DFL)
     os.execv(program, [name.replace("_", "-"), *words])

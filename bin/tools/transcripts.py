@@ -18,8 +18,9 @@ import time
 # How long a command may take, and how many bytes it may write.
 SECONDS, BYTES = 60, 1 << 20
 COMMAND, MORE, OUTPUT = "  $ ", "  > ", "  "
-# A script that the path has too.
-FAILURES = os.path.join(os.path.dirname(os.path.realpath(__file__)), "build-failures")
+# Scripts that the path has too.
+TOOLS = os.path.dirname(os.path.realpath(__file__))
+SCRIPTS = {"build-failures": f"{TOOLS}/build-failures", "relay": f"{TOOLS}/relay.py"}
 SHORT = {"\\": "\\\\", "\r": "\\r", "\t": "\\t"}
 
 
@@ -95,14 +96,14 @@ def outputs(end, pipe, count):
 def run(commands, programs):
     """Runs commands in a new folder, and returns the lines that each writes.
 
-    The path begins with these programs, by name, and build-failures.
+    The path begins with these programs, by name, and the scripts.
     """
     mark = f"end-of-command-{os.urandom(8).hex()}"
     end = re.compile(rb"%s (\d+)\n" % mark.encode())
     with tempfile.TemporaryDirectory(prefix="transcripts-") as room:
         for folder in ("bin", "work"):
             os.mkdir(f"{room}/{folder}")
-        for name, path in {**programs, "build-failures": FAILURES}.items():
+        for name, path in {**programs, **SCRIPTS}.items():
             os.symlink(path, f"{room}/bin/{name}")
         with open(f"{room}/script", "w", encoding="utf-8") as it:
             it.writelines(f"{command.text()}echo {mark} $?\n" for command in commands)

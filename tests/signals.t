@@ -1,0 +1,44 @@
+Signals
+=======
+
+bin/prodash-live runs the program behind bin/tools/relay.py, which is `relay` here. SIGTERM ends
+the input: the lines that were there are taken, and one that isn't whole is left out.
+
+  $ mkfifo lines
+  $ relay prodash-live --stdout <lines >output &
+  $ exec 3>lines
+  $ printf 'add @a 0 alpha\ninfo @a 0 one\n' >&3
+  $ until grep -q one output; do sleep 0.01; done
+  $ printf 'info @a 0 two\ninfo @a 0 thr' >&3
+  $ kill -TERM $!
+  $ wait $!
+  $ exec 3>&-
+  $ cat output
+   alpha one
+   alpha two
+
+SIGINT is left to the script, whose end is the end of the input.
+
+  $ relay prodash-live --stdout <lines >output &
+  $ exec 3>lines
+  $ kill -INT $!
+  $ printf 'add @a 0 alpha\ninfo @a 0 three\n' >&3
+  $ exec 3>&-
+  $ wait $!
+  $ cat output
+   alpha three
+
+The status is the program's, which says what is wrong with a line that is cut off. The relay doesn't
+wait for a script whose program has ended.
+
+  $ printf 'add @a 0 alpha\ninfo @a 0 one' | relay prodash-live --stdout
+   input line 2: cut off
+  [2]
+  $ relay prodash-live --nothing <lines 2>fault &
+  $ exec 3>lines
+  $ wait $!
+  [2]
+  $ head -c 6 fault
+  error: (no-eol)
+  $ relay sh -c 'kill -9 $$' </dev/null
+  [137]
