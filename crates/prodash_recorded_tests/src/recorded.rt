@@ -1,14 +1,15 @@
 //! Recorded trees: workers of many threads, and journals that a sequential tree replays.
-ghost use Rattle.std.specs.Prelude.{◌≡◌};
+ghost use Rattle.std.specs.Prelude.{◌≡◌, false};
+ghost use Rattle.prodash_core.specs.Trees.{is_frame};
 
-use crate::child_numbers::assert_children;
-use crate::fixtures::assert_same;
-use crate::journal_lines::assert_lines;
-use crate::receipts::{assert_one_item, assert_workers};
-use prodash::progress::UNKNOWN;
+use crate::child_numbers::{assert_last_row, call_children};
+use crate::fixtures::{assert_last, assert_reply, assert_same};
+use crate::journal_lines::{assert_lines, call_written};
+use crate::receipts::{assert_receipts, assert_rising, call_in_order};
+use prodash::progress::{Rows, UNKNOWN};
 use prodash::time::Moment;
 use prodash::tree::recorded::{
-    Journal, Ledgers, Receipt, RecordedItem, RecordedRoot, Share, TreeLedger,
+    Journal, Ledgers, Receipt, RecordedItem, RecordedRoot, Share, TreeLedger, Unclosed,
 };
 use prodash::tree::root::Options;
 use prodash::tree::{Event, Handle, Reply, RootOptions, TreeState};
@@ -23,124 +24,246 @@ use std::test::*;
 use std::thread;
 use std::thread::{JoinHandle, Threads};
 
-/// What is done on a new tree.
+/// What a worker does with its item.
 #[derive(Clone, Copy)]
-pub(crate) enum Case {
-    /// That many workers, each of that many calls that add 3 to the step of one task.
-    Steps(u32, u32),
-    /// Eight workers that make calls of many kinds.
+pub(crate) enum Work {
+    /// Nothing.
+    Nothing,
+    /// Adds the first task.
+    AddFirst,
+    /// Adds 3 to the step of the first task, that many times.
+    Steps(u32),
+    /// Makes calls of many kinds.
     Mixed,
-    /// A share is missing.
-    Missing,
-    /// A call at a handle that was dropped.
-    Dropped,
-    /// Two workers whose calls are written as lines.
+    /// Takes a snapshot.
+    Snapshot,
+    /// Adds the first task and drops it.
+    AddAndDrop,
+    /// Makes a call at the first task, which was dropped.
+    CallDropped,
+    /// Makes calls that have lines.
     Lines,
-    /// More children of the root than 16 bits count.
+    /// Adds more children to the root than 16 bits count.
     Children,
-    /// Receipts of the calls of one item.
+    /// Makes four calls of which the step of the first task is 7.
     OneItem,
-    /// Receipts of two workers.
-    Receipts,
 }
+
+/// Workers that run side by side, and what each has done.
+#[derive(Clone, Copy)]
+pub(crate) struct Round {
+    pub workers: u32,
+    pub work: Work,
+    pub calls: u64,
+    pub sum: u128,
+}
+
+/// What the replay of a journal ends with.
+#[derive(Clone, Copy)]
+pub(crate) enum Replay {
+    /// The replies of the journal.
+    Replies,
+    /// This step of the first task.
+    Step(u64),
+    /// That many rows, those of the last call, a snapshot.
+    Rows(usize),
+    /// The rows of a snapshot, also if the events are read from lines.
+    Lines,
+    /// The row of the child after 65536 others.
+    Children,
+}
+
+const ADD_FIRST: Round = Round {
+    workers: 1,
+    work: Work::AddFirst,
+    calls: 1,
+    sum: 0,
+};
+
+const TWO: &[Round] = &[
+    ADD_FIRST,
+    Round {
+        workers: 2,
+        work: Work::Steps(1000),
+        calls: 1000,
+        sum: 3000,
+    },
+];
+
+const EIGHT: &[Round] = &[
+    ADD_FIRST,
+    Round {
+        workers: 8,
+        work: Work::Steps(250),
+        calls: 250,
+        sum: 750,
+    },
+];
+
+const MIXED: &[Round] = &[
+    Round {
+        workers: 8,
+        work: Work::Mixed,
+        calls: 190,
+        sum: 40,
+    },
+    Round {
+        workers: 1,
+        work: Work::Snapshot,
+        calls: 1,
+        sum: 0,
+    },
+];
+
+const MISSING: &[Round] = &[
+    ADD_FIRST,
+    Round {
+        workers: 2,
+        work: Work::Nothing,
+        calls: 0,
+        sum: 0,
+    },
+];
+
+const DROPPED: &[Round] = &[
+    Round {
+        workers: 1,
+        work: Work::AddAndDrop,
+        calls: 2,
+        sum: 0,
+    },
+    Round {
+        workers: 1,
+        work: Work::CallDropped,
+        calls: 0,
+        sum: 0,
+    },
+];
 
 #[test]
 fn two_workers_have_one_journal(rt: HostRuntime) -> Result<(), Fail> {
-    on_new_tree(rt, rt.alloc(), Case::Steps(2, 1000))
+    on_new_tree(rt, rt.alloc(), TWO, 2001, Replay::Step(6000))
 }
 
 #[test]
 fn eight_workers_have_one_journal(rt: HostRuntime) -> Result<(), Fail> {
-    on_new_tree(rt, rt.alloc(), Case::Steps(8, 250))
+    on_new_tree(rt, rt.alloc(), EIGHT, 2001, Replay::Step(6000))
 }
 
 #[test]
 fn mixed_calls_have_one_journal(rt: HostRuntime) -> Result<(), Fail> {
-    on_new_tree(rt, rt.alloc(), Case::Mixed)
+    on_new_tree(rt, rt.alloc(), MIXED, 1521, Replay::Rows(240))
 }
 
 #[test]
 fn a_missing_share_hands_back_the_root(rt: HostRuntime) -> Result<(), Fail> {
-    on_new_tree(rt, rt.alloc(), Case::Missing)
+    on_new_tree(rt, rt.alloc(), MISSING, 1, Replay::Replies)
 }
 
 #[test]
 fn a_refused_call_does_not_count(rt: HostRuntime) -> Result<(), Fail> {
-    on_new_tree(rt, rt.alloc(), Case::Dropped)
+    on_new_tree(rt, rt.alloc(), DROPPED, 2, Replay::Replies)
 }
 
-/// Does this on a new tree whose ledgers have types of their own.
+/// Makes the calls of these rounds on a new tree, whose ledgers have types of their own, and
+/// asserts that its journal has so many entries, and what its replay ends with.
 pub(crate) fn on_new_tree<R: Threads + Wait + Abort + Copy + Send + Sync + 'static>(
     rt: R,
     alloc: Global,
-    case: Case,
+    rounds: &[Round],
+    entries: usize,
+    replay: Replay,
 ) -> Result<(), Fail> {
-    done::<Brand, Brand, R>(rt, alloc, Ledgers::new(), case)
+    done::<Brand, Brand, R>(rt, alloc, Ledgers::new(), rounds, entries, replay)
 }
 
 fn done<
     C: TreeLedger + Send + Sync + 'static,
     S: Ledger + Send + Sync + 'static,
     R: Threads + Wait + Abort + Copy + Send + Sync + 'static,
->(rt: R, alloc: Global, ledgers: Ledgers, case: Case) -> Result<(), Fail>
+>(
+    rt: R,
+    alloc: Global,
+    ledgers: Ledgers,
+    rounds: &[Round],
+    entries: usize,
+    replay: Replay,
+) -> Result<(), Fail>
     requires calls { (ledgers.calls.name ≡ C.name) × (ledgers.calls.parts ≡ C.parts) }
     requires sums { (ledgers.sums.name ≡ S.name) × (ledgers.sums.parts ≡ S.parts) }
     requires history { ledgers.history.seen.book ≡ C.history }
     requires capacity { C.message_buffer_capacity ≡ 20 }
 {
     let root = RecordedRoot::<C, S>::new(alloc, ledgers, &Options::default())?;
-    match case {
-        Case::Steps(workers, each) => assert_steps(rt, alloc, root, workers, each),
-        Case::Mixed => assert_mixed(rt, alloc, root),
-        Case::Missing => assert_missing(&rt, alloc, root),
-        Case::Dropped => assert_dropped(&rt, alloc, root),
-        Case::Lines => assert_lines(rt, alloc, root),
-        Case::Children => assert_children(&rt, alloc, root),
-        Case::OneItem => assert_one_item(&rt, alloc, root),
-        Case::Receipts => assert_workers(rt, alloc, root),
-    }
+    let (mut shares, mut receipts) = (Vec::new(alloc), Vec::new(alloc));
+    work_in_rounds(rt, alloc, &root, rounds, &mut shares, &mut receipts)?;
+    let journal = closed(&rt, root, shares)?;
+    assert_receipts(&rt, alloc, &journal, &receipts, entries)?;
+    assert_replay(&rt, alloc, &journal, &receipts, replay)
+}
+
+/// Makes a call, and keeps its receipt. Asserts that the receipt has the reply, and returns it.
+pub(crate) fn call<C: TreeLedger, S: Ledger, R: Wait + Abort>(
+    rt: &R,
+    alloc: Global,
+    item: &mut RecordedItem<C, S>,
+    receipts: &mut Vec<Receipt<C>>,
+    event: Event,
+) -> Result<Reply, Refusal>
+    requires { is_frame event ≡ false }
+{
+    let (reply, receipt) = item.call(rt, alloc, event)?;
+    assert_reply(rt, &reply, receipt.reply(), "a receipt");
+    receipts.push(receipt)?;
+    Ok(reply)
 }
 
 /// Adds a task below the root, and returns its handle.
-pub(crate) fn add<C: TreeLedger, S: Ledger>(
-    rt: &impl Wait,
+pub(crate) fn add<C: TreeLedger, S: Ledger, R: Wait + Abort>(
+    rt: &R,
     alloc: Global,
     item: &mut RecordedItem<C, S>,
+    receipts: &mut Vec<Receipt<C>>,
 ) -> Result<Handle, Refusal> {
-    let name = Text::from_str(alloc, "task")?;
-    let event = Event::AddChild {
-        parent: 0,
-        name,
-        id: UNKNOWN,
-    };
-    match item.call(rt, alloc, event)?.0 {
+    let (parent, name, id) = (0, Text::from_str(alloc, "task")?, UNKNOWN);
+    let made = call(
+        rt,
+        alloc,
+        item,
+        receipts,
+        Event::AddChild { parent, name, id },
+    )?;
+    match made {
         Reply::Made(handle) => Ok(handle),
         _ => Err(Refusal::Gone),
     }
 }
 
-/// Adds a task below the root, and returns the receipt.
-pub(crate) fn add_with_receipt<C: TreeLedger, S: Ledger>(
-    rt: &impl Wait,
+/// Adds the first task of a tree, by its first call.
+fn add_first<C: TreeLedger, S: Ledger, R: Wait + Abort>(
+    rt: &R,
     alloc: Global,
     item: &mut RecordedItem<C, S>,
-) -> Result<Receipt<C>, Refusal> {
-    let (parent, name, id) = (0, Text::from_str(alloc, "task")?, UNKNOWN);
-    let (_, receipt) = item.call(rt, alloc, Event::AddChild { parent, name, id })?;
-    Ok(receipt)
+    receipts: &mut Vec<Receipt<C>>,
+) -> Result<(), Refusal> {
+    assert_same(rt, add(rt, alloc, item, receipts)?, 1, "handle");
+    let first = receipts.as_slice().last().ok_or(Refusal::Gone)?;
+    assert_same(rt, first.number(), 0, "the first number");
+    Ok(())
 }
 
-/// Adds 3 to the step of an item, that many times.
-fn steps<C: TreeLedger, S: Ledger>(
-    rt: &impl Wait,
+/// Adds 3 to the step of the first task, that many times.
+fn call_steps<C: TreeLedger, S: Ledger, R: Wait + Abort>(
+    rt: &R,
     alloc: Global,
-    mut item: RecordedItem<C, S>,
+    item: &mut RecordedItem<C, S>,
+    receipts: &mut Vec<Receipt<C>>,
     each: u32,
-) -> Result<RecordedItem<C, S>, Refusal> {
+) -> Result<(), Refusal> {
     for _ in 0..each {
-        item.call(rt, alloc, Event::IncBy { item: 1, step: 3 })?;
+        call(rt, alloc, item, receipts, Event::IncBy { item: 1, step: 3 })?;
     }
-    Ok(item)
+    Ok(())
 }
 
 /// Names an item `task` and a moment `-`, and others by their numbers.
@@ -174,6 +297,8 @@ impl Words for Task {
     }
 }
 
+const NO_TASK: Task = Task { item: 0, now: 0 };
+
 const CALLS: &str = "init task 10 -
 set task 4
 info task - four
@@ -184,22 +309,23 @@ add task part
 inc task 2";
 
 /// Makes a call of each kind that changes a task of its own, and of some that read.
-fn mixed<C: TreeLedger, S: Ledger>(
-    rt: &impl Wait,
+fn call_mixed<C: TreeLedger, S: Ledger, R: Wait + Abort>(
+    rt: &R,
     alloc: Global,
-    mut item: RecordedItem<C, S>,
-) -> Result<RecordedItem<C, S>, Refusal> {
+    item: &mut RecordedItem<C, S>,
+    receipts: &mut Vec<Receipt<C>>,
+) -> Result<(), Refusal> {
     for round in 0..20u32 {
         let task = Task {
-            item: add(rt, alloc, &mut item)?,
+            item: add(rt, alloc, item, receipts)?,
             now: 0,
         };
-        call_lines(rt, alloc, &mut item, task, CALLS)?;
+        call_lines(rt, alloc, item, receipts, task, CALLS)?;
         if round % 2 == 0 {
-            call_lines(rt, alloc, &mut item, task, "drop task")?;
+            call_lines(rt, alloc, item, receipts, task, "drop task")?;
         }
     }
-    Ok(item)
+    Ok(())
 }
 
 /// Parses an event on a task, or one of two that read the tree.
@@ -212,10 +338,11 @@ fn event_of(alloc: Global, task: &Task, line: &str) -> Result<Event, Refusal> {
 }
 
 /// Makes the calls of these lines, in which the item's task is named `task`.
-pub(crate) fn call_lines<C: TreeLedger, S: Ledger>(
-    rt: &impl Wait,
+pub(crate) fn call_lines<C: TreeLedger, S: Ledger, R: Wait + Abort>(
+    rt: &R,
     alloc: Global,
     item: &mut RecordedItem<C, S>,
+    receipts: &mut Vec<Receipt<C>>,
     task: Task,
     lines: &str,
 ) -> Result<(), Refusal> {
@@ -224,9 +351,175 @@ pub(crate) fn call_lines<C: TreeLedger, S: Ledger>(
         if event.is_frame() {
             return Err(Refusal::Closed);
         }
-        item.call(rt, alloc, event)?;
+        call(rt, alloc, item, receipts, event)?;
     }
     Ok(())
+}
+
+/// Adds the first task of a tree, and drops it.
+fn add_and_drop<C: TreeLedger, S: Ledger, R: Wait + Abort>(
+    rt: &R,
+    alloc: Global,
+    item: &mut RecordedItem<C, S>,
+    receipts: &mut Vec<Receipt<C>>,
+) -> Result<(), Refusal> {
+    add_first(rt, alloc, item, receipts)?;
+    call(rt, alloc, item, receipts, Event::Drop { item: 1 })?;
+    Ok(())
+}
+
+/// Asserts that a call at a handle that another item made and dropped is refused.
+fn assert_gone<C: TreeLedger, S: Ledger, R: Wait + Abort>(
+    rt: &R,
+    alloc: Global,
+    item: &mut RecordedItem<C, S>,
+) {
+    let refusal = item
+        .call(rt, alloc, Event::IncBy { item: 1, step: 3 })
+        .err();
+    assert_same(rt, refusal, Some(Refusal::Gone), "a dropped item");
+}
+
+/// Does a worker's work.
+fn do_work<C: TreeLedger, S: Ledger, R: Wait + Abort>(
+    rt: &R,
+    alloc: Global,
+    item: &mut RecordedItem<C, S>,
+    receipts: &mut Vec<Receipt<C>>,
+    work: Work,
+) -> Result<(), Refusal> {
+    match work {
+        Work::Nothing => Ok(()),
+        Work::AddFirst => add_first(rt, alloc, item, receipts),
+        Work::Steps(each) => call_steps(rt, alloc, item, receipts, each),
+        Work::Mixed => call_mixed(rt, alloc, item, receipts),
+        Work::Snapshot => call_lines(rt, alloc, item, receipts, NO_TASK, "snapshot"),
+        Work::AddAndDrop => add_and_drop(rt, alloc, item, receipts),
+        Work::CallDropped => {
+            assert_gone(rt, alloc, item);
+            Ok(())
+        }
+        Work::Lines => call_written(rt, alloc, item, receipts),
+        Work::Children => call_children(rt, alloc, item, receipts),
+        Work::OneItem => call_in_order(rt, alloc, item, receipts),
+    }
+}
+
+/// A worker's share and its receipts.
+type Worked<C, S> = Result<(Share<C, S>, Vec<Receipt<C>>), Refusal>;
+
+/// What workers hand back.
+type Running<C, S> = Vec<JoinHandle<Worked<C, S>>>;
+
+/// A worker in a thread of its own.
+fn worked<C: TreeLedger, S: Ledger, R: Wait + Abort>(
+    rt: &R,
+    alloc: Global,
+    mut item: RecordedItem<C, S>,
+    work: Work,
+) -> Worked<C, S> {
+    let mut receipts = Vec::new(alloc);
+    do_work(rt, alloc, &mut item, &mut receipts, work)?;
+    Ok((item.give_back(), receipts))
+}
+
+/// Begins the workers of a round.
+fn begin<
+    C: TreeLedger + Send + Sync + 'static,
+    S: Ledger + Send + Sync + 'static,
+    R: Threads + Wait + Abort + Copy + Send + Sync + 'static,
+>(rt: R, alloc: Global, root: &RecordedRoot<C, S>, round: &Round) -> Result<Running<C, S>, Fail> {
+    let mut running = Vec::new(alloc);
+    let work = round.work;
+    for _ in 0..round.workers {
+        let item = root.share(&rt)?;
+        running.push(thread::spawn(&rt, move || worked(&rt, alloc, item, work))?)?;
+    }
+    Ok(running)
+}
+
+/// Takes a worker's share and its receipts, and asserts that these are in order, and that the share
+/// has the calls and the sum of the round.
+fn take<C: TreeLedger, S: Ledger>(
+    rt: &impl Abort,
+    round: &Round,
+    worked: (Share<C, S>, Vec<Receipt<C>>),
+    shares: &mut Vec<Share<C, S>>,
+    receipts: &mut Vec<Receipt<C>>,
+) -> Result<(), Fail> {
+    let (share, mut given) = worked;
+    assert_same(rt, share.calls(), round.calls, "calls");
+    assert_same(rt, share.sum(), round.sum, "sum");
+    assert_rising(rt, &given);
+    shares.push(share)?;
+    receipts.append(&mut given)?;
+    Ok(())
+}
+
+/// Waits for the workers of a round, and takes what they hand back.
+fn join_all<C: TreeLedger, S: Ledger, R: Threads + Wait + Abort>(
+    rt: &R,
+    round: &Round,
+    running: Running<C, S>,
+    shares: &mut Vec<Share<C, S>>,
+    receipts: &mut Vec<Receipt<C>>,
+) -> Result<(), Fail> {
+    for worker in running {
+        let worked = worker.join(rt)?;
+        take(rt, round, worked, shares, receipts)?;
+    }
+    Ok(())
+}
+
+/// Has workers make the calls of each round, and takes what they hand back.
+fn work_in_rounds<
+    C: TreeLedger + Send + Sync + 'static,
+    S: Ledger + Send + Sync + 'static,
+    R: Threads + Wait + Abort + Copy + Send + Sync + 'static,
+>(
+    rt: R,
+    alloc: Global,
+    root: &RecordedRoot<C, S>,
+    rounds: &[Round],
+    shares: &mut Vec<Share<C, S>>,
+    receipts: &mut Vec<Receipt<C>>,
+) -> Result<(), Fail> {
+    for round in rounds {
+        let running = begin(rt, alloc, root, round)?;
+        join_all(&rt, round, running, shares, receipts)?;
+    }
+    Ok(())
+}
+
+/// Asserts that a tree can't be closed with these shares, and that they are handed back.
+fn refused<C: TreeLedger, S: Ledger>(
+    rt: &(impl Wait + Abort),
+    root: RecordedRoot<C, S>,
+    shares: Vec<Share<C, S>>,
+) -> Result<Unclosed<C, S>, Fail> {
+    let given = shares.len();
+    let unclosed = root.close(rt, shares).err().ok_or("a share is missing")?;
+    assert_same(rt, unclosed.shares.len(), given, "shares");
+    Ok(unclosed)
+}
+
+/// Closes a tree with all its shares, after it was refused without the last.
+fn closed<C: TreeLedger, S: Ledger>(
+    rt: &(impl Wait + Abort),
+    root: RecordedRoot<C, S>,
+    shares: Vec<Share<C, S>>,
+) -> Result<Journal<C>, Fail> {
+    let mut shares = shares;
+    let last = shares.pop().ok_or("no share")?;
+    let unclosed = refused(rt, root, shares)?;
+    let mut shares = unclosed.shares;
+    shares.push(last)?;
+    let journal = unclosed
+        .root
+        .close(rt, shares)
+        .ok()
+        .ok_or("all shares are there")?;
+    Ok(journal)
 }
 
 /// Asserts that a tree replies to an event of no frame as an entry says.
@@ -246,7 +539,7 @@ pub(crate) fn assert_replayed(
 }
 
 /// A new tree that gets the events of a journal has its replies.
-pub(crate) fn replayed<C: TreeLedger>(
+fn replayed<C: TreeLedger>(
     rt: &impl Abort,
     alloc: Global,
     journal: &Journal<C>,
@@ -258,214 +551,43 @@ pub(crate) fn replayed<C: TreeLedger>(
     Ok(tree)
 }
 
-/// What workers hand back.
-pub(crate) type Running<C, S> = Vec<JoinHandle<Result<RecordedItem<C, S>, Refusal>>>;
-
-/// Waits for workers, and takes the shares of their items.
-pub(crate) fn join_all<C: TreeLedger, S: Ledger>(
-    rt: &(impl Threads + Wait),
-    running: Running<C, S>,
-    shares: &mut Vec<Share<C, S>>,
-) -> Result<(), Fail> {
-    for worker in running {
-        shares.push(worker.join(rt)?.give_back())?;
-    }
-    Ok(())
-}
-
-/// Closes a tree of which all shares are there. Its journal has this number of entries.
-pub(crate) fn closed<C: TreeLedger, S: Ledger, R: Wait + Abort>(
-    rt: &R,
-    root: RecordedRoot<C, S>,
-    shares: Vec<Share<C, S>>,
-    entries: usize,
-) -> Result<Journal<C>, Fail> {
-    let journal = root.close(rt, shares).ok().ok_or("all shares are there")?;
-    assert_same(rt, journal.entries().len(), entries, "entries");
-    Ok(journal)
-}
-
-/// An item adds the first task.
-fn add_first<C: TreeLedger, S: Ledger, R: Wait + Abort>(
-    rt: &R,
-    alloc: Global,
-    mut first: RecordedItem<C, S>,
-) -> Result<Share<C, S>, Fail> {
-    assert_same(rt, add(rt, alloc, &mut first)?, 1, "handle");
-    Ok(first.give_back())
-}
-
-/// Begins workers that add to the step of the first task.
-fn steppers<
-    C: TreeLedger + Send + Sync + 'static,
-    S: Ledger + Send + Sync + 'static,
-    R: Threads + Wait + Abort + Copy + Send + Sync + 'static,
->(
-    rt: R,
-    alloc: Global,
-    root: &RecordedRoot<C, S>,
-    workers: u32,
-    each: u32,
-) -> Result<Running<C, S>, Fail> {
-    let mut running = Vec::new(alloc);
-    for _ in 0..workers {
-        let item = root.share(&rt)?;
-        running.push(thread::spawn(&rt, move || steps(&rt, alloc, item, each))?)?;
-    }
-    Ok(running)
-}
-
-/// Asserts that the replay of a journal ends with this step of the first task.
-fn assert_step<C: TreeLedger>(
+/// Asserts that the first task of a tree has this step.
+fn assert_step(
     rt: &impl Abort,
     alloc: Global,
-    journal: &Journal<C>,
+    tree: &mut TreeState,
     want: u64,
 ) -> Result<(), Fail> {
-    let mut tree = replayed(rt, alloc, journal)?;
     let step = tree.apply(alloc, &Event::Step { item: 1 })?;
-    assert_same(rt, step, Reply::Step(want), "counter");
+    assert_reply(rt, &step, &Reply::Step(want), "counter");
     Ok(())
 }
 
-/// Asserts that the journal of workers that add to the step of one task has their calls, and its
-/// replay their sum.
-fn assert_steps<
-    C: TreeLedger + Send + Sync + 'static,
-    S: Ledger + Send + Sync + 'static,
-    R: Threads + Wait + Abort + Copy + Send + Sync + 'static,
->(rt: R, alloc: Global, root: RecordedRoot<C, S>, workers: u32, each: u32) -> Result<(), Fail> {
-    let mut shares = Vec::new(alloc);
-    shares.push(add_first(&rt, alloc, root.share(&rt)?)?)?;
-    let running = steppers(rt, alloc, &root, workers, each)?;
-    join_all(&rt, running, &mut shares)?;
-    assert_same(&rt, totals(&shares), (2001, 6000), "totals");
-    let journal = closed(&rt, root, shares, 2001)?;
-    assert_step(&rt, alloc, &journal, 6000)
-}
-
-/// The calls of the shares together, and the sum of their sums.
-fn totals<C: TreeLedger, S: Ledger>(shares: &[Share<C, S>]) -> (u64, u128) {
-    let mut calls: u64 = 0;
-    let mut sum: u128 = 0;
-    for share in shares {
-        calls = calls.wrapping_add(share.calls());
-        sum = sum.wrapping_add(share.sum());
-    }
-    (calls, sum)
-}
-
-/// Begins workers that make calls of many kinds.
-fn mixers<
-    C: TreeLedger + Send + Sync + 'static,
-    S: Ledger + Send + Sync + 'static,
-    R: Threads + Wait + Abort + Copy + Send + Sync + 'static,
->(rt: R, alloc: Global, root: &RecordedRoot<C, S>) -> Result<Running<C, S>, Fail> {
-    let mut running = Vec::new(alloc);
-    for _ in 0..8u32 {
-        let item = root.share(&rt)?;
-        running.push(thread::spawn(&rt, move || mixed(&rt, alloc, item))?)?;
-    }
-    Ok(running)
-}
-
-/// Asserts that the replay of a journal has these rows, 240 of them.
+/// Asserts that there are that many rows, those of the snapshot that the last receipt has.
 fn assert_rows<C: TreeLedger>(
+    rt: &impl Abort,
+    rows: Rows,
+    want: usize,
+    receipts: &[Receipt<C>],
+) -> Result<(), Fail> {
+    assert_same(rt, rows.as_slice().len(), want, "rows");
+    assert_last(rt, receipts, &Reply::Rows(rows), "rows of the replay")
+}
+
+/// Asserts that the replay of a journal has its replies, and what it ends with.
+fn assert_replay<C: TreeLedger>(
     rt: &impl Abort,
     alloc: Global,
     journal: &Journal<C>,
-    seen: Reply,
+    receipts: &[Receipt<C>],
+    replay: Replay,
 ) -> Result<(), Fail> {
-    let rows = replayed(rt, alloc, journal)?.rows(alloc)?;
-    assert_same(rt, rows.as_slice().len(), 240, "rows");
-    assert_same(rt, Reply::Rows(rows), seen, "rows of the replay");
-    Ok(())
-}
-
-/// Asserts that the rows of a snapshot, the last call, are those of the replay.
-fn assert_mixed<
-    C: TreeLedger + Send + Sync + 'static,
-    S: Ledger + Send + Sync + 'static,
-    R: Threads + Wait + Abort + Copy + Send + Sync + 'static,
->(rt: R, alloc: Global, root: RecordedRoot<C, S>) -> Result<(), Fail> {
-    let mut shares = Vec::new(alloc);
-    let mut last = root.share(&rt)?;
-    join_all(&rt, mixers(rt, alloc, &root)?, &mut shares)?;
-    let (seen, _) = last.call(&rt, alloc, Event::Snapshot)?;
-    shares.push(last.give_back())?;
-    assert_same(&rt, totals(&shares), (1521, 320), "totals");
-    let journal = closed(&rt, root, shares, 1521)?;
-    assert_rows(&rt, alloc, &journal, seen)
-}
-
-/// Of three shares two come, and then all.
-fn assert_missing<C: TreeLedger, S: Ledger, R: Wait + Abort>(
-    rt: &R,
-    alloc: Global,
-    root: RecordedRoot<C, S>,
-) -> Result<(), Fail> {
-    let mut shares = Vec::new(alloc);
-    shares.push(add_first(rt, alloc, root.share(rt)?)?)?;
-    shares.push(root.share(rt)?.give_back())?;
-    let third = root.share(rt)?.give_back();
-    let unclosed = root.close(rt, shares).err().ok_or("a share is missing")?;
-    let mut shares = unclosed.shares;
-    assert_same(rt, shares.len(), 2, "shares");
-    shares.push(third)?;
-    closed(rt, unclosed.root, shares, 1)?;
-    Ok(())
-}
-
-/// Asserts that a call at a handle that was dropped is refused.
-fn assert_gone<C: TreeLedger, S: Ledger, R: Wait + Abort>(
-    rt: &R,
-    alloc: Global,
-    item: &mut RecordedItem<C, S>,
-    task: Handle,
-) {
-    let event = Event::IncBy {
-        item: task,
-        step: 3,
-    };
-    let refusal = item.call(rt, alloc, event).err();
-    assert_same(rt, refusal, Some(Refusal::Gone), "a dropped item");
-}
-
-/// Asserts that such a call doesn't count.
-fn assert_not_counted<C: TreeLedger, S: Ledger, R: Wait + Abort>(
-    rt: &R,
-    alloc: Global,
-    mut item: RecordedItem<C, S>,
-    task: Handle,
-) -> Share<C, S> {
-    assert_gone(rt, alloc, &mut item, task);
-    let share = item.give_back();
-    assert_same(rt, (share.calls(), share.sum()), (0, 0), "totals");
-    share
-}
-
-/// An item adds a task and drops it. Returns its share and the task's handle.
-fn add_and_drop<C: TreeLedger, S: Ledger, R: Wait>(
-    rt: &R,
-    alloc: Global,
-    mut item: RecordedItem<C, S>,
-) -> Result<(Share<C, S>, Handle), Refusal> {
-    let task = add(rt, alloc, &mut item)?;
-    item.call(rt, alloc, Event::Drop { item: task })?;
-    Ok((item.give_back(), task))
-}
-
-/// Asserts that calls at a handle that another item made and dropped don't count.
-fn assert_dropped<C: TreeLedger, S: Ledger, R: Wait + Abort>(
-    rt: &R,
-    alloc: Global,
-    root: RecordedRoot<C, S>,
-) -> Result<(), Fail> {
-    let (first, task) = add_and_drop(rt, alloc, root.share(rt)?)?;
-    let other = assert_not_counted(rt, alloc, root.share(rt)?, task);
-    let mut shares = Vec::new(alloc);
-    shares.push(first)?;
-    shares.push(other)?;
-    closed(rt, root, shares, 2)?;
-    Ok(())
+    let mut tree = replayed(rt, alloc, journal)?;
+    match replay {
+        Replay::Replies => Ok(()),
+        Replay::Step(want) => assert_step(rt, alloc, &mut tree, want),
+        Replay::Rows(want) => assert_rows(rt, tree.rows(alloc)?, want, receipts),
+        Replay::Children => assert_last_row(rt, &tree.rows(alloc)?),
+        Replay::Lines => assert_lines(rt, alloc, journal, receipts),
+    }
 }
