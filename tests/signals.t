@@ -9,8 +9,10 @@ the input: the lines that were there are taken, and one that isn't whole is left
   $ exec 3>lines
   $ printf 'add @a 0 alpha\ninfo @a 0 one\n' >&3
   $ until grep -q one output; do sleep 0.01; done
+  $ kill -STOP $!
   $ printf 'info @a 0 two\ninfo @a 0 thr' >&3
   $ kill -TERM $!
+  $ kill -CONT $!
   $ wait $!
   $ exec 3>&-
   $ cat output
@@ -19,14 +21,17 @@ the input: the lines that were there are taken, and one that isn't whole is left
 
 SIGINT is left to the script, whose end is the end of the input.
 
-  $ relay prodash-live --stdout <lines >output &
+  $ env --default-signal=INT relay prodash-live --stdout <lines >output &
   $ exec 3>lines
-  $ kill -INT $!
   $ printf 'add @a 0 alpha\ninfo @a 0 three\n' >&3
+  $ until grep -q three output; do sleep 0.01; done
+  $ kill -INT $!
+  $ printf 'info @a 0 four\n' >&3
   $ exec 3>&-
   $ wait $!
   $ cat output
    alpha three
+   alpha four
 
 The status is the program's, which says what is wrong with a line that is cut off. The relay doesn't
 wait for a script whose program has ended.
@@ -42,3 +47,8 @@ wait for a script whose program has ended.
   error: (no-eol)
   $ relay sh -c 'kill -9 $$' </dev/null
   [137]
+
+No signal of the terminal reaches the program itself.
+
+  $ relay sh -c 'kill -INT $$; kill -TERM $$; kill -HUP $$; echo alive' </dev/null
+  alive
