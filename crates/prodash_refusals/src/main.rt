@@ -3,9 +3,14 @@
 #![tactic(auto)]
 
 mod calls;
+mod engines;
+mod logs;
 mod messages;
 mod pages;
 mod rates;
+mod renders;
+mod scene;
+mod sessions;
 mod texts;
 mod tree;
 
@@ -13,10 +18,14 @@ use calls::Calls;
 use prodash_programs::{Fault, arguments, report};
 use std::alloc::Global;
 use std::process::ExitCode;
+use std::rt;
 use std::sync::Wait;
+use std::thread::Threads;
 
 /// The fault of arguments that name no case.
-const USAGE: Fault = Fault::Usage("prodash-refusals tree | messages | rates | texts | pages");
+const USAGE: Fault = Fault::Usage(
+    "prodash-refusals tree|messages|rates|texts|pages|sessions|engines|logs|renders",
+);
 
 fn main(rt: HostRuntime) -> ExitCode {
     let mut calls = Calls::new();
@@ -36,7 +45,7 @@ fn main(rt: HostRuntime) -> ExitCode {
 
 /// Makes the calls of the case that the command line names, and prints how many were refused,
 /// unless one was wrong.
-fn run<R: Wait + Print + Clone + Drop>(
+fn run<R: Threads + Wait + Print + rt::Clock + Clone + Drop + Send + Sync + 'static>(
     rt: &R,
     alloc: Global,
     words: &[String],
@@ -51,6 +60,10 @@ fn run<R: Wait + Print + Clone + Drop>(
         "rates" => rates::run(alloc, calls)?,
         "texts" => texts::run(alloc, calls)?,
         "pages" => pages::run(alloc, calls)?,
+        "sessions" => sessions::run(alloc, calls)?,
+        "engines" => engines::run(alloc, calls)?,
+        "logs" => logs::run(rt, alloc, calls)?,
+        "renders" => renders::run(rt, alloc, calls)?,
         _ => return Err(USAGE),
     }
     if calls.wrong().is_some() {

@@ -1,0 +1,80 @@
+//! Frames that an engine draws.
+use crate::calls::Calls;
+use crate::scene::WeakScene;
+use prodash::Refusal;
+use prodash::render::line::draw::{self, Answer, MemoryScreen};
+use prodash::render::line::engine::{Engine, EngineEvent};
+use prodash_programs::Fault;
+use std::alloc::Global;
+use std::sync::Arc;
+use std::sync::atomic::{AtomicU64, Ordering};
+
+/// The room of a screen, which takes all frames.
+const ROOM: usize = 8192;
+
+/// How many frames are drawn before the size changes.
+const FRAMES: u64 = 5;
+
+/// The nanoseconds between two frames.
+const TURN: u64 = 400_000_000;
+
+/// An engine that draws on a screen in memory.
+type Drawing = Engine<MemoryScreen, WeakScene>;
+
+/// Draws the same frames by two engines. At least one of them is refused no memory, and the other
+/// one must write what it does.
+pub(crate) fn run(alloc: Global, calls: &mut Calls) -> Result<(), Fault> {
+    let turn = Arc::new(alloc, AtomicU64::new(0))?;
+    let mut first = new(alloc, &turn, calls)?;
+    let mut second = new(alloc, &turn, calls)?;
+    for frame in 0..FRAMES {
+        turn.store(frame, Ordering::SeqCst);
+        let at = frame.wrapping_mul(TURN);
+        let tick = EngineEvent::Tick { at, show: true };
+        draw(&mut first, &mut second, tick, calls)?;
+    }
+    let resize = EngineEvent::Resize {
+        at: 0,
+        show: true,
+        columns: 40,
+        rows: 8,
+    };
+    draw(&mut first, &mut second, resize, calls)?;
+    draw(&mut first, &mut second, EngineEvent::Quit { at: 0 }, calls)
+}
+
+/// Makes an engine that measures throughput.
+fn new(alloc: Global, turn: &Arc<AtomicU64>, calls: &mut Calls) -> Result<Drawing, Fault> {
+    calls.begin("Engine::new");
+    let screen = MemoryScreen::new(alloc, ROOM)?;
+    let weak = WeakScene::new(Arc::try_clone(turn)?);
+    Ok(Engine::new(alloc, screen, weak, draw::Options::default(), true)?)
+}
+
+/// Has both engines draw the frame of an event.
+fn draw(
+    first: &mut Drawing,
+    second: &mut Drawing,
+    event: EngineEvent,
+    calls: &mut Calls,
+) -> Result<(), Fault> {
+    let answers = (step(first, event, calls)?, step(second, event, calls)?);
+    let bytes = first.screen().bytes();
+    calls.expect(answers.0 == answers.1 && bytes == second.screen().bytes() && !bytes.is_empty());
+    Ok(())
+}
+
+/// Has an engine draw the frame of an event.
+fn step(engine: &mut Drawing, event: EngineEvent, calls: &mut Calls) -> Result<Answer, Refusal> {
+    calls.begin("Engine::step");
+    let written = engine.screen().bytes().len();
+    match engine.step(event) {
+        Ok(answer) => Ok(answer),
+        Err(refusal) => {
+            let is_unwritten = engine.screen().bytes().len() == written;
+            let again = engine.step(event);
+            calls.refuse(refusal, is_unwritten && again.is_ok());
+            again
+        }
+    }
+}

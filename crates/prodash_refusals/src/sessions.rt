@@ -1,0 +1,173 @@
+//! Events of a session, whose frames are written on a screen in memory.
+use crate::calls::Calls;
+use prodash::messages::MessageLevel;
+use prodash::progress::UNKNOWN;
+use prodash::render::line::draw::{self, MemoryScreen};
+use prodash::time::Moment;
+use prodash::tree::{Event, Reply, RootOptions, Session, SessionOptions};
+use prodash::unit::display::Mode;
+use prodash::unit::label_and_mode;
+use prodash::{Refusal, Text};
+use prodash_programs::Fault;
+use std::alloc::Global;
+
+/// The room of a screen, which takes all frames.
+const ROOM: usize = 8192;
+
+/// How many events are applied.
+const EVENTS: u64 = 27;
+
+/// The nanoseconds between two events.
+const TURN: u64 = 300_000_000;
+
+/// A session, and the screen that its frames are written on.
+#[derive(Drop)]
+struct Drawn {
+    session: Session,
+    screen: MemoryScreen,
+}
+
+/// Applies all events to two sessions. At least one of them is refused no memory, and the other one
+/// must reply and write what it does.
+pub(crate) fn run(alloc: Global, calls: &mut Calls) -> Result<(), Fault> {
+    let mut first = new(alloc, calls)?;
+    let mut second = new(alloc, calls)?;
+    for place in 0..EVENTS {
+        let event = event(alloc, place)?;
+        let replies = (
+            apply(alloc, &mut first, &event, calls),
+            apply(alloc, &mut second, &event, calls),
+        );
+        calls.expect(replies.0 == replies.1 && !is_refused(&replies.0));
+        calls.expect(first.screen.bytes() == second.screen.bytes());
+        first = copy(alloc, first, calls)?;
+    }
+    calls.expect(!first.screen.bytes().is_empty());
+    Ok(())
+}
+
+/// Makes a session that keeps two messages, shows times, and measures throughput.
+fn new(alloc: Global, calls: &mut Calls) -> Result<Drawn, Fault> {
+    calls.begin("Session::new");
+    let options = SessionOptions {
+        root: RootOptions {
+            initial_capacity: 2,
+            message_buffer_capacity: 2,
+        },
+        draw: draw::Options {
+            timestamp: true,
+            ..draw::Options::default()
+        },
+        throughput: true,
+    };
+    let session = match Session::new(alloc, &options) {
+        Ok(session) => session,
+        Err(refusal) => {
+            let again = Session::new(alloc, &options);
+            calls.refuse(refusal, again.is_ok());
+            again?
+        }
+    };
+    let screen = MemoryScreen::new(alloc, ROOM)?;
+    Ok(Drawn { session, screen })
+}
+
+/// Applies an event.
+fn apply(alloc: Global, drawn: &mut Drawn, event: &Event, calls: &mut Calls) -> Reply {
+    calls.begin("Session::apply");
+    let written = drawn.screen.bytes().len();
+    let reply = drawn.session.apply(alloc, event, &mut drawn.screen);
+    let Reply::Refused(refusal) = reply else {
+        return reply;
+    };
+    let is_unwritten = drawn.screen.bytes().len() == written;
+    let again = drawn.session.apply(alloc, event, &mut drawn.screen);
+    calls.refuse(refusal, is_unwritten && !is_refused(&again));
+    again
+}
+
+fn is_refused(reply: &Reply) -> bool {
+    matches!(reply, Reply::Refused(_))
+}
+
+/// Copies the session, and goes on with the copy.
+fn copy(alloc: Global, drawn: Drawn, calls: &mut Calls) -> Result<Drawn, Fault> {
+    calls.begin("Session::deep_clone");
+    let Drawn { session, screen } = drawn;
+    let session = match session.deep_clone(alloc) {
+        Ok(copy) => copy,
+        Err(refusal) => {
+            let again = session.deep_clone(alloc);
+            calls.refuse(refusal, again.is_ok());
+            again?
+        }
+    };
+    Ok(Drawn { session, screen })
+}
+
+/// Returns the event at a place: a frame, a look at the tree, or a change of it.
+fn event(alloc: Global, place: u64) -> Result<Event, Refusal> {
+    let at = place.wrapping_mul(TURN);
+    match frame(place, at).or(look(place)) {
+        Some(event) => Ok(event),
+        None => change(alloc, place, at),
+    }
+}
+
+/// Returns the frame that the event at a place draws: each third does, and some others.
+fn frame(place: u64, at: Moment) -> Option<Event> {
+    match place {
+        20 => Some(Event::Resize {
+            at,
+            show: true,
+            columns: 60,
+            rows: 9,
+        }),
+        26 => Some(Event::Quit { at }),
+        _ if place % 3 == 2 => Some(Event::Tick { at, show: true }),
+        _ => None,
+    }
+}
+
+/// Returns what the event at a place copies, if it only looks at the tree.
+fn look(place: u64) -> Option<Event> {
+    match place {
+        9 => Some(Event::Snapshot),
+        10 => Some(Event::CopyMessages),
+        12 => Some(Event::CopyNew { previous: None }),
+        15 => Some(Event::Name { item: 2 }),
+        _ => None,
+    }
+}
+
+/// Returns how the event at a place changes the tree.
+fn change(alloc: Global, place: u64, at: Moment) -> Result<Event, Refusal> {
+    let unit = label_and_mode("items", Mode::with_throughput());
+    Ok(match place {
+        0 | 4 => Event::AddChild {
+            parent: place / 4,
+            name: Text::from_str(alloc, "task")?,
+            id: UNKNOWN,
+        },
+        1 => Event::Init {
+            item: 1,
+            max: Some(40),
+            unit: Some(unit),
+        },
+        3 | 6 | 13 => Event::Message {
+            item: 1,
+            at,
+            level: MessageLevel::Success,
+            text: Text::from_str(alloc, "is on its way")?,
+        },
+        7 => Event::SetName {
+            item: 2,
+            name: Text::from_str(alloc, "a part with a longer name")?,
+        },
+        18 => Event::Drop { item: 2 },
+        _ => Event::Set {
+            item: 1,
+            step: place,
+        },
+    })
+}
