@@ -4,6 +4,8 @@
 #[cfg(test)]
 mod adjacency;
 #[cfg(test)]
+mod breaks;
+#[cfg(test)]
 mod colors;
 #[cfg(test)]
 mod copies;

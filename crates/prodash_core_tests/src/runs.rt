@@ -7,7 +7,7 @@ use std::alloc::Global;
 use std::process::Abort;
 use std::test::Fail;
 
-const RUNS: &[&str] = &[
+pub(crate) const RUNS: &[&str] = &[
     // a task is drawn, and a message takes the place of its row
     r#"add 0 task -> Made(1)
 init 1 10 - -> Done
@@ -113,7 +113,7 @@ info 1 0 z -> Done
 hold 0 -> Drawn -> " a y\n a z\n""#;
 
 /// The rate is that of the latest second.
-const MEASURED: &str = r#"add 0 t -> Made(1)
+pub(crate) const MEASURED: &str = r#"add 0 t -> Made(1)
 init 1 100 items/s -> Done
 tick 0 -> Drawn -> " t 0/100 items [>----------------------]\n\u{1b}[1A"
 set 1 10 -> Done

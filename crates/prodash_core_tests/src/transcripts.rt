@@ -118,7 +118,7 @@ fn outcome_of(alloc: Global, session: &mut Session, event: &Event) -> Result<Str
 }
 
 /// Applies an event to a session, without a promise about the reply.
-fn applied(
+pub(crate) fn applied(
     alloc: Global,
     session: &mut Session,
     event: &Event,

@@ -1,0 +1,206 @@
+//! Screens that break after each byte of a run, and at each of its flushes.
+use crate::fixtures::{FakeScreen, TERMINAL, assert_same};
+use crate::runs::{MEASURED, RUNS, options};
+use crate::transcripts::{applied, events_of};
+use prodash_base::Refusal;
+use prodash_core::tree::{Event, Reply, Session, SessionOptions, run};
+use prodash_line::render::line::draw::{self, MemoryScreen, OverWrite, Screen};
+use std::alloc::Global;
+use std::io::{self, Error, ErrorKind, Write};
+use std::process::Abort;
+use std::test::Fail;
+
+/// An event of a run, and how many bytes the run has written after it.
+#[derive(Drop)]
+struct Step {
+    is_frame: bool,
+    reply: Reply,
+    end: usize,
+}
+
+/// A run on a screen that doesn't break.
+#[derive(Drop)]
+struct Whole {
+    events: Vec<Event>,
+    steps: Vec<Step>,
+    bytes: Vec<u8>,
+}
+
+/// Plays a transcript on a screen that doesn't break.
+fn play_whole(alloc: Global, options: &SessionOptions, transcript: &str) -> Result<Whole, Fail> {
+    let events = events_of(alloc, transcript)?;
+    let mut session = Session::new(alloc, options)?;
+    let mut screen = MemoryScreen::new(alloc, 0)?;
+    let mut steps = Vec::new(alloc);
+    for event in &events {
+        let reply = applied(alloc, &mut session, event, &mut screen);
+        steps.push(Step {
+            is_frame: event.is_frame(),
+            reply,
+            end: screen.bytes().len(),
+        })?;
+    }
+    let mut bytes = Vec::new(alloc);
+    bytes.extend_from_slice(screen.bytes())?;
+    Ok(Whole {
+        events,
+        steps,
+        bytes,
+    })
+}
+
+/// Asserts that a run has the first `taken` bytes of the whole one, and its replies. But the frames
+/// that end after `kept` bytes are broken.
+fn assert_broken(
+    rt: &impl Abort,
+    whole: &Whole,
+    replies: &[Reply],
+    bytes: &[u8],
+    taken: usize,
+    kept: usize,
+) {
+    let broken = Reply::Refused(Refusal::Broken);
+    assert_same(rt, Some(bytes), whole.bytes.get(..taken), kept);
+    assert_same(rt, replies.len(), whole.steps.len(), kept);
+    for (reply, step) in replies.iter().zip(whole.steps.iter()) {
+        let is_broken = step.is_frame && step.end > kept;
+        assert!(rt; *reply == *(if is_broken { &broken } else { &step.reply }));
+    }
+}
+
+/// Runs the events on a screen, without a promise about the replies.
+fn ran<S: Screen>(
+    alloc: Global,
+    options: &SessionOptions,
+    events: &[Event],
+    screen: &mut S,
+) -> Result<Vec<Reply>, Refusal> {
+    run(alloc, options, events, screen)
+}
+
+/// A writer that takes a byte at a time, until it has taken or flushed as often as it may.
+#[derive(Drop)]
+struct FailingWriter {
+    bytes: Vec<u8>,
+    writes_left: usize,
+    flushes_left: usize,
+    /// Whether it takes no byte then, in place of an error.
+    is_full: bool,
+}
+
+impl Write for FailingWriter {
+    fn write(&mut self, bytes: &[u8]) -> io::Result<usize> {
+        let taken = bytes.len().min(self.writes_left).min(1);
+        if taken == 0 && !self.is_full {
+            return Err(Error::from(ErrorKind::BrokenPipe));
+        }
+        self.bytes.extend_from_slice(&bytes[..taken])?;
+        self.writes_left -= taken;
+        Ok(taken)
+    }
+
+    fn flush(&mut self) -> io::Result<()> {
+        if self.flushes_left == 0 {
+            return Err(Error::from(ErrorKind::BrokenPipe));
+        }
+        self.flushes_left -= 1;
+        Ok(())
+    }
+}
+
+/// Asserts that a run on a screen that takes this many bytes ends as it should.
+fn assert_breaks_after(
+    rt: &impl Abort,
+    alloc: Global,
+    options: &SessionOptions,
+    whole: &Whole,
+    taken: usize,
+) -> Result<(), Fail> {
+    for at_once in [1, usize::MAX] {
+        let mut screen = FakeScreen::new(alloc, at_once, taken, true)?;
+        let replies = ran(alloc, options, &whole.events, &mut screen)?;
+        assert_broken(rt, whole, &replies, &screen.bytes, taken, taken);
+    }
+    for is_full in [false, true] {
+        let mut screen = OverWrite::new(FailingWriter {
+            bytes: Vec::new(alloc),
+            writes_left: taken,
+            flushes_left: usize::MAX,
+            is_full,
+        });
+        let replies = ran(alloc, options, &whole.events, &mut screen)?;
+        let writer = screen.into_inner();
+        assert_broken(rt, whole, &replies, &writer.bytes, taken, taken);
+    }
+    Ok(())
+}
+
+/// Asserts that a run on a screen that breaks at a flush, after this many before it, ends as it
+/// should. The frame that is then flushed has the bytes between `kept` and `taken`.
+fn assert_breaks_at_flush(
+    rt: &impl Abort,
+    alloc: Global,
+    options: &SessionOptions,
+    whole: &Whole,
+    flushes: usize,
+    (kept, taken): (usize, usize),
+) -> Result<(), Fail> {
+    let mut screen = OverWrite::new(FailingWriter {
+        bytes: Vec::new(alloc),
+        writes_left: usize::MAX,
+        flushes_left: flushes,
+        is_full: false,
+    });
+    let replies = ran(alloc, options, &whole.events, &mut screen)?;
+    let writer = screen.into_inner();
+    assert_broken(rt, whole, &replies, &writer.bytes, taken, kept);
+    Ok(())
+}
+
+/// Asserts that runs of a transcript end as they should on screens that break after each byte, and
+/// at each flush.
+fn assert_breaks(
+    rt: &impl Abort,
+    alloc: Global,
+    options: &SessionOptions,
+    transcript: &str,
+) -> Result<(), Fail> {
+    let whole = play_whole(alloc, options, transcript)?;
+    for taken in 0..whole.bytes.len() {
+        assert_breaks_after(rt, alloc, options, &whole, taken)?;
+    }
+    let (mut flushes, mut kept): (usize, usize) = (0, 0);
+    for step in &whole.steps {
+        if step.end > kept {
+            assert_breaks_at_flush(rt, alloc, options, &whole, flushes, (kept, step.end))?;
+            flushes = flushes.saturating_add(1);
+            kept = step.end;
+        }
+    }
+    Ok(())
+}
+
+#[test]
+fn runs_end_where_a_screen_breaks(rt: HostRuntime) -> Result<(), Fail> {
+    for transcript in RUNS {
+        assert_breaks(&rt, rt.alloc(), &options(20), transcript)?;
+    }
+    Ok(())
+}
+
+#[test]
+fn coloured_runs_end_where_a_screen_breaks(rt: HostRuntime) -> Result<(), Fail> {
+    let options = SessionOptions {
+        draw: draw::Options {
+            colored: true,
+            timestamp: true,
+            ..TERMINAL
+        },
+        throughput: true,
+        ..options(2)
+    };
+    for transcript in RUNS {
+        assert_breaks(&rt, rt.alloc(), &options, transcript)?;
+    }
+    assert_breaks(&rt, rt.alloc(), &options, MEASURED)
+}
