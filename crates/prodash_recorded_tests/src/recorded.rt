@@ -33,8 +33,8 @@ pub(crate) enum Work {
     AddFirst,
     /// Adds 3 to the step of the first task, that many times.
     Steps(u32),
-    /// Makes calls of many kinds.
-    Mixed,
+    /// Makes calls of many kinds, that many times.
+    Mixed(u32),
     /// Takes a snapshot.
     Snapshot,
     /// Adds the first task and drops it.
@@ -103,9 +103,24 @@ const EIGHT: &[Round] = &[
 const MIXED: &[Round] = &[
     Round {
         workers: 8,
-        work: Work::Mixed,
+        work: Work::Mixed(20),
         calls: 190,
         sum: 40,
+    },
+    Round {
+        workers: 1,
+        work: Work::Snapshot,
+        calls: 1,
+        sum: 0,
+    },
+];
+
+const CROWD: &[Round] = &[
+    Round {
+        workers: 64,
+        work: Work::Mixed(4),
+        calls: 38,
+        sum: 8,
     },
     Round {
         workers: 1,
@@ -153,6 +168,11 @@ fn eight_workers_have_one_journal(rt: HostRuntime) -> Result<(), Fail> {
 #[test]
 fn mixed_calls_have_one_journal(rt: HostRuntime) -> Result<(), Fail> {
     on_new_tree(rt, rt.alloc(), MIXED, 1521, Replay::Rows(240))
+}
+
+#[test]
+fn a_crowd_has_one_journal(rt: HostRuntime) -> Result<(), Fail> {
+    on_new_tree(rt, rt.alloc(), CROWD, 2433, Replay::Rows(384))
 }
 
 #[test]
@@ -308,14 +328,16 @@ messages
 add task part
 inc task 2";
 
-/// Makes a call of each kind that changes a task of its own, and of some that read.
+/// Makes a call of each kind that changes a task of its own, and of some that read, this many times.
+/// Every second task is dropped.
 fn call_mixed<C: TreeLedger, S: Ledger, R: Wait + Abort>(
     rt: &R,
     alloc: Global,
     item: &mut RecordedItem<C, S>,
     receipts: &mut Vec<Receipt<C>>,
+    times: u32,
 ) -> Result<(), Refusal> {
-    for round in 0..20u32 {
+    for round in 0..times {
         let task = Task {
             item: add(rt, alloc, item, receipts)?,
             now: 0,
@@ -392,7 +414,7 @@ fn do_work<C: TreeLedger, S: Ledger, R: Wait + Abort>(
         Work::Nothing => Ok(()),
         Work::AddFirst => add_first(rt, alloc, item, receipts),
         Work::Steps(each) => call_steps(rt, alloc, item, receipts, each),
-        Work::Mixed => call_mixed(rt, alloc, item, receipts),
+        Work::Mixed(times) => call_mixed(rt, alloc, item, receipts, times),
         Work::Snapshot => call_lines(rt, alloc, item, receipts, NO_TASK, "snapshot"),
         Work::AddAndDrop => add_and_drop(rt, alloc, item, receipts),
         Work::CallDropped => {
