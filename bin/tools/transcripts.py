@@ -20,7 +20,13 @@ SECONDS, BYTES = 60, 1 << 20
 COMMAND, MORE, OUTPUT = "  $ ", "  > ", "  "
 # Scripts that the path has too.
 TOOLS = os.path.dirname(os.path.realpath(__file__))
-SCRIPTS = {"build-failures": f"{TOOLS}/build-failures", "relay": f"{TOOLS}/relay.py"}
+TOP = os.path.dirname(os.path.dirname(TOOLS))
+SCRIPTS = {
+    "build-failures": f"{TOOLS}/build-failures",
+    "install-prodash": f"{TOP}/bin/install",
+    "many-hosts": f"{TOP}/examples/many_hosts.sh",
+    "relay": f"{TOOLS}/relay.py",
+}
 SHORT = {"\\": "\\\\", "\r": "\\r", "\t": "\\t"}
 
 
@@ -93,10 +99,11 @@ def outputs(end, pipe, count):
         yield output, status
 
 
-def run(commands, programs):
+def run(commands, programs, **variables):
     """Runs commands in a new folder, and returns the lines that each writes.
 
-    The path begins with these programs, by name, and the scripts.
+    The path begins with these programs, by name, and the scripts. The environment has these
+    variables.
     """
     mark = f"end-of-command-{os.urandom(8).hex()}"
     end = re.compile(rb"%s (\d+)\n" % mark.encode())
@@ -107,7 +114,7 @@ def run(commands, programs):
             os.symlink(path, f"{room}/bin/{name}")
         with open(f"{room}/script", "w", encoding="utf-8") as it:
             it.writelines(f"{command.text()}echo {mark} $?\n" for command in commands)
-        env = {"PATH": f"{room}/bin:{os.environ['PATH']}", "LC_ALL": "C"}
+        env = {"PATH": f"{room}/bin:{os.environ['PATH']}", "LC_ALL": "C", **variables}
         how = {"cwd": f"{room}/work", "env": env, "stdin": subprocess.DEVNULL}
         how |= {"stdout": subprocess.PIPE, "stderr": subprocess.STDOUT}
         with subprocess.Popen(["sh", f"{room}/script"], start_new_session=True, **how) as shell:
@@ -123,13 +130,13 @@ def run(commands, programs):
     return written
 
 
-def play(path, programs):
+def play(path, programs, **variables):
     """Runs a transcript, prints how it differs, and returns how many commands passed and failed."""
     with open(path, encoding="utf-8") as it:
         lines = it.readlines()
     parts = read(lines)
     commands = [it for it in parts if isinstance(it, Command)]
-    written = run(commands, programs)
+    written = run(commands, programs, **variables)
     wrote, played = iter(written), []
     for it in parts:
         played += [*it.lines, *next(wrote)] if isinstance(it, Command) else [it]

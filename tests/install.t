@@ -1,0 +1,43 @@
+Installed programs
+==================
+
+bin/install is `install-prodash` here. What it installs runs from a folder that was moved, with
+nothing but Python in the path.
+
+  $ install-prodash $HOW prefix
+  $ find prefix -type f | sort
+  prefix/bin/prodash-live
+  prefix/bin/prodash-replay
+  prefix/lib/prodash/live.py
+  prefix/lib/prodash/prodash-live
+  prefix/lib/prodash/relay.py
+  $ mv prefix moved
+  $ alone() { env -i PATH="$(dirname "$(command -v python3)"):/usr/bin:/bin" "$@"; }
+  $ printf 'add @a 0 alpha\ninfo @a 0 one\n' | alone moved/bin/prodash-live --stdout
+   alpha one
+  $ printf 'add 0 task\ninit 1 10 -\nset 1 3\ntick 0\n' | alone moved/bin/prodash-replay page 40 2
+   task 3/10 [=======>-------------------]
+  
+  $ alone moved/bin/prodash-live --version | sed -E 's/[0-9a-f]{40}.*/../'
+  prodash-live 31.0.1
+  built from commit ..
+
+A program that is in use is replaced.
+
+  $ mkfifo lines
+  $ alone moved/bin/prodash-live --stdout <lines >output &
+  $ exec 3>lines
+  $ printf 'add @a 0 alpha\ninfo @a 0 one\n' >&3
+  $ until grep -q one output; do sleep 0.01; done
+  $ install-prodash $HOW moved
+  $ exec 3>&-
+  $ wait $!
+  $ cat output
+   alpha one
+
+A folder that can't be made.
+
+  $ touch file
+  $ install-prodash $HOW file/it
+  install: file/it: Not a directory
+  [1]
