@@ -1,0 +1,25 @@
+Jobs on several hosts
+=====================
+
+examples/many_hosts.sh is `many-hosts` here. `reach` runs its job on this machine, whatever the host.
+
+  $ printf '#!/bin/sh\nexec sh -c "$2"\n' >reach
+  $ chmod +x reach
+  $ REACH=./reach many-hosts one two >lines
+  $ grep -v -e ^init -e ^set lines | sort
+  add @one 0 one
+  add @one-copy @one copy
+  add @two 0 two
+  add @two-copy @two copy
+  done @one-copy - copied
+  done @two-copy - copied
+  drop @one
+  drop @one-copy
+  drop @two
+  drop @two-copy
+
+No line is faulty, and each host has sent its message.
+
+  $ prodash-live --stdout --strict <lines
+   copy copied
+   copy copied
