@@ -106,7 +106,13 @@ def ready(name, stderr_is_output=False):
 
 
 def run(name, words, stderr_is_output=False):
-    """Runs a program with these words in place of this one, or returns a status if it isn't built."""
+    """Runs a program with these words in place of this one, or returns a status if it isn't built.
+
+    Asked for help it prints what the script of the program says.
+    """
+    if words in (["-h"], ["--help"]):
+        print(sys.modules["__main__"].__doc__.strip())
+        return 0
     program = ready(name, stderr_is_output)
     if program is None:
         return 1
