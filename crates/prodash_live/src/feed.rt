@@ -1,13 +1,14 @@
 //! The lines of an input, applied as they come.
+use crate::backlog::Backlog;
 use crate::items::Items;
 use prodash::Refusal;
 use prodash::time::Clock;
+use prodash::tree::Event;
 use prodash_programs::Fault;
 use prodash_script::{Lines, Next, Request, request_of};
 use std::alloc::Global;
 use std::io::Read;
 use std::sync::Wait;
-use std::sync::atomic::{AtomicBool, Ordering};
 
 /// Applies each line of an input. A faulty line is reported in a message, or ends the program if it
 /// is strict. Returns the number of faulty lines.
@@ -17,11 +18,12 @@ use std::sync::atomic::{AtomicBool, Ordering};
 /// The fault that ended it: a faulty line if the program is strict, the input, the output, or
 /// memory.
 pub fn feed_lines<R: Wait + Clone + Drop, I: Read + Drop, K: Clock>(
+    rt: &R,
     alloc: Global,
     input: I,
     clock: &K,
     items: &mut Items<R>,
-    is_broken: &AtomicBool,
+    backlog: &mut Backlog,
     is_strict: bool,
 ) -> Result<u64, Fault> {
     let mut lines = Lines::new(alloc, input);
@@ -36,9 +38,15 @@ pub fn feed_lines<R: Wait + Clone + Drop, I: Read + Drop, K: Clock>(
             Next::TooLong => Some(Fault::Line(number)),
             // `set 1 10` may be the beginning of `set 1 100`
             Next::CutOff => Some(Fault::CutOff(number)),
-            Next::Line => line(alloc, lines.line(), clock, items, number)?,
+            Next::Line => {
+                let request = request_of(alloc, items.names(), clock.now(), lines.line())?;
+                if is_message(&request) && items.has_root() {
+                    backlog.make_room(rt, clock);
+                }
+                serve(alloc, items, request, number)?
+            }
         };
-        if is_broken.load(Ordering::SeqCst) {
+        if backlog.is_broken() {
             return Err(Fault::Output);
         }
         let Some(fault) = fault else {
@@ -49,20 +57,26 @@ pub fn feed_lines<R: Wait + Clone + Drop, I: Read + Drop, K: Clock>(
         }
         faults = faults.saturating_add(1);
         let text = format!(in alloc; "{fault}")?;
+        if items.has_root() {
+            backlog.make_room(rt, clock);
+        }
         items.say(alloc, clock.now(), text.as_str())?;
     }
     Ok(faults)
 }
 
-/// Applies a line. Returns its fault, if it has one.
-fn line<R: Wait + Clone + Drop, K: Clock>(
+/// Returns whether a line sends a message.
+fn is_message(request: &Request) -> bool {
+    matches!(request, Request::Apply(Event::Message { .. }))
+}
+
+/// Does what a line asks for. Returns its fault, if it has one.
+fn serve<R: Wait + Clone + Drop>(
     alloc: Global,
-    bytes: &[u8],
-    clock: &K,
     items: &mut Items<R>,
+    request: Request,
     number: u64,
 ) -> Result<Option<Fault>, Fault> {
-    let request = request_of(alloc, items.names(), clock.now(), bytes)?;
     if let Request::Fault = request {
         return Ok(Some(Fault::Line(number)));
     }

@@ -40,6 +40,11 @@ impl<R: Wait + Clone + Drop> Items<R> {
         &self.names
     }
 
+    /// Returns whether the tree has its root. Without it no frame is drawn.
+    pub fn has_root(&self) -> bool {
+        self.root.is_some()
+    }
+
     /// Does what a line asks for.
     ///
     /// # Errors

@@ -1,11 +1,12 @@
 //! Shows progress on a terminal from the event lines of standard input, as they come.
 #![tactic(auto)]
 
+mod backlog;
 mod feed;
 mod items;
 mod options;
+mod output;
 mod program;
-mod watched;
 
 use options::{Environment, Options};
 use prodash::time::SystemClock;

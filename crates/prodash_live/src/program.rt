@@ -1,20 +1,17 @@
 //! The whole program over a reader, a writer and a clock.
+use crate::backlog::{Backlog, MESSAGES};
 use crate::feed::feed_lines;
 use crate::items::Items;
 use crate::options::Options;
-use crate::watched::Watched;
+use crate::output::{OutputState, PromptClock, Watched};
 use prodash::render::line::render;
 use prodash::time::Clock;
 use prodash::tree::root;
 use prodash_programs::Fault;
 use std::alloc::Global;
 use std::io::{Read, Write};
-use std::sync::atomic::{AtomicBool, Ordering};
 use std::sync::{Arc, Wait};
 use std::thread::Threads;
-
-/// The maximum number of messages that are kept between two frames.
-const MESSAGES: usize = 4096;
 
 /// Shows the events of `input` on `out` until the input ends. Returns the number of faulty
 /// lines.
@@ -36,32 +33,40 @@ pub fn live<
     options: Options,
     is_terminal: bool,
 ) -> Result<u64, Fault> {
-    let is_broken = Arc::new(alloc, AtomicBool::new(false))?;
-    let out = Watched::new(out, Arc::try_clone(&is_broken)?);
+    let output = Arc::new(alloc, OutputState::new())?;
     let root = root::Options {
         message_buffer_capacity: MESSAGES,
         ..root::Options::default()
     }
     .create(rt.clone()?, alloc)?;
-    let handle = render(
-        rt,
-        alloc,
-        out,
-        root.downgrade()?,
+    let rendering = options.render(is_terminal);
+    let prompt = PromptClock::new(
         Arc::try_clone(&clock)?,
-        options.render(is_terminal),
+        Arc::try_clone(&output)?,
+        rendering.nanoseconds_per_frame,
+    );
+    let handle = render(
+        rt.clone()?,
+        alloc,
+        Watched::new(out, Arc::try_clone(&output)?),
+        root.downgrade()?,
+        Arc::new(alloc, prompt)?,
+        rendering,
     )?;
     let mut items = Items::new(alloc, root);
+    let mut backlog = Backlog::new(Arc::try_clone(&output)?);
+    let is_strict = options.is_strict;
     let fed = feed_lines(
+        &rt,
         alloc,
         input,
         &*clock,
         &mut items,
-        &is_broken,
-        options.is_strict,
+        &mut backlog,
+        is_strict,
     );
     handle.shutdown_and_wait();
-    if is_broken.load(Ordering::SeqCst) {
+    if output.is_broken() {
         return Err(Fault::Output);
     }
     fed

@@ -1,0 +1,66 @@
+//! Messages that no frame has printed yet. The reader waits for one before too many are kept, so
+//! that none is lost.
+use crate::output::OutputState;
+use prodash::time::Clock;
+use std::sync::{Arc, Wait};
+
+/// The maximum number of messages that the tree keeps.
+pub const MESSAGES: usize = 8192;
+
+/// How many messages are sent after a frame before the next one is awaited. Those that were sent
+/// while a frame was drawn may be new to the next one, so the messages after two frames are kept.
+const BURST: u64 = 4095;
+
+/// The nanoseconds between two looks at whether a frame was written.
+const PAUSE: u64 = 1_000_000;
+
+/// The messages that were sent since the latest frame that the reader has seen.
+#[derive(Drop)]
+pub struct Backlog {
+    output: Arc<OutputState>,
+    /// How many frames were written then.
+    frames: u64,
+    sent: u64,
+}
+
+impl Backlog {
+    /// Returns the backlog of an output, before any message.
+    pub fn new(output: Arc<OutputState>) -> Backlog {
+        Backlog {
+            output,
+            frames: 0,
+            sent: 0,
+        }
+    }
+
+    /// Returns whether the output is broken.
+    pub fn is_broken(&self) -> bool {
+        self.output.is_broken()
+    }
+
+    /// Waits until one more message can be kept, or until the output is broken.
+    pub fn make_room<R: Wait, K: Clock>(&mut self, rt: &R, clock: &K) {
+        if !self.begins_anew() && self.sent >= BURST {
+            self.output.set_awaited(true);
+            for _ in rt.forever() {
+                if self.begins_anew() || self.is_broken() {
+                    break;
+                }
+                clock.sleep(PAUSE);
+            }
+            self.output.set_awaited(false);
+        }
+        self.sent = self.sent.saturating_add(1);
+    }
+
+    /// Returns whether a frame was written since the last look. Messages are counted from 0 then.
+    fn begins_anew(&mut self) -> bool {
+        let frames = self.output.frames();
+        if frames == self.frames {
+            return false;
+        }
+        self.frames = frames;
+        self.sent = 0;
+        true
+    }
+}

@@ -1,0 +1,122 @@
+//! What the reader of the lines and the threads of the renderer tell each other.
+use prodash::time::{Clock, Moment};
+use std::io;
+use std::io::Write;
+use std::sync::Arc;
+use std::sync::atomic::{AtomicBool, AtomicU64, Ordering};
+
+/// The state of the output.
+#[derive(Drop)]
+pub struct OutputState {
+    /// How often it was flushed, which each frame that has bytes does once.
+    frames: AtomicU64,
+    is_broken: AtomicBool,
+    /// Whether the reader waits for a frame.
+    is_awaited: AtomicBool,
+}
+
+impl OutputState {
+    /// Returns the state of an output that no frame was written to.
+    pub fn new() -> OutputState {
+        OutputState {
+            frames: AtomicU64::new(0),
+            is_broken: AtomicBool::new(false),
+            is_awaited: AtomicBool::new(false),
+        }
+    }
+
+    /// Returns how many frames were written.
+    pub fn frames(&self) -> u64 {
+        self.frames.load(Ordering::SeqCst)
+    }
+
+    /// Returns whether a write or a flush has failed.
+    pub fn is_broken(&self) -> bool {
+        self.is_broken.load(Ordering::SeqCst)
+    }
+
+    /// Says whether a frame is awaited.
+    pub fn set_awaited(&self, is_awaited: bool) {
+        self.is_awaited.store(is_awaited, Ordering::SeqCst);
+    }
+}
+
+/// Forwards all calls to a writer, counts its flushes, and records whether a call failed or wrote
+/// nothing.
+#[derive(Drop)]
+pub struct Watched<O: Write + Drop> {
+    out: O,
+    state: Arc<OutputState>,
+}
+
+impl<O: Write + Drop> Watched<O> {
+    /// Returns a writer that keeps the state up to date.
+    pub fn new(out: O, state: Arc<OutputState>) -> Watched<O> {
+        Watched { out, state }
+    }
+}
+
+impl<O: Write + Drop> Write for Watched<O> {
+    fn write(&mut self, buf: &[u8]) -> io::Result<usize> {
+        let written = self.out.write(buf);
+        let is_taken = matches!(&written, Ok(count) if *count > 0 || buf.is_empty());
+        if !is_taken {
+            self.state.is_broken.store(true, Ordering::SeqCst);
+        }
+        written
+    }
+
+    fn flush(&mut self) -> io::Result<()> {
+        let flushed = self.out.flush();
+        if flushed.is_ok() {
+            self.state.frames.fetch_add(1, Ordering::SeqCst);
+        } else {
+            self.state.is_broken.store(true, Ordering::SeqCst);
+        }
+        flushed
+    }
+}
+
+/// How long a frame that is awaited may be late, in nanoseconds.
+const TURN: u64 = 4_000_000;
+
+/// A clock that wakes the renderer early if a frame is awaited.
+#[derive(Drop)]
+pub struct PromptClock<K: Clock + Drop> {
+    clock: Arc<K>,
+    state: Arc<OutputState>,
+    /// The nanoseconds between frames.
+    frame: u64,
+}
+
+impl<K: Clock + Drop> PromptClock<K> {
+    /// Returns the clock for a renderer with so many nanoseconds between frames. A longer sleep,
+    /// as the delay before the first rows, isn't cut short.
+    pub fn new(clock: Arc<K>, state: Arc<OutputState>, frame: u64) -> PromptClock<K> {
+        PromptClock {
+            clock,
+            state,
+            frame,
+        }
+    }
+}
+
+impl<K: Clock + Drop> Clock for PromptClock<K> {
+    fn now(&self) -> Moment {
+        self.clock.now()
+    }
+
+    fn sleep(&self, nanoseconds: u64) {
+        if nanoseconds > self.frame {
+            self.clock.sleep(nanoseconds);
+            return;
+        }
+        for _ in 0..nanoseconds / TURN {
+            self.clock.sleep(TURN);
+            if self.state.is_awaited.load(Ordering::SeqCst) {
+                return;
+            }
+        }
+        self.clock.sleep(nanoseconds % TURN);
+    }
+}

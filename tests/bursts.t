@@ -1,0 +1,33 @@
+Bursts of messages
+==================
+
+No message is lost, however many come between two frames, and they stay in order. The reader of the
+frames is late here, and so are they.
+
+  $ burst() { echo 'add @a 0 a'; seq 20000 | sed 's/^/info @a 0 /; s/$/ of a burst of messages/'; }
+  $ late() { sleep 2; cat; }
+  $ seq 20000 | sed 's/^/ a /; s/$/ of a burst of messages/' >expected
+  $ burst | timeout 30 prodash-live --stdout --fps 1 | late | cmp expected -
+
+On a terminal too. Rows are as late as they are asked to be.
+
+  $ as_on_a_terminal() {
+  >   timeout 30 prodash-live --stdout --fps 1 --no-color --terminal always --delay 86400000
+  > }
+  $ burst | as_on_a_terminal | late >output
+  $ grep -o ' a [0-9][0-9]* of a burst of messages' output | cmp expected -
+  $ grep -c '\[1A' output
+  0
+  [1]
+
+Faulty lines are messages too.
+
+  $ yes nothing | head -n 20000 | timeout 30 prodash-live --stdout --fps 1 | late >output
+  $ seq 20000 | sed 's/.*/ input line &: not an event/' | cmp output -
+
+No frame is awaited where none comes: of an output that is broken, or of a tree without its root.
+
+  $ burst | timeout 30 prodash-live --stdout --fps 1 >/dev/full
+  output is broken
+  [1]
+  $ burst | sed '1adroproot' | timeout 30 prodash-live --stdout --fps 1
