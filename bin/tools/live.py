@@ -23,7 +23,15 @@ def draws_on_stdout(words):
     return "--stdout" in words
 
 
+def says_size(words):
+    """Returns whether an option or the environment says the size of the terminal."""
+    options = any(it.partition("=")[0] in ("--columns", "--rows") for it in words)
+    return options or relay.has_size()
+
+
 def run(program, words):
     """Runs the program at this path with these words, and returns its status."""
-    set_size(1 if draws_on_stdout(words) else 2)
-    return relay.run(program, ["prodash-live", *words])
+    terminal = 1 if draws_on_stdout(words) else 2
+    follows_size = not says_size(words)
+    set_size(terminal)
+    return relay.run(program, ["prodash-live", *words], terminal, follows_size)

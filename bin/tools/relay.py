@@ -7,6 +7,8 @@ The program gets no signal of the terminal, so it isn't ended before its input i
   input. The terminal doesn't echo `^C`, which would move what is drawn.
 - SIGTERM and SIGHUP end the input, after the lines that are there already. A line that isn't whole
   is left out. A second one kills the program.
+- After SIGWINCH the program gets a line `size COLUMNS ROWS`, with the size of its terminal, unless
+  COLUMNS or LINES says the size from the start.
 
 The status is the program's, or 128 and the number of the signal that ended it.
 """
@@ -25,11 +27,11 @@ READ = 65536
 class Relay:
     """Lines on their way from standard input to a program."""
 
-    def __init__(self, to):
-        self.to = to
+    def __init__(self, to, terminal):
+        self.to, self.terminal = to, terminal
         # What can be written, and the beginning of a line.
         self.lines, self.rest = memoryview(b""), b""
-        self.is_over = False
+        self.is_over = self.is_within_line = False
 
     def read(self):
         """Reads what is there, or notes that there is no more."""
@@ -46,12 +48,22 @@ class Relay:
             # no line is as long as this
             whole, feed, rest = whole + feed + rest, b"", b""
         self.lines, self.rest = memoryview(bytes(self.lines) + whole + feed), rest
+        if whole or feed:
+            self.is_within_line = not feed
 
     def end(self):
         """Reads the lines that are there already, and no more."""
         if select.select([0], [], [], 0)[0]:
             self.read()
         self.is_over = True
+
+    def resize(self):
+        """Adds a line with the size of the terminal, if it has one, behind the lines so far."""
+        with contextlib.suppress(OSError):
+            size = os.get_terminal_size(self.terminal)
+            if size.columns and size.lines and not self.is_within_line:
+                line = f"size {size.columns} {size.lines}\n".encode()
+                self.lines = memoryview(bytes(self.lines) + line)
 
     def write(self):
         """Writes as much as a pipe that has room takes without a wait."""
@@ -69,8 +81,11 @@ class Relay:
             if ready.get(self.to, 0) & select.POLLERR:
                 break
             if woken in ready:
-                os.read(woken, READ)
-                self.end()
+                signals = set(os.read(woken, READ))
+                if signal.SIGWINCH in signals:
+                    self.resize()
+                if signals - {signal.SIGWINCH}:
+                    self.end()
             elif self.to in ready:
                 self.write()
             elif 0 in ready:
@@ -106,8 +121,18 @@ def no_carets(stream):
                 termios.tcsetattr(stream, termios.TCSANOW, before)
 
 
-def run(program, words):
-    """Runs a program with these words, the first of which is its name. Returns the status."""
+def has_size():
+    """Returns whether the environment says a size of the terminal."""
+    return "COLUMNS" in os.environ or "LINES" in os.environ
+
+
+def run(program, words, terminal=2, follows_size=None):
+    """Runs a program with these words, the first of which is its name. Returns the status.
+
+    `terminal` is the stream that it draws on. Its size is followed, unless the environment says one.
+    """
+    if follows_size is None:
+        follows_size = not has_size()
     if not can_be_read():
         # it says so
         os.execvp(program, words)
@@ -128,7 +153,9 @@ def run(program, words):
         signal.set_wakeup_fd(wakes)
         for it in ends:
             signal.signal(it, end)
-        Relay(child.stdin.fileno()).run(woken)
+        if follows_size:
+            signal.signal(signal.SIGWINCH, lambda *_: None)
+        Relay(child.stdin.fileno(), terminal).run(woken)
         child.stdin.close()
         status = child.wait()
     return status if status >= 0 else 128 - status

@@ -26,6 +26,7 @@ SCRIPTS = {
     "install-prodash": f"{TOP}/bin/install",
     "many-hosts": f"{TOP}/examples/many_hosts.sh",
     "relay": f"{TOOLS}/relay.py",
+    "resize": f"{TOP}/tests/scripts/resize.py",
 }
 SHORT = {"\\": "\\\\", "\r": "\\r", "\t": "\\t"}
 

@@ -1,7 +1,7 @@
 //! Shows progress on a terminal from the event lines of standard input, as they come.
 #![tactic(auto)]
 
-mod backlog;
+mod display;
 mod feed;
 mod items;
 mod options;

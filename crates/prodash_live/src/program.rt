@@ -1,5 +1,5 @@
 //! The whole program over a reader, a writer and a clock.
-use crate::backlog::{Backlog, MESSAGES};
+use crate::display::{Display, MESSAGES};
 use crate::feed::feed_lines;
 use crate::items::Items;
 use crate::options::Options;
@@ -54,7 +54,7 @@ pub fn live<
         rendering,
     )?;
     let mut items = Items::new(alloc, root);
-    let mut backlog = Backlog::new(Arc::try_clone(&output)?);
+    let mut display = Display::new(handle, Arc::try_clone(&output)?);
     let is_strict = options.is_strict;
     let fed = feed_lines(
         &rt,
@@ -62,10 +62,10 @@ pub fn live<
         input,
         &*clock,
         &mut items,
-        &mut backlog,
+        &mut display,
         is_strict,
     );
-    handle.shutdown_and_wait();
+    display.close();
     if output.is_broken() {
         return Err(Fault::Output);
     }

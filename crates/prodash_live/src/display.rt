@@ -1,8 +1,10 @@
-//! Messages that no frame has printed yet. The reader waits for one before too many are kept, so
-//! that none is lost.
+//! The renderer, and the messages that it has not printed yet. The reader waits for a frame before
+//! too many are kept, so that none is lost.
 use crate::output::OutputState;
+use prodash::render::line::JoinHandle;
 use prodash::time::Clock;
 use std::sync::{Arc, Wait};
+use std::thread::Threads;
 
 /// The maximum number of messages that the tree keeps.
 pub const MESSAGES: usize = 8192;
@@ -14,19 +16,21 @@ const BURST: u64 = 4095;
 /// The nanoseconds between two looks at whether a frame was written.
 const PAUSE: u64 = 1_000_000;
 
-/// The messages that were sent since the latest frame that the reader has seen.
+/// A renderer, and the messages that were sent since the latest frame that the reader has seen.
 #[derive(Drop)]
-pub struct Backlog {
+pub struct Display<R: Wait + Threads + Clone + Drop> {
+    handle: JoinHandle<R>,
     output: Arc<OutputState>,
     /// How many frames were written then.
     frames: u64,
     sent: u64,
 }
 
-impl Backlog {
-    /// Returns the backlog of an output, before any message.
-    pub fn new(output: Arc<OutputState>) -> Backlog {
-        Backlog {
+impl<R: Wait + Threads + Clone + Drop> Display<R> {
+    /// Returns the display of a renderer on an output, before any message.
+    pub fn new(handle: JoinHandle<R>, output: Arc<OutputState>) -> Display<R> {
+        Display {
+            handle,
             output,
             frames: 0,
             sent: 0,
@@ -38,8 +42,13 @@ impl Backlog {
         self.output.is_broken()
     }
 
+    /// Sets the columns and the rows of the terminal.
+    pub fn resize(&self, columns: u16, rows: u16) {
+        self.handle.resize(columns, rows);
+    }
+
     /// Waits until one more message can be kept, or until the output is broken.
-    pub fn make_room<R: Wait, K: Clock>(&mut self, rt: &R, clock: &K) {
+    pub fn make_room<K: Clock>(&mut self, rt: &R, clock: &K) {
         if !self.begins_anew() && self.sent >= BURST {
             self.output.set_awaited(true);
             for _ in rt.forever() {
@@ -62,5 +71,11 @@ impl Backlog {
         self.frames = frames;
         self.sent = 0;
         true
+    }
+
+    /// Draws the last frames, and ends the renderer.
+    pub fn close(self) {
+        let Display { handle, .. } = self;
+        handle.shutdown_and_wait();
     }
 }
