@@ -30,6 +30,7 @@ Lines that are no size.
   $ resize relay prodash-live --no-color --columns 40
   40 columns
   30 columns
+  4/10
   $ COLUMNS=40 timeout 2 resize relay prodash-live --no-color
   40 columns
   [124]

@@ -35,6 +35,12 @@ def main():
         while row not in shown:
             shown += os.read(ours, 4096)
         print(f"{columns} columns", flush=True)
+    # the input goes on
+    command.stdin.write(b"set @a 4\n")
+    command.stdin.flush()
+    while b" task 4/10" not in shown:
+        shown += os.read(ours, 4096)
+    print("4/10", flush=True)
     command.stdin.close()
     return command.wait()
 
