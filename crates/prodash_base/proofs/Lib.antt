@@ -9,8 +9,12 @@ pub mod WorkedPaths
 pub mod Prefixes
 pub mod Digits
 pub mod WorkedTexts
-pub mod MapViews
+pub mod PathMaps
+pub mod GhostStructs
 pub mod SampleLaws
+pub mod Summarizing
+pub mod KeptTables
+pub mod ListedRows
 pub mod WorkedSamples
 pub mod WorkedTrackers
 pub mod DayNumbers

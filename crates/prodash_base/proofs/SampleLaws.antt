@@ -1,11 +1,10 @@
--- What the rate needs of the observations: the samples after the last mark, and the rate so far.
-use Rattle.std.proofs.Common.{◌≡◌, ℕ, zero, suc, ◌+◌, ◌*◌, ◌/◌, ◌%◌, ◌-◌, ◌<◌, ◌≤◌, Bool, true, false, cond, List, [], ◌∷◌, Some, None, refl, sym, ap, ◌∙◌, arith, ◌||◌}
-use Rattle.std.specs.Prelude.{nat_lt, nat_le, ◌⊎◌}
-use Rattle.std.proofs.Common.{inl, inr, take, length, length-drop, drop, get_or, drop-cons, add-one}
+-- Samples: those after the last mark, and those that a rate is taken over.
+use Rattle.std.proofs.Common.{◌≡◌, ℕ, zero, suc, ◌+◌, ◌*◌, ◌/◌, ◌%◌, ◌-◌, ◌<◌, ◌≤◌, Bool, true, false, cond, List, [], ◌∷◌, ◌++◌, refl, sym, ap, ◌∙◌, arith, ◌||◌}
+use Rattle.std.specs.Prelude.{nat_lt, ◌⊎◌}
+use Rattle.std.proofs.Common.{inl, inr, take, length, drop}
 use Rattle.std.proofs.Math.Nat.{mul-add-div_right, div-add-mod}
 use Rattle.std.proofs.lemmas.Bool.Decides.{nat_tests}
-use Rattle.prodash_base.specs.Samples.{one_second, duration, samples_of, after_mark, to_mark, latest_over, rate_at, sample_of, per_second, IsShortestOver}
-use Rattle.prodash_base.specs.declared.throughput.sample.Observation.{Observation}
+use Rattle.prodash_base.specs.Samples.{one_second, duration, after_mark, latest_over, IsShortestOver}
 use Rattle.prodash_base.specs.declared.throughput.sample.Sample.{Sample}
 
 pub not_below : (m n : ℕ) → nat_lt m n ≡ false → n ≤ m
@@ -14,39 +13,11 @@ not_below m n e = grind (arith, nat_tests)
 pub is_below : (m n : ℕ) → nat_lt m n ≡ true → m < n
 is_below m n e = grind (arith, nat_tests)
 
-pub length-samples_of : (observations : List Observation) → length (samples_of observations) ≡ length observations
-length-samples_of [] = refl
-length-samples_of (o ∷ older) = ap suc (length-samples_of older)
-
 pub drop_past : {A : Type 0} (xs : List A) (n : ℕ) → length xs ≤ n → drop n xs ≡ []
 drop_past [] zero h = refl
 drop_past [] (suc n) h = refl
 drop_past (x ∷ xs) zero h = absurd (omega arith)
 drop_past (x ∷ xs) (suc n) h = drop_past xs n (omega arith)
-
-pub drop-samples_of : (observations : List Observation) (n : ℕ) → drop n (samples_of observations) ≡ samples_of (drop n observations)
-drop-samples_of [] zero = refl
-drop-samples_of [] (suc n) = refl
-drop-samples_of (o ∷ older) zero = refl
-drop-samples_of (o ∷ older) (suc n) = drop-samples_of older n
-
--- the observation at an index, and those before it
-pub drop_at : {A : Type 0} (xs : List A) (n : ℕ) (x : A) → n < length xs → x ≡ get_or xs n x → drop n xs ≡ x ∷ drop (n + 1) xs
-drop_at xs n x h e = rw add-one (drop-cons xs n x h ∙ ap (λ y. y ∷ drop (suc n) xs) (sym e))
-
--- the sample of the observation at an index
-pub sample_at-last : (observations : List Observation) (n : ℕ) (o : Observation) → n < length observations → o ≡ get_or observations n o → length observations ≤ n + 1
-    → drop n (samples_of observations) ≡ record { elapsed = o.elapsed; change = o.value } ∷ drop (n + 1) (samples_of observations)
-sample_at-last observations n o h e past =
-    let none : drop (n + 1) observations ≡ [] = drop_past observations (n + 1) past in
-    drop-samples_of observations n ∙ ap samples_of (drop_at observations n o h e ∙ ap (λ xs. o ∷ xs) none) ∙ ap (λ xs. sample_of o [] ∷ xs) (sym (drop-samples_of observations (n + 1) ∙ ap samples_of none))
-
-pub sample_at-older : (observations : List Observation) (n : ℕ) (o p : Observation) → n < length observations → o ≡ get_or observations n o → n + 1 < length observations → p ≡ get_or observations (n + 1) p
-    → drop n (samples_of observations) ≡ record { elapsed = o.elapsed; change = o.value - p.value } ∷ drop (n + 1) (samples_of observations)
-sample_at-older observations n o p h e k f =
-    let next : drop (n + 1) observations ≡ p ∷ drop (n + 1 + 1) observations = drop_at observations (n + 1) p k f in
-    drop-samples_of observations n ∙ ap samples_of (drop_at observations n o h e ∙ ap (λ xs. o ∷ xs) next)
-    ∙ ap (λ xs. sample_of o (p ∷ drop (n + 1 + 1) observations) ∷ xs) (sym (drop-samples_of observations (n + 1) ∙ ap samples_of next))
 
 -- what is over a span, of samples that are over it together, is over it
 pub latest_over-over : (span : ℕ) (samples : List Sample) → span < duration samples → span < duration (latest_over span samples)
@@ -73,24 +44,6 @@ left_over-done taken samples h =
       | false ↦ λ e. absurd (omega (arith, not_below one_second taken e))
     ] refl
 
-still : (taken more : ℕ) (older : List Sample) → taken ≤ one_second → more ≤ one_second - taken → latest_over (one_second - taken - more) older ≡ left_over (taken + more) older
-still taken more older h low =
-    elim (nat_lt one_second (taken + more)) as (λ b. nat_lt one_second (taken + more) ≡ b → latest_over (one_second - taken - more) older ≡ cond b [] (latest_over (one_second - (taken + more)) older)) [
-      | true ↦ λ e. absurd (omega (arith, low, is_below one_second (taken + more) e))
-      | false ↦ λ e. let same : one_second - taken - more ≡ one_second - (taken + more) = omega arith in ap (λ n. latest_over n older) same
-    ] refl
-
-pub left_over-step : (taken : ℕ) (s : Sample) (older : List Sample) → taken ≤ one_second → left_over taken (s ∷ older) ≡ s ∷ left_over (taken + s.elapsed) older
-left_over-step taken s older h =
-    elim (nat_lt one_second taken) as (λ b. nat_lt one_second taken ≡ b → cond b [] (latest_over (one_second - taken) (s ∷ older)) ≡ s ∷ left_over (taken + s.elapsed) older) [
-      | true ↦ λ e. absurd (omega (arith, is_below one_second taken e))
-      | false ↦ λ _. elim (nat_lt (one_second - taken) s.elapsed) as (λ b. nat_lt (one_second - taken) s.elapsed ≡ b
-          → cond b (s ∷ []) (s ∷ latest_over (one_second - taken - s.elapsed) older) ≡ s ∷ left_over (taken + s.elapsed) older) [
-            | true ↦ λ e. let low = is_below (one_second - taken) s.elapsed e in ap (λ xs. s ∷ xs) (sym (left_over-done (taken + s.elapsed) older (omega (arith, low))))
-            | false ↦ λ e. ap (λ xs. s ∷ xs) (still taken s.elapsed older h (not_below (one_second - taken) s.elapsed e))
-          ] refl
-    ] refl
-
 -- a quotient of a product, the quotient and the remainder scaled apart
 pub scaled_apart : (a n k : ℕ) → 0 < n → a / n * k + a % n * k / n ≡ a * k / n
 scaled_apart a n k h =
@@ -109,105 +62,6 @@ is_mark s older = is_empty older || nat_lt one_second (duration (s ∷ after_mar
 after_mark-cons : (s : Sample) (older : List Sample) → after_mark (s ∷ older) ≡ cond (is_mark s older) [] (s ∷ after_mark older)
 after_mark-cons s [] = refl
 after_mark-cons s (t ∷ older) = refl
-
--- a mark
-pub marked : (s : Sample) (older : List Sample) → is_mark s older ≡ true → (to_mark (s ∷ older) ≡ s ∷ older) × (after_mark (s ∷ older) ≡ [])
-marked s older e =
-    let none = after_mark-cons s older ∙ ap (λ b. cond b [] (s ∷ after_mark older)) e in
-    (ap (λ recent. drop (length recent) (s ∷ older)) none, none)
-
--- no mark
-pub unmarked : (s : Sample) (older : List Sample) → is_mark s older ≡ false → (to_mark (s ∷ older) ≡ to_mark older) × (after_mark (s ∷ older) ≡ s ∷ after_mark older)
-unmarked s older e =
-    let more = after_mark-cons s older ∙ ap (λ b. cond b [] (s ∷ after_mark older)) e in
-    (ap (λ recent. drop (length recent) (s ∷ older)) more, more)
-
-length_0 : (samples : List Sample) → length samples ≡ 0 → is_empty samples ≡ true
-length_0 [] h = refl
-length_0 (s ∷ older) h = absurd (omega arith)
-
-length_more : (samples : List Sample) → 0 < length samples → is_empty samples ≡ false
-length_more [] h = absurd (omega arith)
-length_more (s ∷ older) h = refl
-
-pub length-drop_samples : (observations : List Observation) (n : ℕ) → length (drop n (samples_of observations)) ≡ length observations - n
-length-drop_samples observations n = length-drop n (samples_of observations) ∙ ap (λ m. m - n) (length-samples_of observations)
-
--- the test whether no observations are left after n
-pub is_empty_past : (observations : List Observation) (n : ℕ) → is_empty (drop n (samples_of observations)) ≡ nat_le (length observations) n
-is_empty_past observations n =
-    let long = length-drop_samples observations n in
-    elim (nat_le (length observations) n) as (λ b. nat_le (length observations) n ≡ b → is_empty (drop n (samples_of observations)) ≡ b) [
-      | true ↦ λ e. let few : length observations ≤ n = grind (arith, nat_tests) in length_0 _ (omega (arith, long, few))
-      | false ↦ λ e. let many : n < length observations = grind (arith, nat_tests) in length_more _ (omega (arith, long, many))
-    ] refl
-
-duration-after_mark : (samples : List Sample) → duration (after_mark samples) ≤ duration samples
-duration-after_mark [] = omega arith
-duration-after_mark (s ∷ older) =
-    elim (is_mark s older) as (λ b. is_mark s older ≡ b → duration (after_mark (s ∷ older)) ≤ duration (s ∷ older)) [
-      | true ↦ λ e. omega (arith, ap duration (marked s older e).1)
-      | false ↦ λ e. omega (arith, ap duration (unmarked s older e).1, duration-after_mark older)
-    ] refl
-
-mark_over : (s : Sample) (older : List Sample) → is_mark s older ≡ true → 2 ≤ length (s ∷ older) → one_second < duration (s ∷ older)
-mark_over s [] e many = absurd (omega arith)
-mark_over s (t ∷ older) e many = omega (arith, is_below one_second (duration (s ∷ after_mark (t ∷ older))) e, duration-after_mark (t ∷ older))
-
--- between the last two marks lies more than a second
-pub to_mark-over : (samples : List Sample) → 2 ≤ length (to_mark samples) → one_second < duration (to_mark samples)
-to_mark-over [] h = absurd (omega arith)
-to_mark-over (s ∷ older) h =
-    elim (is_mark s older) as (λ b. is_mark s older ≡ b → one_second < duration (to_mark (s ∷ older))) [
-      | true ↦ λ e. omega (arith, ap duration (marked s older e).0, mark_over s older e (omega (arith, ap length (marked s older e).0)))
-      | false ↦ λ e. omega (arith, ap duration (unmarked s older e).0, to_mark-over older (omega (arith, ap length (unmarked s older e).0)))
-    ] refl
-
--- the rate at the last mark, by how many samples there are
-pub rate_at-few : (samples : List Sample) → length samples < 2 → rate_at samples ≡ None
-rate_at-few [] h = refl
-rate_at-few (s ∷ []) h = refl
-rate_at-few (s ∷ t ∷ older) h = absurd (omega arith)
-
-pub rate_at-many : (samples : List Sample) → 2 ≤ length samples → rate_at samples ≡ Some (per_second (latest_over one_second samples))
-rate_at-many [] h = absurd (omega arith)
-rate_at-many (s ∷ []) h = absurd (omega arith)
-rate_at-many (s ∷ t ∷ older) h = refl
-
--- the test of a mark, by how long the samples after the last mark took
-pub is_mark-test : (observations : List Observation) (len m n : ℕ) (s : Sample) (recent : ℕ) (b : Bool) → len ≡ length observations → m ≡ n
-    → recent ≡ duration (after_mark (drop n (samples_of observations))) → b ≡ (nat_le len m || nat_lt one_second (s.elapsed + recent))
-    → is_mark s (drop n (samples_of observations)) ≡ b
-is_mark-test observations len m n s recent b l i h e =
-    ap (λ first. first || nat_lt one_second (s.elapsed + duration (after_mark (drop n (samples_of observations))))) (is_empty_past observations n)
-    ∙ ap (λ r. nat_le (length observations) n || nat_lt one_second (s.elapsed + r)) (sym h)
-    ∙ sym (e ∙ ap (λ k. nat_le k m || nat_lt one_second (s.elapsed + recent)) l ∙ ap (λ k. nat_le (length observations) k || nat_lt one_second (s.elapsed + recent)) i)
-
-pub step_marked : (samples older : List Sample) (s : Sample) → samples ≡ s ∷ older → is_mark s older ≡ true → (samples ≡ to_mark samples) × (0 ≡ duration (after_mark samples))
-step_marked samples older s e m =
-    (e ∙ sym (ap to_mark e ∙ (marked s older m).0), sym (ap (λ xs. duration (after_mark xs)) e ∙ ap duration (marked s older m).1))
-
-pub step_unmarked : (samples older : List Sample) (s : Sample) → samples ≡ s ∷ older → is_mark s older ≡ false
-    → (to_mark older ≡ to_mark samples) × (duration (after_mark older) + s.elapsed ≡ duration (after_mark samples))
-step_unmarked samples older s e m =
-    let longer : duration (after_mark older) + s.elapsed ≡ duration (s ∷ after_mark older) = omega arith in
-    (sym (ap to_mark e ∙ (unmarked s older m).0), longer ∙ sym (ap (λ xs. duration (after_mark xs)) e ∙ ap duration (unmarked s older m).1))
-
-not_over : (a b : Bool) → (a || b) ≡ false → b ≡ false
-not_over true b e = cc
-not_over false b e = e
-
--- no mark: it is no longer than a second
-pub not_long : (first : Bool) (n : ℕ) → (first || nat_lt one_second n) ≡ false → n ≤ one_second
-not_long first n e = not_below one_second n (not_over first (nat_lt one_second n) e)
-
--- the samples that are taken one by one
-pub take_one : (f : List Sample → ℕ) (g : Sample → ℕ) → ((s : Sample) (older : List Sample) → f (s ∷ older) ≡ g s + f older)
-    → (taken sum : ℕ) (samples older : List Sample) (s : Sample) → samples ≡ s ∷ older → taken ≤ one_second
-    → (sum + g s) + f (left_over (taken + s.elapsed) older) ≡ sum + f (left_over taken samples)
-take_one f g cons taken sum samples older s e h =
-    let more = ap (λ xs. f (left_over taken xs)) e ∙ ap f (left_over-step taken s older h) ∙ cons s (left_over (taken + s.elapsed) older) in
-    omega (arith, more)
 
 pub none_left : (taken n : ℕ) (samples : List Sample) → (length samples ≤ n) ⊎ (one_second < taken) → left_over taken (drop n samples) ≡ []
 none_left taken n samples (inl past) = ap (left_over taken) (drop_past samples n past) ∙ left_over-none taken
@@ -233,3 +87,41 @@ latest_over-shortest span (s ∷ older) h =
           let rest = latest_over-shortest (span - s.elapsed) older (omega (arith, low)) in
           record { older = rest.older; is_end = ap (λ xs. s ∷ xs) rest.is_end; over = omega (arith, low, rest.over); least = fewer span s _ rest.least low }
     ] refl
+
+-- the samples after the last mark are the latest ones
+after_mark-latest : (samples : List Sample) → (rest : List Sample) × (samples ≡ after_mark samples ++ rest)
+after_mark-latest [] = ([], refl)
+after_mark-latest (s ∷ older) =
+    let latest = after_mark-latest older in
+    let cut = after_mark-cons s older in
+    let parts : (rest : List Sample) × (s ∷ older ≡ cond (is_mark s older) [] (s ∷ after_mark older) ++ rest) =
+    elim (is_mark s older) as (λ b. (rest : List Sample) × (s ∷ older ≡ cond b [] (s ∷ after_mark older) ++ rest)) [
+      | true ↦ (s ∷ older, refl)
+      | false ↦ (latest.0, ap (λ xs. s ∷ xs) latest.1)
+    ] in
+    (parts.0, parts.1 ∙ ap (λ xs. xs ++ parts.0) (sym cut))
+
+-- what is over a span needs no older samples
+latest_over-append : (span : ℕ) (samples older : List Sample) → span < duration samples → latest_over span (samples ++ older) ≡ latest_over span samples
+latest_over-append span [] older h = absurd (omega arith)
+latest_over-append span (s ∷ samples) older h =
+    elim (nat_lt span s.elapsed) as (λ b. nat_lt span s.elapsed ≡ b → cond b (s ∷ []) (s ∷ latest_over (span - s.elapsed) (samples ++ older)) ≡ cond b (s ∷ []) (s ∷ latest_over (span - s.elapsed) samples)) [
+      | true ↦ λ e. refl
+      | false ↦ λ e. ap (λ xs. s ∷ xs) (latest_over-append (span - s.elapsed) samples older (omega (arith, not_below span s.elapsed e)))
+    ] refl
+
+-- samples since the last mark that are over a span with one more
+pub latest_over-recent : (span : ℕ) (s : Sample) (older : List Sample) → span < duration (s ∷ after_mark older) → latest_over span (s ∷ older) ≡ latest_over span (s ∷ after_mark older)
+latest_over-recent span s older h =
+    let latest = after_mark-latest older in
+    ap (λ xs. latest_over span (s ∷ xs)) latest.1 ∙ latest_over-append span (s ∷ after_mark older) latest.0 h
+
+short_by : (is_first is_long : Bool) (s : Sample) (recent : List Sample) → is_long ≡ nat_lt one_second (duration (s ∷ recent)) → duration (cond (is_first || is_long) [] (s ∷ recent)) ≤ one_second
+short_by true is_long s recent e = omega arith
+short_by false true s recent e = omega arith
+short_by false false s recent e = not_below one_second (duration (s ∷ recent)) (sym e)
+
+-- the samples after the last mark take no more than a second
+pub after_mark-short : (samples : List Sample) → duration (after_mark samples) ≤ one_second
+after_mark-short [] = omega arith
+after_mark-short (s ∷ older) = rw (after_mark-cons s older) (short_by (is_empty older) (nat_lt one_second (duration (s ∷ after_mark older))) s (after_mark older) refl)

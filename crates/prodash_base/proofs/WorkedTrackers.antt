@@ -3,7 +3,7 @@ use Rattle.std.proofs.Common.{◌≡◌, ℕ, ◌+◌, List, [], ◌∷◌, Opti
 use Rattle.std.specs.Prelude.{codes}
 use Rattle.std.specs.FinMap.{get-insert, get-empty}
 use Rattle.std.proofs.lemmas.Cmp.{nat_list_cmp_total}
-use Rattle.prodash_base.proofs.MapViews.{get-retain_at}
+use Rattle.prodash_base.proofs.PathMaps.{get-retain_at}
 use Rattle.prodash_base.specs.Path.{path_cmp}
 use Rattle.prodash_base.specs.Rows.{PathRow, Running, unknown_id}
 use Rattle.prodash_base.specs.Trackers.{Tracker, new_tracker, update_elapsed, in_one_second, frame_throughputs, after_frame}

@@ -19,4 +19,5 @@ pub mod ThroughputMessages
 pub mod Moments
 pub mod Samples
 pub mod Trackers
+pub mod Summaries
 pub mod plumbing

@@ -5,4 +5,6 @@ pub mod SameUnits
 pub mod SameRows
 pub mod SameMessages
 pub mod Branches
-pub mod ObservedTables
+pub mod ObservationCodes
+pub mod Changes
+pub mod KeptTables

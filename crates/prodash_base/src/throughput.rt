@@ -1,14 +1,15 @@
 //! The throughput of the tasks that a renderer draws.
-ghost use Rattle.std.specs.Prelude.{◌≡◌, ◌<◌, ◌∷◌, List, OnOk, OnErr, IfOk, IsSome, None, Some, Contains, IsOkUnless};
-ghost use Rattle.std.specs.FinMap as finite;
+ghost use Rattle.std.specs.Prelude.{◌≡◌, ◌<◌, ◌≤◌, List, length, OnOk, OnErr, IfOk, IsSome, IsOkUnless};
 ghost use Rattle.std.specs.Map.{keys_of};
-ghost use Rattle.prodash_base.specs.Path.{Path};
 ghost use Rattle.prodash_base.specs.Rows.{rows_of};
 ghost use Rattle.prodash_base.specs.Samples.{one_second, duration, latest_over, IsShortestOver};
-ghost use Rattle.prodash_base.specs.Trackers.{new_tracker, elapsed_since, update_elapsed, observation_of, with_observation, rate_after, observe, throughput_of, is_listed, reconcile, KeepsOnly};
-ghost use Rattle.prodash_base.specs.plumbing.ObservedTables.{observations_in};
+ghost use Rattle.prodash_base.specs.Trackers.{new_tracker, elapsed_since, update_elapsed, observation_of, observe, throughput_of, reconcile, KeepsOnly};
+ghost use Rattle.prodash_base.specs.Summaries.{kept_samples};
 ghost use Rattle.prodash_base.specs.declared.throughput.sample.Sample.{Sample};
 
+mod history;
+mod kept;
+mod keys;
 mod rate;
 mod sample;
 
@@ -16,21 +17,22 @@ use crate::progress::{Key, Row, Step};
 use crate::refusal::Refusal;
 use crate::time::Moment;
 use crate::unit::display;
-use rate::{ONE_SECOND, push_observation};
+use history::{Change, History, Listed};
+use kept::Kept;
+use keys::{add_observation, kept_samples, retain_listed};
+use rate::ONE_SECOND;
 use sample::Observation;
-use std::alloc::{AllocError, Global};
-use std::collections::{BTreeMap, VecDeque};
+use std::alloc::Global;
+use std::fmt::{self, Debug, Formatter};
 use std::marker::Model;
-
-/// The observations of each key, the latest first.
-type Observed = BTreeMap<Key, VecDeque<Observation>>;
 
 /// Measures the throughput of values, each under a key, which are observed at each frame. Contracts
 /// see the latest moment, the elapsed time, and a finite map from paths to all observations.
 ///
 /// The first observation of a key is a mark, and so is each one that comes more than a second after
 /// the previous mark. The throughput changes at marks only: it is the rise over the fewest of the
-/// latest observations that take more than a second together.
+/// latest observations that take more than a second together. Of a key no samples are kept but
+/// those after its last mark.
 ///
 /// ```rust
 /// let mut tracker = Throughput::new(alloc);
@@ -41,18 +43,21 @@ type Observed = BTreeMap<Key, VecDeque<Observation>>;
 /// let throughput = tracker.update_and_get(alloc, &key, Some(50))?;
 /// assert_eq!(rt; throughput, Some(display::Throughput::new(33, 1_000_000_000)));
 /// ```
-#[derive(Debug, Drop)]
+#[derive(Drop)]
 pub struct Throughput {
     updated_at: Option<Moment>,
     elapsed: Option<u64>,
-    observed: Observed,
+    /// What is kept of each key, sorted by key.
+    kept: Vec<Kept>,
+    /// All observations of these keys.
+    history: History,
 }
 
 impl Model for Throughput {
     ghost use Rattle.std.specs.FinMap as finite;
     ghost use Rattle.std.specs.Coded.{codes};
     ghost use Rattle.prodash_base.specs.Trackers.{Tracker};
-    ghost use Rattle.prodash_base.specs.plumbing.ObservedTables.{observations_in};
+    ghost use Rattle.prodash_base.specs.plumbing.KeptTables.{Keeps};
 
     ghost Value = { Tracker };
 
@@ -61,8 +66,10 @@ impl Model for Throughput {
     ghost view = { λ t. record {
       updated_at = t.updated_at;
       elapsed = t.elapsed;
-      observations = observations_in t.observed.entries;
+      observations = t.history.observations;
     } };
+
+    ghost invariant = { λ t. Keeps t.history.observations t.kept.items };
 }
 
 impl Throughput {
@@ -73,7 +80,8 @@ impl Throughput {
         Throughput {
             updated_at: None,
             elapsed: None,
-            observed: BTreeMap::new(alloc),
+            kept: Vec::new(alloc),
+            history: History::new(),
         }
     }
 
@@ -89,7 +97,8 @@ impl Throughput {
         Ok(Throughput {
             updated_at: self.updated_at,
             elapsed: self.elapsed,
-            observed: self.observed.clone()?,
+            kept: self.kept.clone()?,
+            history: self.history.after(&Change::Nothing),
         })
     }
 
@@ -104,7 +113,8 @@ impl Throughput {
 
     /// Observes the step of a key, and returns its throughput, with a timespan of one second.
     /// Nothing is recorded without an elapsed time or a step, and the call then returns `None`, as
-    /// it does before the second mark of the key.
+    /// it does before the second mark of the key. The samples that are then kept of the key take at
+    /// most a second together.
     ///
     /// # Errors
     ///
@@ -120,12 +130,21 @@ impl Throughput {
         ensures err { OnErr result (self.new ≡ self.old) }
         ensures reason { IsOkUnless result Refusal.Memory }
         ensures recorded { OnErr result (IsSome (observation_of self.old.elapsed step)) }
+        ensures bound { duration (kept_samples self.new.observations key.now) ≤ one_second }
     {
         let Some(observation) = observation_of(self.elapsed, step) else {
             return Ok(None);
         };
-        let rate = add_observation(&mut self.observed, alloc, *key, observation)?;
+        let rate = add_observation(&mut self.kept, alloc, *key, observation)?;
+        self.history = self.history.after(&Change::Observed(*key, observation));
         Ok(rate.map(|change| display::Throughput::new(change, ONE_SECOND)))
+    }
+
+    /// Returns the number of samples of a key that are kept, which are those after its last mark.
+    pub fn kept_samples(&self, key: &Key) -> usize
+        ensures { result ≡ length (kept_samples self.now.observations key.now) }
+    {
+        kept_samples(&self.kept, key)
     }
 
     /// Keeps the observations of the keys of `rows`, and of no others.
@@ -134,7 +153,18 @@ impl Throughput {
         ensures kept { KeepsOnly (keys_of (rows_of rows.now))
             self.old.observations self.new.observations }
     {
-        self.observed.retain(|key, _| is_listed(rows, key));
+        retain_listed(&mut self.kept, rows);
+        self.history = self.history.among(&Listed { rows });
+    }
+}
+
+impl Debug for Throughput {
+    fn fmt<F: fmt::Write>(&self, f: &mut Formatter<F>) -> fmt::Result {
+        f.debug_struct("Throughput")
+            .field("updated_at", &self.updated_at)
+            .field("elapsed", &self.elapsed)
+            .field("kept", &self.kept)
+            .finish()
     }
 }
 
@@ -156,40 +186,6 @@ fn observation_of(elapsed: Option<u64>, value: Option<Step>) -> Option<Observati
         (Some(elapsed), Some(value)) => Some(Observation { elapsed, value }),
         _ => None,
     }
-}
-
-/// Adds an observation of a key, and returns the rate. Returns an `AllocError` if out of memory,
-/// and then leaves the observations unchanged.
-fn add_observation(
-    observed: &mut Observed,
-    alloc: Global,
-    key: Key,
-    observation: Observation,
-) -> Result<Option<u64>, AllocError>
-    ensures rate { IfOk result (λ r.
-        r ≡ rate_after (observations_in observed.old.entries) key (Some observation)) }
-    ensures ok { OnOk result (observations_in observed.new.entries
-        ≡ with_observation (observations_in observed.old.entries) key (Some observation)) }
-    ensures err { OnErr result
-        (observations_in observed.new.entries ≡ observations_in observed.old.entries) }
-{
-    match observed.get_mut(&key) {
-        Some(known) => push_observation(known, observation),
-        None => {
-            let mut first = VecDeque::new(alloc);
-            let rate = push_observation(&mut first, observation)?;
-            observed.insert(key, first)?;
-            Ok(rate)
-        }
-    }
-}
-
-/// Returns whether one of the rows has this key. If they ascend by key, halving finds it; else they
-/// are searched one by one.
-fn is_listed(rows: &[Row], key: &Key) -> bool
-    ensures { result ≡ is_listed (rows_of rows.now) key.now }
-{
-    rows.binary_search_by_key(key, |row| row.key).is_ok() || rows.iter().any(|row| *key == row.key)
 }
 
 /// A law of rates: a rate is measured over the shortest of the ends of the samples that take more

@@ -1,4 +1,5 @@
 use crate::fixtures::{ShortRow, assert_same, key_at, rows};
+use prodash_base::progress::Key;
 use prodash_base::unit::display;
 use prodash_base::{Refusal, Throughput};
 use std::alloc::Global;
@@ -225,5 +226,107 @@ fn copies_are_equal_and_independent(rt: HostRuntime) -> Result<(), Fail> {
     assert_changes(&rt, alloc, &mut copy, LAST, &[(1, Some(70), Some(20))])?;
     assert_changes(&rt, alloc, &mut tracker, LATER, &[(1, Some(30), None)])?;
     assert_changes(&rt, alloc, &mut later, LATER, &[(1, Some(30), Some(10))])?;
+    Ok(())
+}
+
+/// A second in nanoseconds.
+const ONE_SECOND: u64 = 1_000_000_000;
+
+/// The shortest time between two moments of a long run, in nanoseconds.
+const SHORTEST: u64 = 20_000_000;
+
+/// A key of a long run, with all that was observed of it.
+#[derive(Drop)]
+struct Watched {
+    key: Key,
+    value: u64,
+    /// The nanoseconds and the rise of each sample, the earliest first.
+    samples: Vec<(u64, u64)>,
+}
+
+/// The rate over all samples: the last mark, and from there back until more than a second is
+/// taken.
+fn rate_of(samples: &[(u64, u64)]) -> Option<u64> {
+    let (mut mark, mut recent): (usize, u64) = (0, 0);
+    for (index, (elapsed, _)) in samples.iter().enumerate() {
+        recent = recent.saturating_add(*elapsed);
+        if index == 0 || recent > ONE_SECOND {
+            mark = index;
+            recent = 0;
+        }
+    }
+    if mark == 0 {
+        return None;
+    }
+    let (mut nanoseconds, mut change): (u64, u64) = (0, 0);
+    for back in 0..samples.len() {
+        let Some((elapsed, rise)) = samples.get(mark.saturating_sub(back)) else {
+            break;
+        };
+        if nanoseconds > ONE_SECOND {
+            break;
+        }
+        nanoseconds = nanoseconds.saturating_add(*elapsed);
+        change = change.saturating_add(*rise);
+    }
+    change.saturating_mul(ONE_SECOND).checked_div(nanoseconds)
+}
+
+/// A value that rises, and falls now and then.
+fn value_at(turn: u64, number: usize) -> u64 {
+    let pace = 31 + number as u64 % 8;
+    turn.wrapping_mul(pace) % 10_007
+}
+
+/// Observes a value at a turn. The rate is now and then compared with that over all samples.
+fn watch(
+    rt: &impl Abort,
+    alloc: Global,
+    tracker: &mut Throughput,
+    watched: &mut Watched,
+    turn: u64,
+    elapsed: u64,
+    value: u64,
+) -> Result<(), Refusal> {
+    let got = tracker.update_and_get(alloc, &watched.key, Some(value))?;
+    let rise = value.saturating_sub(watched.value);
+    watched.samples.push((elapsed, rise))?;
+    watched.value = value;
+    if turn % 2_500 == 7 {
+        let want = rate_of(&watched.samples);
+        let got = got.map(|throughput| throughput.value_change_in_timespan);
+        assert_same(rt, got, want, (turn, watched.samples.len()));
+    }
+    let kept = tracker.kept_samples(&watched.key);
+    assert_same(rt, kept <= (ONE_SECOND / SHORTEST) as usize, true, turn);
+    Ok(())
+}
+
+/// 25,000 moments of four keys.
+#[test]
+fn long_runs_forget(rt: HostRuntime) -> Result<(), Fail> {
+    let alloc = rt.alloc();
+    let paths: [&[u32]; 4] = [&[1], &[2], &[2, 1], &[3]];
+    let mut all: Vec<Watched> = Vec::new(alloc);
+    for path in &paths {
+        let (key, samples) = (key_at(path), Vec::new(alloc));
+        all.push(Watched {
+            key,
+            value: 0,
+            samples,
+        })?;
+    }
+    let mut tracker = Throughput::new(alloc);
+    let mut at: u64 = 0;
+    tracker.update_elapsed(at);
+    for turn in 0..25_000u64 {
+        let elapsed = SHORTEST + turn % 7 * 3_000_000;
+        at = at.saturating_add(elapsed);
+        tracker.update_elapsed(at);
+        for (number, watched) in all.iter_mut().enumerate() {
+            let value = value_at(turn, number);
+            watch(&rt, alloc, &mut tracker, watched, turn, elapsed, value)?;
+        }
+    }
     Ok(())
 }

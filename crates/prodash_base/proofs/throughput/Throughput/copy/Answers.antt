@@ -1,12 +1,19 @@
-use Rattle.std.proofs.Common.{◌∙◌, ap}
-use Rattle.std.specs.List.{each_same}
+use Rattle.std.proofs.Common.{List, sym, subst}
+use Rattle.std.specs.Prelude.{T}
 use Rattle.std.specs.FinMap as finite
-use Rattle.prodash_base.proofs.MapViews.{map-zipped, AllZip-weaker}
+use Rattle.prodash_base.specs.Path.{Path, path_cmp}
+use Rattle.prodash_base.specs.Summaries.{Summary, Summarize}
+use Rattle.prodash_base.specs.Trackers.{Observations}
+use Rattle.prodash_base.specs.plumbing.KeptTables.{summaries_of}
+use Rattle.prodash_base.proofs.KeptTables.{entries-cloned}
 use Rattle.prodash_base.proofs.throughput.Throughput.copy.Goals as goal
 
-pub returns-clause-ok : goal.returns-clause-ok
-returns-clause-ok c =
-    let es = c.self.inside.observed.entries in
-    let fs = c.in_ok-clone.field-0.entries in
-    let alike = map-zipped (λ v. v.items) es fs (AllZip-weaker _ _ (λ p q h. (h.0, each_same p.1.items q.1.items h.1.0)) es fs c.in_ok-clone.ensures.cases) in
-    ap (λ xs. record { updated_at = c.self.inside.updated_at; elapsed = c.self.inside.elapsed; observations = finite.from_entries xs }) alike ∙ c.self.view_is
+pub invariant_of-result : goal.invariant_of-result
+invariant_of-result c =
+    let copied = c.in_ok-clone.field-0.items in
+    let same = entries-cloned c.self.inside.kept.items copied c.in_ok-clone.ensures.cases.0 in
+    record {
+      sorted = subst (λ (es : List (Path × Summary)). T (finite.is_sorted path_cmp es)) (sym same) c.self.invariant.sorted;
+      summaries = subst (λ (m : Observations). Summarize m (summaries_of copied)) (sym c.after.ensures)
+          (subst (λ (es : List (Path × Summary)). Summarize c.self.inside.history.observations (finite.from_entries es)) (sym same) c.self.invariant.summaries);
+    }

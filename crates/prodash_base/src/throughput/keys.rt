@@ -1,0 +1,103 @@
+//! What is kept of all keys: a list sorted by key, searched by halving.
+ghost use Rattle.std.specs.Prelude.{◌≡◌, ◌<◌, length, IfOk, OnOk, OnErr, slice_set, slice_index_or};
+ghost use Rattle.std.specs.FinMap as finite;
+ghost use Rattle.std.specs.List.{filter};
+ghost use Rattle.prodash_base.specs.Rows.{rows_of};
+ghost use Rattle.prodash_base.specs.Trackers.{is_listed};
+ghost use Rattle.prodash_base.specs.Summaries.{next_summary, summary_after, recent_in};
+ghost use Rattle.prodash_base.specs.plumbing.KeptTables.{summary_of, summaries_of, AreSorted, NeverDescends};
+ghost use Rattle.prodash_base.specs.declared.throughput.kept.Kept.{Kept};
+
+use crate::progress::{Key, Row};
+use crate::throughput::kept::Kept;
+use crate::throughput::sample::Observation;
+use std::alloc::{AllocError, Global};
+
+/// Adds an observation of a key, and returns the rate. Returns an `AllocError` if out of memory,
+/// and then changes nothing that is kept.
+pub(crate) fn add_observation(
+    kept: &mut Vec<Kept>,
+    alloc: Global,
+    key: Key,
+    observation: Observation,
+) -> Result<Option<u64>, AllocError>
+    requires { AreSorted kept.old.items }
+    ensures sorted { AreSorted kept.new.items }
+    ensures rate { IfOk result (λ rate. rate
+        ≡ (summary_after (finite.get (summaries_of kept.old.items) key) observation).rate) }
+    ensures ok { OnOk result (summaries_of kept.new.items
+        ≡ finite.insert (summaries_of kept.old.items) key
+        (summary_after (finite.get (summaries_of kept.old.items) key) observation)) }
+    ensures err { OnErr result (summaries_of kept.new.items ≡ summaries_of kept.old.items) }
+{
+    match kept.binary_search_by_key(&key, |known| known.key) {
+        Ok(index) => add_to_known(kept, index, observation),
+        Err(index) => {
+            kept.insert(index, Kept::first(alloc, key, observation))?;
+            Ok(None)
+        }
+    }
+}
+
+/// Adds an observation of the key at an index, and returns the rate. Returns an `AllocError` if out
+/// of memory, and then changes nothing that is kept.
+fn add_to_known(
+    kept: &mut Vec<Kept>,
+    index: usize,
+    observation: Observation,
+) -> Result<Option<u64>, AllocError>
+    requires { index < length kept.old.items }
+    ensures set { (d : Kept) → kept.new.items
+        ≡ slice_set kept.old.items index (slice_index_or kept.new.items index d) }
+    ensures key { (d : Kept) → (slice_index_or kept.new.items index d).key
+        ≡ (slice_index_or kept.old.items index d).key }
+    ensures rate { IfOk result (λ rate. (d : Kept) → rate
+        ≡ (next_summary (summary_of (slice_index_or kept.old.items index d)) observation).rate) }
+    ensures ok { OnOk result
+        ((d : Kept) → summary_of (slice_index_or kept.new.items index d)
+        ≡ next_summary (summary_of (slice_index_or kept.old.items index d)) observation) }
+    ensures err { OnErr result
+        ((d : Kept) → summary_of (slice_index_or kept.new.items index d)
+        ≡ summary_of (slice_index_or kept.old.items index d)) }
+{
+    let known = &mut kept[index];
+    known.add(observation)?;
+    Ok(known.rate)
+}
+
+/// Returns the number of samples that are kept of a key.
+pub(crate) fn kept_samples(kept: &[Kept], key: &Key) -> usize
+    requires { AreSorted kept.now }
+    ensures { result ≡ length (recent_in (finite.get (summaries_of kept.now) key.now)) }
+{
+    match kept.binary_search_by_key(key, |known| known.key) {
+        Ok(index) => kept[index].samples(),
+        Err(_) => 0,
+    }
+}
+
+/// Keeps the keys of the rows, and no others. If the rows ascend by key, halving finds each; else
+/// they are searched one by one.
+pub(crate) fn retain_listed(kept: &mut Vec<Kept>, rows: &[Row])
+    ensures { kept.new.items ≡ filter (λ k. is_listed (rows_of rows.now) k.key) kept.old.items }
+{
+    if rows.is_sorted_by_key(|row| row.key) {
+        kept.retain(|known| is_found(rows, &known.key));
+    } else {
+        kept.retain(|known| is_listed(rows, &known.key));
+    }
+}
+
+/// Returns whether halving finds the key in rows that ascend by key.
+fn is_found(rows: &[Row], key: &Key) -> bool
+    ensures { NeverDescends rows.now → result ≡ is_listed (rows_of rows.now) key.now }
+{
+    rows.binary_search_by_key(key, |row| row.key).is_ok()
+}
+
+/// Returns whether one of the rows has this key.
+fn is_listed(rows: &[Row], key: &Key) -> bool
+    ensures { result ≡ is_listed (rows_of rows.now) key.now }
+{
+    rows.iter().any(|row| *key == row.key)
+}
