@@ -26,6 +26,7 @@ pub const TERMINAL: Options = Options {
     colored: false,
     timestamp: false,
     hide_cursor: false,
+    defensive: false,
 };
 
 /// A step, and a bound if there is one.

@@ -1,8 +1,9 @@
 -- The lines of a terminal's frames are no wider than the terminal, since they are cut to its width.
-use Rattle.std.proofs.Common.{◌≡◌, ℕ, ◌≤◌, Bool, true, false, List, [], ◌∷◌, ◌++◌, refl, sym, subst, Some, None, Result, Ok, Err}
-use Rattle.std.specs.Prelude.{⊤, MatchBool}
+use Rattle.std.proofs.Common.{◌≡◌, ℕ, ◌-◌, ◌≤◌, nat_eq, nat_lt, Bool, true, false, cond, List, [], ◌∷◌, ◌++◌, length, refl, sym, subst, ◌∙◌, Some, None, Result, Ok, Err}
+use Rattle.std.specs.Prelude.{⊤, ◌||◌, MatchBool}
 use Rattle.std.specs.Bool.{then_some}
 use Rattle.std.specs.List.{AllByRecursion}
+use Rattle.prodash_base.specs.Rows.{PathRow}
 use Rattle.prodash_base.specs.declared.messages.Message.{Message}
 use Rattle.prodash_base.specs.declared.refusal.Refusal.{Refusal}
 use Rattle.prodash_base.specs.declared.refusal.Refusal.TheVariants as refusals
@@ -11,33 +12,34 @@ use Rattle.prodash_line.specs.declared.render.line.draw.input.Input.{Input}
 use Rattle.prodash_line.specs.declared.render.line.draw.input.Input.TheVariants.{Tick, Resize, Quit}
 use Rattle.prodash_line.specs.declared.render.line.draw.input.Answer.{Answer}
 use Rattle.prodash_line.specs.declared.render.line.draw.action.Action.{Action}
-use Rattle.prodash_line.specs.declared.render.line.draw.action.Action.TheVariants.{Leave, Redraw, Close}
+use Rattle.prodash_line.specs.declared.render.line.draw.action.Action.TheVariants.{Leave, Redraw, Erase, Close}
 use Rattle.prodash_line.specs.declared.render.line.page.sign.Sign.{Sign}
 use Rattle.prodash_line.specs.Lines.{Line, columns_of, cut, in_color}
 use Rattle.prodash_line.specs.DrawnLines.{as_drawn}
-use Rattle.prodash_line.specs.ProgressRows.{DrawnRow, row_line, row_lines}
+use Rattle.prodash_line.specs.ProgressRows.{DrawnRow, row_line, row_lines, more_line, more_lines}
 use Rattle.prodash_line.specs.MessageLines.{message_line, message_lines, origin_width, greatest_width}
 use Rattle.prodash_line.specs.Frames.{Body, Unchanged, Draws, Closes, Frame}
 use Rattle.prodash_line.specs.Fits.{LineFits, LinesFit, BodyFits, FrameFits}
-use Rattle.prodash_line.specs.Renderer.{Renderer, Drawing, ending_of, drawn_rows, drawing_at, latest_rows, remember, moment_of, action_at, printed_at, body_of, frame_at}
+use Rattle.prodash_line.specs.Renderer.{Renderer, Drawing, ending_of, drawn_rows, fitting_rows, drawn_lines, drawing_at, latest_rows, remember, moment_of, action_at, printed_at, body_of, frame_at}
 use Rattle.prodash_line.specs.Renderings.{Rendering, after_result, renderer_after, Attempt, attempt_of, attempts_of, frames_of, drawn_frames, KeepsSize}
 use Rattle.prodash_line.proofs.Cutting.{cut_within}
+use Rattle.prodash_line.proofs.Lists.{AllByRecursion-append}
 
 -- if lines are cut, they are no wider than this
-abbrev IsWithin : Bool → ℕ → Line → Type 0
+abbrev pub IsWithin : Bool → ℕ → Line → Type 0
 IsWithin cut columns line = MatchBool cut (columns_of line ≤ columns) ⊤
 
-abbrev AreWithin : Bool → ℕ → List Line → Type 0
+abbrev pub AreWithin : Bool → ℕ → List Line → Type 0
 AreWithin cut columns lines = AllByRecursion (IsWithin cut columns) lines
 
-abbrev BodyWithin : Bool → ℕ → Body → Type 0
+abbrev pub BodyWithin : Bool → ℕ → Body → Type 0
 BodyWithin cut columns Unchanged = ⊤
 BodyWithin cut columns (Draws lines) = AreWithin cut columns lines
 BodyWithin cut columns (Closes ending) = ⊤
 
-record FrameWithin (cut : Bool) (columns : ℕ) (f : Frame) : Type 0 where
-  messages : AreWithin cut columns f.messages
-  body : BodyWithin cut columns f.body
+pub record FrameWithin (cut : Bool) (columns : ℕ) (f : Frame) : Type 0 where
+  pub messages : AreWithin cut columns f.messages
+  pub body : BodyWithin cut columns f.body
 
 -- a terminal of these columns, or none
 record HasWidth (cut : Bool) (columns : ℕ) (options : Options) : Type 0 where
@@ -61,6 +63,20 @@ rows_within cut columns options midpoint [] h = tt
 rows_within cut columns options midpoint (row ∷ rows) h =
     (drawn_within cut columns options (row_line options.terminal_dimensions.0 midpoint row) h, rows_within cut columns options midpoint rows h)
 
+none_or_within : (cut : Bool) (columns : ℕ) (b : Bool) (line : Line) → IsWithin cut columns line → AreWithin cut columns (cond b [] (line ∷ []))
+none_or_within cut columns true line h = tt
+none_or_within cut columns false line h = (h, tt)
+
+more_within : (cut : Bool) (columns : ℕ) (options : Options) (n : ℕ) → HasWidth cut columns options → AreWithin cut columns (more_lines options n)
+more_within cut columns options n h =
+    none_or_within cut columns (nat_eq n 0 || nat_lt options.terminal_dimensions.1 2) (as_drawn options (more_line n)) (drawn_within cut columns options (more_line n) h)
+
+drawn_lines_within : (cut : Bool) (columns : ℕ) (r : Renderer) (at : ℕ) (rows : List PathRow) → HasWidth cut columns r.options → AreWithin cut columns (drawn_lines r at rows)
+drawn_lines_within cut columns r at rows h =
+    let more = length (drawn_rows r at rows) - length (fitting_rows r at rows) in
+    AllByRecursion-append (IsWithin cut columns) (row_lines r.options r.midpoint (fitting_rows r at rows)) (more_lines r.options more)
+    (rows_within cut columns r.options r.midpoint (fitting_rows r at rows) h) (more_within cut columns r.options more h)
+
 messages_within : (cut : Bool) (columns : ℕ) (options : Options) (widths : List ℕ) (messages : List Message) → HasWidth cut columns options → AreWithin cut columns (message_lines options widths messages)
 messages_within cut columns options widths [] h = tt
 messages_within cut columns options widths (m ∷ messages) h =
@@ -76,6 +92,7 @@ printed_within cut columns r (Quit at) h = tt
 body_within : (cut : Bool) (columns : ℕ) (action : Action) (drawing : Drawing) (ending : List Sign) → AreWithin cut columns drawing.lines → BodyWithin cut columns (body_of action drawing ending)
 body_within cut columns Leave drawing ending h = tt
 body_within cut columns Redraw drawing ending h = h
+body_within cut columns Erase drawing ending h = tt
 body_within cut columns Close drawing ending h = tt
 
 -- the size that is remembered
@@ -91,7 +108,30 @@ frame_within cut columns height r input k h =
     record {
       messages = printed_within cut columns r input h;
       body = body_within cut columns (action_at r input) (drawing_at r input) (ending_of r)
-          (rows_within cut columns r'.options r'.midpoint (drawn_rows r' (moment_of input) (latest_rows r'.last_rows)) (size_kept cut columns height r input k h));
+          (drawn_lines_within cut columns r' (moment_of input) (latest_rows r'.last_rows) (size_kept cut columns height r input k h));
+    }
+
+-- on a terminal, whatever size is remembered
+printed_cut : (r : Renderer) (input : Input) → r.options.output_is_terminal ≡ true → AreWithin true (remember r input).options.terminal_dimensions.0 (printed_at r input)
+printed_cut r (Tick at show (Some seen)) e =
+    messages_within true r.options.terminal_dimensions.0 r.options r.origin_widths seen.1 (record { terminal = e; width = refl })
+printed_cut r (Tick at show None) e = tt
+printed_cut r (Resize at show width rows) e = tt
+printed_cut r (Quit at) e = tt
+
+terminal_kept : (r : Renderer) (input : Input) → (remember r input).options.output_is_terminal ≡ r.options.output_is_terminal
+terminal_kept r (Tick at show (Some seen)) = refl
+terminal_kept r (Tick at show None) = refl
+terminal_kept r (Resize at show width rows) = refl
+terminal_kept r (Quit at) = refl
+
+pub frame_cut : (r : Renderer) (input : Input) → r.options.output_is_terminal ≡ true → FrameWithin true (remember r input).options.terminal_dimensions.0 (frame_at r input)
+frame_cut r input e =
+    let r' = remember r input in
+    record {
+      messages = printed_cut r input e;
+      body = body_within true r'.options.terminal_dimensions.0 (action_at r input) (drawing_at r input) (ending_of r)
+          (drawn_lines_within true r'.options.terminal_dimensions.0 r' (moment_of input) (latest_rows r'.last_rows) (record { terminal = terminal_kept r input ∙ e; width = refl }));
     }
 
 -- ---- the frames of a list of inputs
@@ -131,11 +171,11 @@ line_fits : (cut : Bool) (columns : ℕ) (line : Line) → LineFits cut columns 
 line_fits true columns line h w = record { plain = h.plain; within = w }
 line_fits false columns line h w = h
 
-lines_fit : (cut : Bool) (columns : ℕ) (lines : List Line) → LinesFit cut columns lines → AreWithin cut columns lines → LinesFit false columns lines
+pub lines_fit : (cut : Bool) (columns : ℕ) (lines : List Line) → LinesFit cut columns lines → AreWithin cut columns lines → LinesFit false columns lines
 lines_fit cut columns [] h w = tt
 lines_fit cut columns (line ∷ lines) h w = (line_fits cut columns line h.0 w.0, lines_fit cut columns lines h.1 w.1)
 
-body_fits : (cut : Bool) (columns height : ℕ) (b : Body) → BodyFits cut columns height b → BodyWithin cut columns b → BodyFits false columns height b
+pub body_fits : (cut : Bool) (columns height : ℕ) (b : Body) → BodyFits cut columns height b → BodyWithin cut columns b → BodyFits false columns height b
 body_fits cut columns height Unchanged h w = tt
 body_fits cut columns height (Draws lines) h w = (lines_fit cut columns lines h.0 w, h.1)
 body_fits cut columns height (Closes ending) h w = tt
@@ -144,7 +184,7 @@ all_fit : (cut : Bool) (columns height : ℕ) (frames : List Frame) → AllByRec
     → AllByRecursion (FrameFits false columns height) frames
 all_fit cut columns height [] h w = tt
 all_fit cut columns height (f ∷ fs) h w =
-    (record { messages = lines_fit cut columns f.messages h.0.messages w.0.messages; body = body_fits cut columns height f.body h.0.body w.0.body }, all_fit cut columns height fs h.1 w.1)
+    (record { layout = h.0.layout; messages = lines_fit cut columns f.messages h.0.messages w.0.messages; body = body_fits cut columns height f.body h.0.body w.0.body }, all_fit cut columns height fs h.1 w.1)
 
 -- the lines of each frame fit, whether they are cut or are asked to
 pub frames_fit : (r : Renderer) (xs : List Rendering) (columns height : ℕ) → columns ≡ r.options.terminal_dimensions.0 → AllByRecursion (λ x. KeepsSize columns height x.input) xs

@@ -5,6 +5,8 @@ use Rattle.std.specs.List.{AllByRecursion}
 use Rattle.std.proofs.lemmas.List.{append-nil, drop_all, length-replicate, length-map, map-append, drop-map, set_at}
 use Rattle.prodash_line.specs.declared.render.line.page.sign.Sign.{Sign}
 use Rattle.prodash_line.specs.declared.render.line.page.sign.Sign.TheVariants.{CarriageReturn, EraseLine}
+use Rattle.prodash_line.specs.declared.render.line.draw.layout.Layout.{Layout}
+use Rattle.prodash_line.specs.declared.render.line.draw.layout.Layout.TheVariants.{Overwriting}
 use Rattle.prodash_line.specs.Lines.{Line, columns_of}
 use Rattle.prodash_line.specs.Frames.{overwrite, widths_of, cursor_up, redraw, Body, Frame, body_signs, frame_signs, body_lines, lines_after, signs_of, all_lines_after, printed_lines}
 use Rattle.prodash_line.specs.Page.{Canvas, blank, page_after}
@@ -46,7 +48,7 @@ redrawn columns old lines below = let all = lines ++ replicate (length old - len
 pub redraw_at : (columns height : ℕ) (old lines : List Line) (above below : List (List ℕ))
     → LinesFit false columns old → LinesFit false columns lines → length old < height → length lines < height → height < 2 ^ 16
     → ShowsLines columns old below → 0 < length below → length below ≤ height
-    → page_after (redraw (widths_of old) lines) (at columns height above below) ≡ at columns height above (redrawn columns old lines below)
+    → page_after (redraw Overwriting (widths_of old) lines) (at columns height above below) ≡ at columns height above (redrawn columns old lines below)
 redraw_at columns height old lines above below s p hs hl w h i fits =
     let n = length old - length lines in
     let all = lines ++ replicate n [] in
@@ -107,13 +109,13 @@ pub record Home (columns height : ℕ) (above : List (List ℕ)) (old : List Lin
 
 -- what a frame does after its messages keeps it
 pub Home-body : (columns height : ℕ) (above : List (List ℕ)) (old : List Line) (p : Canvas) (b : Body) → height < 2 ^ 16
-    → Home columns height above old p → BodyFits false columns height b → EndsOrderly b → Home columns height above (body_lines old b) (page_after (body_signs (widths_of old) b) p)
+    → Home columns height above old p → BodyFits false columns height b → EndsOrderly b → Home columns height above (body_lines old b) (page_after (body_signs Overwriting (widths_of old) b) p)
 Home-body columns height above old p Body.Unchanged w h f o = h
 Home-body columns height above old p (Body.Draws lines) w h f o =
     let after = redrawn_shows columns height old lines h.below h.shown h.inside h.window h.few f.1 in
     record {
       below = redrawn columns old lines h.below;
-      is = ap (page_after (redraw (widths_of old) lines)) h.is ∙ redraw_at columns height old lines above h.below h.fit f.0 h.few f.1 w h.shown h.inside h.window;
+      is = ap (page_after (redraw Overwriting (widths_of old) lines)) h.is ∙ redraw_at columns height old lines above h.below h.fit f.0 h.few f.1 w h.shown h.inside h.window;
       shown = after.0;
       inside = after.1;
       window = after.2;
@@ -125,8 +127,8 @@ Home-body columns height above old p (Body.Closes ending) w h f o =
     let after = redrawn_shows columns height old [] h.below h.shown h.inside h.window h.few few in
     record {
       below = redrawn columns old [] h.below;
-      is = page_after-append (redraw (widths_of old) []) ending p
-          ∙ ap (page_after ending) (ap (page_after (redraw (widths_of old) [])) h.is ∙ redraw_at columns height old [] above h.below h.fit tt h.few few w h.shown h.inside h.window)
+      is = page_after-append (redraw Overwriting (widths_of old) []) ending p
+          ∙ ap (page_after ending) (ap (page_after (redraw Overwriting (widths_of old) [])) h.is ∙ redraw_at columns height old [] above h.below h.fit tt h.few few w h.shown h.inside h.window)
           ∙ ending_shows ending columns height above (redrawn columns old [] h.below) o after.0 after.1;
       shown = after.0;
       inside = after.1;
@@ -181,10 +183,11 @@ Home-frame columns height above old p f w h fits o =
     let messages = Home-messages columns height above old opened f.messages (Home-opening columns height above old p f.opening o.opening h) fits.messages in
     let widths = widths_of old in
     let ended = Home-body columns height (above ++ map (cells_of columns) f.messages) (drop (length f.messages) old) _ f.body w messages fits.body o.body in
-    let same : page_after (body_signs (widths_of (drop (length f.messages) old)) f.body) (page_after (overwrite widths f.messages) opened) ≡ page_after (frame_signs widths f) p =
-    ap (λ (ws : List ℕ). page_after (body_signs ws f.body) (page_after (overwrite widths f.messages) opened)) (sym (drop-map columns_of (length f.messages) old))
-    ∙ sym (page_after-append (overwrite widths f.messages) (body_signs (drop (length f.messages) widths) f.body) opened)
-    ∙ sym (page_after-append f.opening (overwrite widths f.messages ++ body_signs (drop (length f.messages) widths) f.body) p) in
+    let same : page_after (body_signs Overwriting (widths_of (drop (length f.messages) old)) f.body) (page_after (overwrite widths f.messages) opened) ≡ page_after (frame_signs widths f) p =
+    ap (λ (ws : List ℕ). page_after (body_signs Overwriting ws f.body) (page_after (overwrite widths f.messages) opened)) (sym (drop-map columns_of (length f.messages) old))
+    ∙ sym (page_after-append (overwrite widths f.messages) (body_signs Overwriting (drop (length f.messages) widths) f.body) opened)
+    ∙ sym (page_after-append f.opening (overwrite widths f.messages ++ body_signs Overwriting (drop (length f.messages) widths) f.body) p)
+    ∙ ap (λ (layout : Layout). page_after (frame_signs widths (record f { layout = layout })) p) (sym fits.layout) in
     subst (λ (q : Canvas). Home columns height (above ++ map (cells_of columns) f.messages) (lines_after old f) q) same ended
 
 -- and so does a list of frames

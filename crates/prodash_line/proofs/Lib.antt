@@ -15,7 +15,12 @@ pub mod Chars
 pub mod Overwriting
 pub mod CursorRow
 pub mod Decimals
+pub mod ErasedRows
+pub mod FittingRows
 pub mod FramesOnPage
+pub mod ClearedPages
+pub mod ClearedRenderings
+pub mod ClearedPrefixes
 pub mod FittingFrames
 pub mod GhostLists
 pub mod Lists

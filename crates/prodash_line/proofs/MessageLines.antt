@@ -1,5 +1,5 @@
 -- Lines of messages.
-use Rattle.std.proofs.Common.{◌≡◌, ℕ, true, false, None, List, [], ◌∷◌, ◌++◌, map, refl, ap, ◌∙◌, arith}
+use Rattle.std.proofs.Common.{◌≡◌, ℕ, false, List, [], ◌∷◌, ◌++◌, map, refl, ap, ◌∙◌, arith}
 use Rattle.std.specs.Prelude.{codes, max}
 use Rattle.unicode_width.proofs.Computing.{unicode_width}
 use Rattle.prodash_base.specs.declared.messages.Message.{Message}

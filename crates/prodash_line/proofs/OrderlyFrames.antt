@@ -1,6 +1,6 @@
 -- Frames whose first and last signs change nothing on a page, and whose styles have codes, as those of a renderer do.
-use Rattle.std.proofs.Common.{ℕ, Bool, true, false, cond, List, [], ◌∷◌, ◌++◌, Some, None, Result, Ok, Err}
-use Rattle.std.specs.Prelude.{⊤, ◌&&◌}
+use Rattle.std.proofs.Common.{ℕ, ◌-◌, Bool, true, false, cond, List, [], ◌∷◌, ◌++◌, length, Some, None, Result, Ok, Err}
+use Rattle.std.specs.Prelude.{⊤}
 use Rattle.std.specs.List.{AllByRecursion}
 use Rattle.prodash_base.specs.Rows.{PathRow}
 use Rattle.prodash_base.specs.declared.refusal.Refusal.{Refusal}
@@ -10,13 +10,14 @@ use Rattle.prodash_line.specs.declared.render.line.draw.input.Input.TheVariants.
 use Rattle.prodash_line.specs.declared.render.line.draw.input.Answer.{Answer}
 use Rattle.prodash_line.specs.declared.render.line.page.sign.Sign.{Sign}
 use Rattle.prodash_line.specs.declared.render.line.page.sign.Sign.TheVariants.{CarriageReturn, EraseLine, HideCursor, ShowCursor}
-use Rattle.prodash_line.specs.Lines.{Line}
 use Rattle.prodash_line.specs.Frames.{Body, Unchanged, Draws, Closes, Frame}
 use Rattle.prodash_line.specs.declared.render.line.draw.action.Action.{Action}
-use Rattle.prodash_line.specs.declared.render.line.draw.action.Action.TheVariants.{Leave, Redraw, Close}
-use Rattle.prodash_line.specs.Renderer.{Renderer, Drawing, hides_cursor, is_cursor_hidden, ending_of, drawn_rows, drawn_lines, latest_rows, remember, moment_of, drawing_at, action_at, printed_at, body_of, frame_at}
+use Rattle.prodash_line.specs.declared.render.line.draw.action.Action.TheVariants.{Leave, Redraw, Erase, Close}
+use Rattle.prodash_line.specs.Renderer.{Renderer, Drawing, hides_cursor, is_cursor_hidden, erases_at_end, ending_of, drawn_rows, fitting_rows, drawn_lines, latest_rows, remember, moment_of, drawing_at, action_at, printed_at, body_of, frame_at}
 use Rattle.prodash_line.specs.Renderings.{Rendering, renderer_after, Attempt, attempt_of, attempts_of, frames_of, drawn_frames}
-use Rattle.prodash_line.proofs.StyledLines.{HaveCodes, rows_have, messages_have}
+use Rattle.prodash_line.specs.ProgressRows.{row_lines, more_lines}
+use Rattle.prodash_line.proofs.Lists.{AllByRecursion-append}
+use Rattle.prodash_line.proofs.StyledLines.{HasCodes, HaveCodes, rows_have, more_have, messages_have}
 use Rattle.prodash_line.proofs.UnseenSigns.{IsUnseen}
 
 -- a sign that changes nothing if the cursor is at the beginning of a blank row
@@ -41,23 +42,27 @@ opens : (hides : Bool) → AllByRecursion IsUnseen (cond hides (HideCursor ∷ [
 opens true = (tt, tt)
 opens false = tt
 
--- and shows it or not, on a terminal or not
-ends : (hidden terminal : Bool) → AllByRecursion IsEnding (cond hidden (ShowCursor ∷ []) [] ++ cond terminal (EraseLine ∷ CarriageReturn ∷ []) [])
+-- and shows it or not, and erases a row or not
+ends : (hidden erases : Bool) → AllByRecursion IsEnding (cond hidden (ShowCursor ∷ []) [] ++ cond erases (EraseLine ∷ CarriageReturn ∷ []) [])
 ends true true = (tt, (tt, (tt, tt)))
 ends true false = (tt, tt)
 ends false true = (tt, (tt, tt))
 ends false false = tt
 
 closes : (r : Renderer) → AllByRecursion IsEnding (ending_of r)
-closes r = ends (is_cursor_hidden r) r.options.output_is_terminal
+closes r = ends (is_cursor_hidden r) (erases_at_end r.options)
 
 lines_have : (r : Renderer) (at : ℕ) (rows : List PathRow) → HaveCodes (drawn_lines r at rows)
-lines_have r at rows = rows_have r.options r.midpoint (drawn_rows r at rows)
+lines_have r at rows =
+    let more = length (drawn_rows r at rows) - length (fitting_rows r at rows) in
+    AllByRecursion-append HasCodes (row_lines r.options r.midpoint (fitting_rows r at rows)) (more_lines r.options more)
+    (rows_have r.options r.midpoint (fitting_rows r at rows)) (more_have r.options more)
 
 -- whatever a frame does after its messages
 body_ends : (action : Action) (drawing : Drawing) (r : Renderer) → HaveCodes drawing.lines → EndsOrderly (body_of action drawing (ending_of r))
 body_ends Leave drawing r h = tt
 body_ends Redraw drawing r h = h
+body_ends Erase drawing r h = tt
 body_ends Close drawing r h = closes r
 
 printed_have : (r : Renderer) (input : Input) → HaveCodes (printed_at r input)

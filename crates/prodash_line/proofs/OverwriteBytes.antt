@@ -4,14 +4,21 @@ use Rattle.std.specs.Prelude.{min, max}
 use Rattle.std.proofs.lemmas.Bool.{cases_lt}
 use Rattle.std.proofs.lemmas.List.{drop-drop, drop_all}
 use Rattle.prodash_base.specs.declared.messages.Message.{Message}
-use Rattle.prodash_line.specs.declared.render.line.page.sign.Sign.TheVariants.{LineFeed}
-use Rattle.prodash_line.specs.Signs.{spelling}
+use Rattle.prodash_line.specs.declared.render.line.page.sign.Sign.{Sign}
+use Rattle.prodash_line.specs.declared.render.line.page.sign.Sign.TheVariants.{LineFeed, EraseLine}
+use Rattle.prodash_line.specs.declared.render.line.draw.layout.Layout.{Layout}
+use Rattle.prodash_line.specs.declared.render.line.draw.layout.Layout.TheVariants.{Overwriting, Clearing}
+use Rattle.prodash_line.specs.Signs.{spelling_of, spelling}
 use Rattle.prodash_line.specs.Lines.{Line, spaces, columns_of}
-use Rattle.prodash_line.specs.Frames.{Frame, line_signs, piece_signs, overwrite_line, first_width, overwrite, cursor_up, redraw, body_signs, frame_signs}
+use Rattle.prodash_line.specs.Frames.{Frame, line_signs, piece_signs, row_start, covered, overwrite_line, first_width, lines_over, overwrite, cursor_up, erased_rows, redraw, body_signs, frame_start, frame_signs}
 use Rattle.prodash_line.specs.declared.render.line.draw.input.Options.{Options}
 use Rattle.prodash_line.specs.MessageLines.{drawn_message_line, message_lines, origin_width, widths_of_origins, greatest_width}
 use Rattle.prodash_line.specs.Writing.{line_bytes}
-use Rattle.prodash_line.specs.OverwriteBytes.{row_end, overwrite_line_bytes, overwrite_bytes, blank_bytes}
+use Rattle.prodash_line.specs.OverwriteBytes.{row_end, overwrite_line_bytes, lines_bytes, blank_bytes}
+use Rattle.prodash_line.specs.FrameWriting.{action_start, clearing_end}
+use Rattle.prodash_line.specs.Renderer.{Drawing, body_of}
+use Rattle.prodash_line.specs.declared.render.line.draw.action.Action.{Action}
+use Rattle.prodash_line.specs.declared.render.line.draw.action.Action.TheVariants.{Leave, Redraw, Erase, Close}
 use Rattle.prodash_line.proofs.Columns.{printable-spaces}
 use Rattle.prodash_line.proofs.MessageLines.{greatest_width-append}
 use Rattle.prodash_line.proofs.Written.{spelling-append, line_bytes-printable}
@@ -32,25 +39,33 @@ spelling-overwrite_line width line =
 
 -- ---- lines
 
-overwritten : (widths : List ℕ) (lines : List Line) → overwrite_bytes widths lines ≡ spelling (overwrite widths lines)
-overwritten widths [] = refl
-overwritten widths (line ∷ lines) =
-    ap (λ t. t ++ overwrite_bytes (drop 1 widths) lines) (sym (spelling-overwrite_line (first_width widths) line))
-    ∙ ap (λ t. spelling (overwrite_line (first_width widths) line) ++ t) (overwritten (drop 1 widths) lines)
-    ∙ sym (spelling-append (overwrite_line (first_width widths) line) (overwrite (drop 1 widths) lines))
+pub overwritten : (layout : Layout) (widths : List ℕ) (lines : List Line) → lines_bytes layout widths lines ≡ spelling (lines_over layout widths lines)
+overwritten layout widths [] = refl
+overwritten layout widths (line ∷ lines) =
+    ap (λ t. spelling (row_start layout) ++ t)
+    (ap (λ t. t ++ lines_bytes layout (drop 1 widths) lines) (sym (spelling-overwrite_line (first_width widths) line))
+    ∙ ap (λ t. spelling (overwrite_line (first_width widths) line) ++ t) (overwritten layout (drop 1 widths) lines)
+    ∙ sym (spelling-append (overwrite_line (first_width widths) line) (lines_over layout (drop 1 widths) lines)))
+    ∙ sym (spelling-append (row_start layout) (overwrite_line (first_width widths) line ++ lines_over layout (drop 1 widths) lines))
 
-blanks_overwritten : (widths : List ℕ) → blank_bytes widths ≡ overwrite_bytes widths (replicate (length widths) [])
+blanks_overwritten : (widths : List ℕ) → blank_bytes widths ≡ lines_bytes Overwriting widths (replicate (length widths) [])
 blanks_overwritten [] = refl
 blanks_overwritten (width ∷ widths) = ap (λ t. overwrite_line_bytes width [] ++ t) (blanks_overwritten widths)
 
-overwrite_bytes-append : (widths : List ℕ) (xs ys : List Line) → overwrite_bytes widths (xs ++ ys) ≡ overwrite_bytes widths xs ++ overwrite_bytes (drop (length xs) widths) ys
-overwrite_bytes-append widths [] ys = refl
-overwrite_bytes-append widths (x ∷ xs) ys =
-    ap (λ t. overwrite_line_bytes (first_width widths) x ++ t)
-    (overwrite_bytes-append (drop 1 widths) xs ys
-    ∙ ap (λ (w : List ℕ). overwrite_bytes (drop 1 widths) xs ++ overwrite_bytes w ys)
+pub lines_bytes-append : (layout : Layout) (widths : List ℕ) (xs ys : List Line)
+    → lines_bytes layout widths (xs ++ ys) ≡ lines_bytes layout widths xs ++ lines_bytes layout (drop (length xs) widths) ys
+lines_bytes-append layout widths [] ys = refl
+lines_bytes-append layout widths (x ∷ xs) ys =
+    let start = spelling (row_start layout) in
+    let here = overwrite_line_bytes (first_width widths) x in
+    let others = lines_bytes layout (drop 1 widths) xs in
+    let rest = lines_bytes layout (drop (length (x ∷ xs)) widths) ys in
+    ap (λ t. start ++ (here ++ t))
+    (lines_bytes-append layout (drop 1 widths) xs ys
+    ∙ ap (λ (w : List ℕ). others ++ lines_bytes layout w ys)
     (drop-drop (length xs) 1 widths ∙ ap (λ (n : ℕ). drop n widths) (let e : 1 + length xs ≡ suc (length xs) = omega arith in e)))
-    ∙ sym (append_assoc (overwrite_line_bytes (first_width widths) x) (overwrite_bytes (drop 1 widths) xs) (overwrite_bytes (drop (length (x ∷ xs)) widths) ys))
+    ∙ ap (λ t. start ++ t) (sym (append_assoc here others rest))
+    ∙ sym (append_assoc start (here ++ others) rest)
 
 -- to drop as many as there are is to drop all
 pub drop_min : (k : ℕ) (widths : List ℕ) → drop (min k (length widths)) widths ≡ drop k widths
@@ -60,27 +75,48 @@ drop_min k widths = ⊎_elim
     (cases_lt k (length widths))
 
 redraw_bytes : (widths : List ℕ) (lines : List Line)
-    → spelling (redraw widths lines) ≡ overwrite_bytes widths lines ++ (blank_bytes (drop (length lines) widths) ++ spelling (cursor_up (max (length lines) (length widths))))
+    → spelling (redraw Overwriting widths lines) ≡ lines_bytes Overwriting widths lines ++ (blank_bytes (drop (length lines) widths) ++ spelling (cursor_up (max (length lines) (length widths))))
 redraw_bytes widths lines =
     let rest = drop (length lines) widths in
     let over = length widths - length lines in
     let ups = spelling (cursor_up (max (length lines) (length widths))) in
     let size : over ≡ length rest = sym (length-drop (length lines) widths) in
+    let drawn = lines_bytes Overwriting widths lines in
     spelling-append (overwrite widths (lines ++ replicate over [])) (cursor_up (max (length lines) (length widths)))
-    ∙ ap (λ t. t ++ ups) (sym (overwritten widths (lines ++ replicate over [])) ∙ overwrite_bytes-append widths lines (replicate over [])
-    ∙ ap (λ n. overwrite_bytes widths lines ++ overwrite_bytes rest (replicate n [])) size ∙ ap (λ t. overwrite_bytes widths lines ++ t) (sym (blanks_overwritten rest)))
-    ∙ append_assoc (overwrite_bytes widths lines) (blank_bytes rest) ups
+    ∙ ap (λ t. t ++ ups) (sym (overwritten Overwriting widths (lines ++ replicate over [])) ∙ lines_bytes-append Overwriting widths lines (replicate over [])
+    ∙ ap (λ n. drawn ++ lines_bytes Overwriting rest (replicate n [])) size ∙ ap (λ t. drawn ++ t) (sym (blanks_overwritten rest)))
+    ∙ append_assoc drawn (blank_bytes rest) ups
 
 -- a redraw from its lines on
 pub redrawn : (widths : List ℕ) (lines : List Line) (count most : ℕ) (before left a b d : List ℕ) → length lines ≡ count → left ≡ drop count widths → most ≡ max count (length widths)
-    → a ≡ before ++ overwrite_bytes widths lines → b ≡ a ++ blank_bytes left → d ≡ b ++ spelling (cursor_up most) → d ≡ before ++ spelling (redraw widths lines)
+    → a ≡ before ++ lines_bytes Overwriting widths lines → b ≡ a ++ blank_bytes left → d ≡ b ++ spelling (cursor_up most) → d ≡ before ++ spelling (redraw Overwriting widths lines)
 redrawn widths lines count most before left a b d n l m ea eb ed =
     let rest = drop (length lines) widths in
     let ups = spelling (cursor_up (max (length lines) (length widths))) in
+    let drawn = lines_bytes Overwriting widths lines in
     ed ∙ ap (λ k. b ++ spelling (cursor_up k)) (m ∙ ap (λ k. max k (length widths)) (sym n))
     ∙ ap (λ t. t ++ ups) (eb ∙ ap (λ t. a ++ blank_bytes t) (l ∙ ap (λ k. drop k widths) (sym n)) ∙ ap (λ t. t ++ blank_bytes rest) ea)
-    ∙ append_assoc (before ++ overwrite_bytes widths lines) (blank_bytes rest) ups ∙ append_assoc before (overwrite_bytes widths lines) (blank_bytes rest ++ ups)
+    ∙ append_assoc (before ++ drawn) (blank_bytes rest) ups ∙ append_assoc before drawn (blank_bytes rest ++ ups)
     ∙ ap (λ t. before ++ t) (sym (redraw_bytes widths lines))
+
+-- and on rows that are erased
+pub redrawn_clearing : (height : ℕ) (widths : List ℕ) (lines : List Line) (count : ℕ) (before a d : List ℕ) → length lines ≡ count
+    → a ≡ before ++ lines_bytes (Clearing height) [] lines → d ≡ a ++ spelling (clearing_end height (length widths) count) → d ≡ before ++ spelling (redraw (Clearing height) widths lines)
+redrawn_clearing height widths lines count before a d n ea ed =
+    let end = clearing_end height (length widths) (length lines) in
+    ed ∙ ap (λ k. a ++ spelling (clearing_end height (length widths) k)) (sym n)
+    ∙ ap (λ t. t ++ spelling end) (ea ∙ ap (λ t. before ++ t) (overwritten (Clearing height) [] lines))
+    ∙ append_assoc before (spelling (lines_over (Clearing height) [] lines)) (spelling end)
+    ∙ ap (λ t. before ++ t) (sym (spelling-append (lines_over (Clearing height) [] lines) end))
+
+-- one erased row more
+pub erased_more : (n : ℕ) (old erased new total : List ℕ) → erased ≡ old ++ spelling_of EraseLine → new ≡ erased ++ spelling_of LineFeed
+    → old ++ spelling (erased_rows (suc n)) ≡ total → new ++ spelling (erased_rows n) ≡ total
+erased_more n old erased new total e f h =
+    ap (λ t. t ++ spelling (erased_rows n)) (f ∙ ap (λ t. t ++ spelling_of LineFeed) e)
+    ∙ append_assoc (old ++ spelling_of EraseLine) (spelling_of LineFeed) (spelling (erased_rows n))
+    ∙ append_assoc old (spelling_of EraseLine) (spelling_of LineFeed ++ spelling (erased_rows n))
+    ∙ h
 
 -- one blank line more
 pub blanks_more : (widths : List ℕ) (i : ℕ) (old new total : List ℕ) → i < length widths → new ≡ old ++ overwrite_line_bytes (get_or widths i 0) []
@@ -91,6 +127,12 @@ blanks_more widths i old new total l n e =
     ∙ ap (λ k. old ++ blank_bytes (width ∷ drop k widths)) (let next : i + 1 ≡ suc i = omega arith in next)
     ∙ ap (λ t. old ++ blank_bytes t) (sym (drop-cons widths i 0 l)) ∙ e
 
+-- a line after what its row begins with
+pub line_more : (layout : Layout) (old begun here there : List ℕ) → begun ≡ old ++ spelling (row_start layout)
+    → (begun ++ here) ++ there ≡ old ++ (spelling (row_start layout) ++ (here ++ there))
+line_more layout old begun here there b =
+    append_assoc begun here there ∙ ap (λ t. t ++ (here ++ there)) b ∙ append_assoc old (spelling (row_start layout)) (here ++ there)
+
 -- ---- messages
 
 -- the messages that are left, of which this is the first
@@ -98,19 +140,20 @@ pub left_from : (messages : List Message) (i : ℕ) (m : Message) → i < length
 left_from messages i m h e = drop-cons messages i m h ∙ ap (λ x. x ∷ drop (suc i) messages) (sym e) ∙ ap (λ k. m ∷ drop k messages) (let next : suc i ≡ i + 1 = omega arith in next)
 
 -- one message more, of these that are left
-pub message_more : (options : Options) (widths kept new_kept old new total : List ℕ) (m : Message) (messages left : List Message) (greatest own width : ℕ) (others : List ℕ)
+pub message_more : (layout : Layout) (options : Options) (widths kept new_kept old begun new total : List ℕ) (m : Message) (messages left : List Message) (greatest own width : ℕ) (others : List ℕ)
     → own ≡ origin_width m.origin → greatest ≡ max (greatest_width kept) own → new_kept ≡ kept ++ own ∷ [] → width ≡ first_width widths → others ≡ drop 1 widths
-    → new ≡ old ++ overwrite_line_bytes width (drawn_message_line options greatest m)
-    → left ≡ m ∷ messages → old ++ overwrite_bytes widths (message_lines options kept left) ≡ total
-    → new ++ overwrite_bytes others (message_lines options new_kept messages) ≡ total
-message_more options widths kept new_kept old new total m messages left greatest own width others o g k w l n f e =
+    → begun ≡ old ++ spelling (row_start layout) → new ≡ begun ++ overwrite_line_bytes width (drawn_message_line options greatest m)
+    → left ≡ m ∷ messages → old ++ lines_bytes layout widths (message_lines options kept left) ≡ total
+    → new ++ lines_bytes layout others (message_lines options new_kept messages) ≡ total
+message_more layout options widths kept new_kept old begun new total m messages left greatest own width others o g k w l b n f e =
     let all : new_kept ≡ kept ++ origin_width m.origin ∷ [] = k ∙ ap (λ x. kept ++ x ∷ []) o in
     let size : greatest ≡ greatest_width (kept ++ origin_width m.origin ∷ []) = g ∙ ap (max (greatest_width kept)) o ∙ sym (greatest_width-append kept (origin_width m.origin)) in
     let here = overwrite_line_bytes (first_width widths) (drawn_message_line options (greatest_width (kept ++ origin_width m.origin ∷ [])) m) in
-    let there = overwrite_bytes (drop 1 widths) (message_lines options (kept ++ origin_width m.origin ∷ []) messages) in
-    ap (λ t. new ++ overwrite_bytes t (message_lines options new_kept messages)) l ∙ ap (λ t. new ++ overwrite_bytes (drop 1 widths) (message_lines options t messages)) all
-    ∙ ap (λ t. t ++ there) (n ∙ ap (λ x. old ++ overwrite_line_bytes x (drawn_message_line options greatest m)) w ∙ ap (λ x. old ++ overwrite_line_bytes (first_width widths) (drawn_message_line options x m)) size)
-    ∙ append_assoc old here there ∙ ap (λ ms. old ++ overwrite_bytes widths (message_lines options kept ms)) (sym f) ∙ e
+    let there = lines_bytes layout (drop 1 widths) (message_lines options (kept ++ origin_width m.origin ∷ []) messages) in
+    ap (λ t. new ++ lines_bytes layout t (message_lines options new_kept messages)) l ∙ ap (λ t. new ++ lines_bytes layout (drop 1 widths) (message_lines options t messages)) all
+    ∙ ap (λ t. t ++ there) (n ∙ ap (λ x. begun ++ overwrite_line_bytes x (drawn_message_line options greatest m)) w ∙ ap (λ x. begun ++ overwrite_line_bytes (first_width widths) (drawn_message_line options x m)) size)
+    ∙ line_more layout old begun here there b
+    ∙ ap (λ ms. old ++ lines_bytes layout widths (message_lines options kept ms)) (sym f) ∙ e
 
 -- and its origin
 pub origin_more : (kept new_kept total : List ℕ) (m : Message) (messages left : List Message) (own : ℕ) → own ≡ origin_width m.origin → new_kept ≡ kept ++ own ∷ []
@@ -125,13 +168,27 @@ length-message_lines options widths (m ∷ messages) = ap suc (length-message_li
 
 -- ---- whole frames
 
+-- where the frame of an action is to erase rows, it begins as its body says
+pub action_starts : (layout : Layout) (action : Action) (drawing : Drawing) (ending : List Sign) → action_start layout action ≡ frame_start layout (body_of action drawing ending)
+action_starts Overwriting action drawing ending = refl
+action_starts (Clearing height) Leave drawing ending = refl
+action_starts (Clearing height) Redraw drawing ending = refl
+action_starts (Clearing height) Erase drawing ending = refl
+action_starts (Clearing height) Close drawing ending = refl
+
 -- what it begins with, the messages over the lines on screen, and the body over those that are left
-pub frame_bytes_of : (f : Frame) (widths left o a b : List ℕ) (count : ℕ) → o ≡ spelling f.opening → a ≡ o ++ overwrite_bytes widths f.messages → left ≡ drop count widths
-    → count ≡ length f.messages → b ≡ a ++ spelling (body_signs left f.body) → b ≡ spelling (frame_signs widths f)
-frame_bytes_of f widths left o a b count eo ea l n eb =
-    let end = body_signs (drop (length f.messages) widths) f.body in
-    eb ∙ ap (λ t. t ++ spelling (body_signs left f.body)) (ea ∙ ap (λ t. t ++ overwrite_bytes widths f.messages) eo ∙ ap (λ t. spelling f.opening ++ t) (overwritten widths f.messages))
-    ∙ ap (λ w. (spelling f.opening ++ spelling (overwrite widths f.messages)) ++ spelling (body_signs w f.body)) (l ∙ ap (λ k. drop k widths) n)
-    ∙ append_assoc (spelling f.opening) (spelling (overwrite widths f.messages)) (spelling end)
-    ∙ ap (λ t. spelling f.opening ++ t) (sym (spelling-append (overwrite widths f.messages) end))
-    ∙ sym (spelling-append f.opening (overwrite widths f.messages ++ end))
+pub frame_bytes_of : (f : Frame) (start : List Sign) (widths left o a b : List ℕ) (count : ℕ) → o ≡ spelling (f.opening ++ start) → start ≡ frame_start f.layout f.body
+    → a ≡ o ++ lines_bytes f.layout (covered f.layout widths) f.messages → left ≡ drop count widths
+    → count ≡ length f.messages → b ≡ a ++ spelling (body_signs f.layout left f.body) → b ≡ spelling (frame_signs widths f)
+frame_bytes_of f start widths left o a b count eo es ea l n eb =
+    let first = frame_start f.layout f.body in
+    let printed = lines_over f.layout (covered f.layout widths) f.messages in
+    let end = body_signs f.layout (drop (length f.messages) widths) f.body in
+    let begins : o ≡ spelling f.opening ++ spelling first = eo ∙ ap (λ t. spelling (f.opening ++ t)) es ∙ spelling-append f.opening first in
+    eb ∙ ap (λ t. t ++ spelling (body_signs f.layout left f.body)) (ea ∙ ap (λ t. o ++ t) (overwritten f.layout (covered f.layout widths) f.messages) ∙ ap (λ t. t ++ spelling printed) begins)
+    ∙ ap (λ w. ((spelling f.opening ++ spelling first) ++ spelling printed) ++ spelling (body_signs f.layout w f.body)) (l ∙ ap (λ k. drop k widths) n)
+    ∙ append_assoc (spelling f.opening ++ spelling first) (spelling printed) (spelling end)
+    ∙ append_assoc (spelling f.opening) (spelling first) (spelling printed ++ spelling end)
+    ∙ ap (λ t. spelling f.opening ++ (spelling first ++ t)) (sym (spelling-append printed end))
+    ∙ ap (λ t. spelling f.opening ++ t) (sym (spelling-append first (printed ++ end)))
+    ∙ sym (spelling-append f.opening (first ++ (printed ++ end)))

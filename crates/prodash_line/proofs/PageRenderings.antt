@@ -12,7 +12,7 @@ use Rattle.prodash_line.specs.Lines.{Line}
 use Rattle.prodash_line.specs.Frames.{Frame, frame_signs, lines_after, widths_of, signs_of, all_lines_after}
 use Rattle.prodash_line.specs.Page.{Canvas}
 use Rattle.prodash_line.specs.declared.render.line.draw.action.Action.{Action}
-use Rattle.prodash_line.specs.declared.render.line.draw.action.Action.TheVariants.{Leave, Redraw, Close}
+use Rattle.prodash_line.specs.declared.render.line.draw.action.Action.TheVariants.{Leave, Redraw, Erase, Close}
 use Rattle.prodash_line.specs.Renderer.{Renderer, Renders, frame_at, action_at, ended_after}
 use Rattle.prodash_line.specs.Screens.{ScreenState}
 use Rattle.prodash_line.specs.Renderings.{Rendering, after_result, renderer_after, RendersAll, Attempt, attempt_of, attempts_of, frames_of, drawn_frames, bytes_over, WritesAttempts, FitsPage, ShowsFrames}
@@ -23,19 +23,20 @@ use Rattle.prodash_line.proofs.PageTheorem.{shows_each_prefix}
 use Rattle.prodash_line.proofs.Renderings.{IsBroken, was_unbroken, true_is_not_false, writes_attempts}
 
 -- `Broken` is returned for no frame
-abbrev AllWritten : List Attempt → Type 0
+abbrev pub AllWritten : List Attempt → Type 0
 AllWritten attempts = AllByRecursion (λ attempt. attempt.broken ≡ false) attempts
 
-abbrev NotBroken : Option Refusal → Type 0
+abbrev pub NotBroken : Option Refusal → Type 0
 NotBroken ended = ended ≡ Some refusals.Broken → ⊥
 
-running_not_broken : (ended : Option Refusal) → ended ≡ None → NotBroken ended
+pub running_not_broken : (ended : Option Refusal) → ended ≡ None → NotBroken ended
 running_not_broken ended running broken = let clash : None ≡ Some refusals.Broken = sym running ∙ broken in cc
 
 -- neither a frame nor a closing one ends a renderer as broken
 not_broken_after : (action : Action) (ended : Option Refusal) → NotBroken ended → NotBroken (ended_after action ended)
 not_broken_after Leave ended n = n
 not_broken_after Redraw ended n = n
+not_broken_after Erase ended n = n
 not_broken_after Close ended n = λ broken. subst IsBroken (sym broken) tt
 
 all_written_step : (r : Renderer) (s : ScreenState) (input : Input) (result : Result Answer Refusal) (s₁ : ScreenState) (attempts : List Attempt) → NotBroken r.ended
@@ -51,7 +52,7 @@ all_written_step r s input (Err refusals.TooManyHandles) s₁ attempts n h whole
 all_written_step r s input (Err refusals.NoThread) s₁ attempts n h whole more = absurd h
 
 -- on a screen that isn't broken every frame is written
-all_written : (r : Renderer) (s : ScreenState) (xs : List Rendering) (s' : ScreenState) → RendersAll r s xs s' → NotBroken r.ended → s'.broken ≡ false → AllWritten (attempts_of r xs)
+pub all_written : (r : Renderer) (s : ScreenState) (xs : List Rendering) (s' : ScreenState) → RendersAll r s xs s' → NotBroken r.ended → s'.broken ≡ false → AllWritten (attempts_of r xs)
 all_written r s [] s' h n whole = tt
 all_written r s (x ∷ xs) s' h n whole =
     all_written_step r s x.input x.result h.0 (attempts_of (renderer_after r x) xs) n h.1 (was_unbroken (renderer_after r x) h.0 xs s' h.3 whole)
@@ -62,7 +63,7 @@ is_written true P Q e m = cc
 is_written false P Q e m = m
 
 -- what frames write if all are written
-writes_signs : (lines : List Line) (attempts : List Attempt) (bytes : List ℕ) → AllWritten attempts → WritesAttempts lines attempts bytes → bytes ≡ spelling (signs_of lines (frames_of attempts))
+pub writes_signs : (lines : List Line) (attempts : List Attempt) (bytes : List ℕ) → AllWritten attempts → WritesAttempts lines attempts bytes → bytes ≡ spelling (signs_of lines (frames_of attempts))
 writes_signs lines [] bytes a h = h
 writes_signs lines (attempt ∷ attempts) bytes a h =
     let first = is_written attempt.broken _ _ a.0 h in
@@ -70,7 +71,7 @@ writes_signs lines (attempt ∷ attempts) bytes a h =
     ∙ sym (flat_map-append spelling_of (frame_signs (widths_of lines) attempt.frame) (signs_of (lines_after lines attempt.frame) (frames_of attempts)))
 
 -- the signs of the first j frames, and those of the others
-signs_of-take : (j : ℕ) (lines : List Line) (frames : List Frame)
+pub signs_of-take : (j : ℕ) (lines : List Line) (frames : List Frame)
     → signs_of lines frames ≡ signs_of lines (take j frames) ++ signs_of (all_lines_after lines (take j frames)) (drop j frames)
 signs_of-take zero lines frames = refl
 signs_of-take (suc j) lines [] = refl

@@ -1,23 +1,24 @@
--- The signs of frames that fit are proper, so their bytes are read as them.
-use Rattle.std.proofs.Common.{false, ℕ, zero, suc, ◌-◌, List, [], ◌∷◌, Option, Some, None, length, map, drop, refl, arith}
+-- The signs of frames whose lines are plain are proper, so their bytes are read as them.
+use Rattle.std.proofs.Common.{false, ℕ, zero, suc, ◌+◌, ◌-◌, List, [], ◌∷◌, Option, Some, None, length, map, drop, refl, arith}
 use Rattle.std.specs.Prelude.{max, replicate}
 use Rattle.std.specs.List.{AllByRecursion}
 use Rattle.prodash_line.specs.declared.render.line.page.sign.Sign.{Sign}
-use Rattle.prodash_line.specs.declared.render.line.page.sign.Sign.TheVariants.{Char, LineFeed, CarriageReturn, EraseLine, Reset}
+use Rattle.prodash_line.specs.declared.render.line.page.sign.Sign.TheVariants.{Char, LineFeed, CarriageReturn, EraseLine, EraseBelow, Reset}
+use Rattle.prodash_line.specs.declared.render.line.draw.layout.Layout.{Layout}
+use Rattle.prodash_line.specs.declared.render.line.draw.layout.Layout.TheVariants.{Overwriting, Clearing}
 use Rattle.prodash_line.specs.declared.render.line.page.style.Style.{Style}
 use Rattle.prodash_line.specs.Signs.{IsProper}
 use Rattle.prodash_line.specs.Lines.{Line, spaces, columns_of}
-use Rattle.prodash_line.specs.Frames.{styled_signs, piece_signs, line_signs, overwrite_line, overwrite, first_width, cursor_up, redraw, widths_of, Body, Frame, body_signs, frame_signs, lines_after, signs_of}
+use Rattle.prodash_line.specs.Frames.{styled_signs, piece_signs, line_signs, overwrite_line, first_width, row_start, covered, lines_over, cursor_up, erased_rows, left_over, redraw, frame_start, widths_of, Body, Frame, body_lines, body_signs, frame_signs, lines_after, signs_of}
 use Rattle.prodash_line.specs.Reading.{AreProper}
-use Rattle.prodash_line.specs.Fits.{IsPlainChar, IsPlainPiece, LineFits, LinesFit, BodyFits, FrameFits}
+use Rattle.prodash_line.specs.Fits.{IsPlainChar, IsPlainPiece, IsPlain, HasPlainLines, LineFits, LinesFit, BodyFits, FrameFits}
 use Rattle.prodash_line.proofs.Lists.{AllByRecursion-append, AllByRecursion-replicate, AllByRecursion-map}
 use Rattle.prodash_line.proofs.StyledLines.{HasCode, HasCodes, HaveCodes}
 use Rattle.prodash_line.proofs.UnseenSigns.{IsUnseen, unseen_proper}
 use Rattle.prodash_line.proofs.OrderlyFrames.{IsEnding, EndsOrderly, IsOrderly}
-use Rattle.prodash_line.proofs.FramesOnPage.{LineFits-empty}
 
 -- of proper characters
-pub chars_proper : (text : List ℕ) → AllByRecursion (λ c. IsProper (Char c)) text → AreProper (map Char text)
+chars_proper : (text : List ℕ) → AllByRecursion (λ c. IsProper (Char c)) text → AreProper (map Char text)
 chars_proper [] h = tt
 chars_proper (c ∷ cs) h = (h.0, chars_proper cs h.1)
 
@@ -28,7 +29,7 @@ styled_proper (Some style) [] h code = tt
 styled_proper (Some style) (c ∷ text) h code = (code, AllByRecursion-append IsProper (map Char (c ∷ text)) (Reset ∷ []) (chars_proper (c ∷ text) h) (tt, tt))
 
 -- of plain pieces
-pub line_proper : (line : Line) → AllByRecursion IsPlainPiece line → HasCodes line → AreProper (line_signs line)
+line_proper : (line : Line) → AllByRecursion IsPlainPiece line → HasCodes line → AreProper (line_signs line)
 line_proper [] h codes = tt
 line_proper (p ∷ ps) h codes =
     AllByRecursion-append IsProper (piece_signs p) (line_signs ps)
@@ -36,51 +37,89 @@ line_proper (p ∷ ps) h codes =
     (line_proper ps h.1 codes.1)
 
 -- of spaces
-pub spaces_proper : (n : ℕ) → AreProper (piece_signs (spaces n))
+spaces_proper : (n : ℕ) → AreProper (piece_signs (spaces n))
 spaces_proper n = chars_proper (replicate n 32) (AllByRecursion-replicate (λ c. IsProper (Char c)) n 32 (refl, refl))
 
 -- of a line over another one
-pub overwrite_line_proper : (columns width : ℕ) (line : Line) → LineFits false columns line → HasCodes line → AreProper (overwrite_line width line)
-overwrite_line_proper columns width line h codes = AllByRecursion-append IsProper (line_signs line) _ (line_proper line h.plain.pieces codes)
+overwrite_line_proper : (width : ℕ) (line : Line) → IsPlain line → HasCodes line → AreProper (overwrite_line width line)
+overwrite_line_proper width line h codes = AllByRecursion-append IsProper (line_signs line) _ (line_proper line h.pieces codes)
     (AllByRecursion-append IsProper (piece_signs (spaces (width - columns_of line))) (LineFeed ∷ []) (spaces_proper (width - columns_of line)) (tt, tt))
 
+-- of what a row begins with
+row_start_proper : (layout : Layout) → AreProper (row_start layout)
+row_start_proper Overwriting = tt
+row_start_proper (Clearing height) = (tt, tt)
+
 -- of lines
-pub overwrite_proper : (columns : ℕ) (widths : List ℕ) (lines : List Line) → LinesFit false columns lines → HaveCodes lines → AreProper (overwrite widths lines)
-overwrite_proper columns widths [] h codes = tt
-overwrite_proper columns widths (l ∷ ls) h codes = AllByRecursion-append IsProper (overwrite_line (first_width widths) l) (overwrite (drop 1 widths) ls) (overwrite_line_proper columns (first_width widths) l h.0 codes.0) (overwrite_proper columns (drop 1 widths) ls h.1 codes.1)
+lines_proper : (layout : Layout) (widths : List ℕ) (lines : List Line) → AllByRecursion IsPlain lines → HaveCodes lines → AreProper (lines_over layout widths lines)
+lines_proper layout widths [] h codes = tt
+lines_proper layout widths (l ∷ ls) h codes = AllByRecursion-append IsProper (row_start layout) _ (row_start_proper layout)
+    (AllByRecursion-append IsProper (overwrite_line (first_width widths) l) (lines_over layout (drop 1 widths) ls) (overwrite_line_proper (first_width widths) l h.0 codes.0)
+    (lines_proper layout (drop 1 widths) ls h.1 codes.1))
 
 -- of up
-pub cursor_up_proper : (n : ℕ) → AreProper (cursor_up n)
+cursor_up_proper : (n : ℕ) → AreProper (cursor_up n)
 cursor_up_proper zero = tt
 cursor_up_proper (suc n) = ((omega arith, omega arith), tt)
 
+-- of erased rows
+erased_proper : (n : ℕ) → AreProper (erased_rows n)
+erased_proper zero = tt
+erased_proper (suc n) = (tt, (tt, erased_proper n))
+
 -- of lines drawn anew
-pub redraw_proper : (columns : ℕ) (widths : List ℕ) (lines : List Line) → LinesFit false columns lines → HaveCodes lines → AreProper (redraw widths lines)
-redraw_proper columns widths lines h codes = AllByRecursion-append IsProper _ _
-    (overwrite_proper columns widths _ (AllByRecursion-append (LineFits false columns) lines _ h (AllByRecursion-replicate (LineFits false columns) (length widths - length lines) [] (LineFits-empty columns)))
-    (AllByRecursion-append HasCodes lines _ codes (AllByRecursion-replicate HasCodes (length widths - length lines) [] tt)))
+redraw_proper : (layout : Layout) (widths : List ℕ) (lines : List Line) → AllByRecursion IsPlain lines → HaveCodes lines → AreProper (redraw layout widths lines)
+redraw_proper Overwriting widths lines h codes =
+    let n = length widths - length lines in
+    AllByRecursion-append IsProper _ _
+    (lines_proper Overwriting widths _ (AllByRecursion-append IsPlain lines _ h (AllByRecursion-replicate IsPlain n [] (record { pieces = tt; columns = refl })))
+    (AllByRecursion-append HasCodes lines _ codes (AllByRecursion-replicate HasCodes n [] tt)))
     (cursor_up_proper (max (length lines) (length widths)))
+redraw_proper (Clearing height) widths lines h codes =
+    let rest = left_over height (length widths) (length lines) in
+    AllByRecursion-append IsProper (lines_over (Clearing height) [] lines) _ (lines_proper (Clearing height) [] lines h codes)
+    (AllByRecursion-append IsProper (erased_rows rest) (EraseBelow ∷ cursor_up (length lines + rest)) (erased_proper rest) (tt, cursor_up_proper (length lines + rest)))
 
 -- of signs that end a frame
-pub ending_proper : (s : Sign) → IsEnding s → IsProper s
+ending_proper : (s : Sign) → IsEnding s → IsProper s
 ending_proper CarriageReturn h = tt
 ending_proper EraseLine h = tt
 ending_proper s h = unseen_proper s h
 
 -- of what a frame does after its messages
-pub body_proper : (columns height : ℕ) (widths : List ℕ) (b : Body) → BodyFits false columns height b → EndsOrderly b → AreProper (body_signs widths b)
-body_proper columns height widths Body.Unchanged h o = tt
-body_proper columns height widths (Body.Draws lines) h o = redraw_proper columns widths lines h.0 o
-body_proper columns height widths (Body.Closes ending) h o =
-    AllByRecursion-append IsProper (redraw widths []) ending (redraw_proper columns widths [] tt tt) (AllByRecursion-map IsEnding IsProper ending ending_proper o)
+body_proper : (layout : Layout) (widths : List ℕ) (b : Body) → AllByRecursion IsPlain (body_lines [] b) → EndsOrderly b → AreProper (body_signs layout widths b)
+body_proper layout widths Body.Unchanged h o = tt
+body_proper layout widths (Body.Draws lines) h o = redraw_proper layout widths lines h o
+body_proper layout widths (Body.Closes ending) h o =
+    AllByRecursion-append IsProper (redraw layout widths []) ending (redraw_proper layout widths [] tt tt) (AllByRecursion-map IsEnding IsProper ending ending_proper o)
+
+-- of what a frame begins with
+start_proper : (layout : Layout) (b : Body) → AreProper (frame_start layout b)
+start_proper Overwriting b = tt
+start_proper (Clearing height) Body.Unchanged = tt
+start_proper (Clearing height) (Body.Draws lines) = (tt, tt)
+start_proper (Clearing height) (Body.Closes ending) = (tt, tt)
 
 -- of a frame
-pub frame_proper : (columns height : ℕ) (widths : List ℕ) (f : Frame) → FrameFits false columns height f → IsOrderly f → AreProper (frame_signs widths f)
-frame_proper columns height widths f h o = AllByRecursion-append IsProper f.opening _ (AllByRecursion-map IsUnseen IsProper f.opening unseen_proper o.opening)
-    (AllByRecursion-append IsProper (overwrite widths f.messages) _ (overwrite_proper columns widths f.messages h.messages o.messages) (body_proper columns height (drop (length f.messages) widths) f.body h.body o.body))
+pub frame_proper : (widths : List ℕ) (f : Frame) → HasPlainLines f → IsOrderly f → AreProper (frame_signs widths f)
+frame_proper widths f h o = AllByRecursion-append IsProper f.opening _ (AllByRecursion-map IsUnseen IsProper f.opening unseen_proper o.opening)
+    (AllByRecursion-append IsProper (frame_start f.layout f.body) _ (start_proper f.layout f.body)
+    (AllByRecursion-append IsProper (lines_over f.layout (covered f.layout widths) f.messages) _ (lines_proper f.layout (covered f.layout widths) f.messages h.messages o.messages)
+    (body_proper f.layout (drop (length f.messages) widths) f.body h.drawn o.body)))
+
+-- lines that fit are plain
+lines_plain : (columns : ℕ) (lines : List Line) → LinesFit false columns lines → AllByRecursion IsPlain lines
+lines_plain columns lines h = AllByRecursion-map (LineFits false columns) IsPlain lines (λ line fits. fits.plain) h
+
+drawn_plain : (columns height : ℕ) (b : Body) → BodyFits false columns height b → AllByRecursion IsPlain (body_lines [] b)
+drawn_plain columns height Body.Unchanged h = tt
+drawn_plain columns height (Body.Draws lines) h = lines_plain columns lines h.0
+drawn_plain columns height (Body.Closes ending) h = tt
 
 -- of a list of frames
 pub frames_proper : (columns height : ℕ) (lines : List Line) (fs : List Frame) → AllByRecursion (FrameFits false columns height) fs → AllByRecursion IsOrderly fs → AreProper (signs_of lines fs)
 frames_proper columns height lines [] h o = tt
 frames_proper columns height lines (f ∷ fs) h o =
-    AllByRecursion-append IsProper (frame_signs (widths_of lines) f) _ (frame_proper columns height (widths_of lines) f h.0 o.0) (frames_proper columns height (lines_after lines f) fs h.1 o.1)
+    AllByRecursion-append IsProper (frame_signs (widths_of lines) f) _
+    (frame_proper (widths_of lines) f (record { messages = lines_plain columns f.messages h.0.messages; drawn = drawn_plain columns height f.body h.0.body }) o.0)
+    (frames_proper columns height (lines_after lines f) fs h.1 o.1)

@@ -10,16 +10,16 @@ use Rattle.prodash_line.specs.declared.render.line.draw.input.Input.{Input}
 use Rattle.prodash_line.specs.declared.render.line.draw.input.Answer.{Answer}
 use Rattle.prodash_line.specs.Signs.{spelling}
 use Rattle.prodash_line.specs.Lines.{Line, columns_of}
-use Rattle.prodash_line.specs.Frames.{Body, Unchanged, Draws, Closes, Frame, frame_signs, lines_after, body_lines, widths_of}
+use Rattle.prodash_line.specs.Frames.{frame_signs, lines_after, body_lines, widths_of}
 use Rattle.prodash_line.specs.declared.render.line.page.sign.Sign.{Sign}
 use Rattle.prodash_line.specs.declared.render.line.draw.action.Action.{Action}
-use Rattle.prodash_line.specs.declared.render.line.draw.action.Action.TheVariants.{Leave, Redraw, Close}
+use Rattle.prodash_line.specs.declared.render.line.draw.action.Action.TheVariants.{Leave, Redraw, Erase, Close}
 use Rattle.prodash_line.specs.Renderer.{Renderer, Renders, Drawing, frame_at, frame_bytes, next, action_at, drawing_at, printed_at, ending_of, body_of, state_after}
 use Rattle.prodash_line.specs.Screens.{ScreenState, WritesFrame, has_bytes}
 use Rattle.prodash_line.specs.Renderings.{Rendering, after_result, renderer_after, RendersEach, RendersAll, BreaksExactly, FlushesFrame, attempt_of, attempts_of, bytes_over, AllBroken, WritesAttempts}
 
 -- what holds of each rendering by itself holds of each in a list
-each : (P : Renderer → ScreenState → Rendering → ScreenState → Type 0)
+pub each : (P : Renderer → ScreenState → Rendering → ScreenState → Type 0)
     → ((r : Renderer) (s : ScreenState) (x : Rendering) (s' : ScreenState) → Renders r x.input s x.result (renderer_after r x) s' → P r s x s')
     → (r : Renderer) (s : ScreenState) (xs : List Rendering) (s' : ScreenState) → RendersAll r s xs s' → RendersEach P r s xs s'
 each P one r s [] s' h = h
@@ -170,6 +170,7 @@ state_widths : (action : Action) (r : Renderer) (drawing : Drawing) (ending : Li
     → (state_after action r drawing (widths_of lines)).widths ≡ widths_of (body_lines lines (body_of action drawing ending))
 state_widths Leave r drawing ending lines = refl
 state_widths Redraw r drawing ending lines = refl
+state_widths Erase r drawing ending lines = refl
 state_widths Close r drawing ending lines = refl
 
 -- so the lines after it are those on screen

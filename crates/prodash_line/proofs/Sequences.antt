@@ -6,7 +6,7 @@ use lib.Pointwise.{pointwise}
 use Rattle.std.proofs.lemmas.Bool.{both_ways}
 use Rattle.std.proofs.lemmas.List.{same_from_push, append-nil}
 use Rattle.std.proofs.lemmas.Str.{char_from_byte}
-use Rattle.prodash_line.specs.declared.render.line.page.sign.Sign.TheVariants.{Char, LineFeed, CarriageReturn, Up, EraseLine, HideCursor, ShowCursor, Open, Reset}
+use Rattle.prodash_line.specs.declared.render.line.page.sign.Sign.TheVariants.{Char, LineFeed, CarriageReturn, Up, EraseLine, EraseBelow, HideCursor, ShowCursor, Open, Reset}
 use Rattle.prodash_line.specs.Styles.{style_parameters}
 use Rattle.prodash_line.specs.Signs.{sequence}
 use Rattle.prodash_line.specs.Reading.{MakesNone, NoStyle}
@@ -23,6 +23,7 @@ differs b parameters other text failed e is same f = both_ways b failed (e ∙ a
 pub record Refuses (parameters : List ℕ) (final_byte : ℕ) : Type 0 where
   pub up : final_byte ≡ 65 → (n : ℕ) → 0 < n → n < 2 ^ 16 → decimal n ≡ parameters → ⊥
   pub erase : final_byte ≡ 75 → parameters ≡ 50 ∷ [] → ⊥
+  pub erase_below : final_byte ≡ 74 → parameters ≡ [] → ⊥
   pub hide : final_byte ≡ 108 → parameters ≡ 63 ∷ 50 ∷ 53 ∷ [] → ⊥
   pub show : final_byte ≡ 104 → parameters ≡ 63 ∷ 50 ∷ 53 ∷ [] → ⊥
   pub open_style : final_byte ≡ 109 → NoStyle parameters
@@ -37,6 +38,7 @@ makes_none parameters final_byte h LineFeed p e = omega (arith, ap (λ (t : List
 makes_none parameters final_byte h CarriageReturn p e = omega (arith, ap (λ (t : List ℕ). get_or t 0 0) e)
 makes_none parameters final_byte h (Up n) p e = let s = same_sequence (decimal n) parameters 65 final_byte e in h.up (sym s.1) n p.0 p.1 s.0
 makes_none parameters final_byte h EraseLine p e = let s = same_sequence (50 ∷ []) parameters 75 final_byte e in h.erase (sym s.1) (sym s.0)
+makes_none parameters final_byte h EraseBelow p e = let s = same_sequence [] parameters 74 final_byte e in h.erase_below (sym s.1) (sym s.0)
 makes_none parameters final_byte h HideCursor p e = let s = same_sequence (63 ∷ 50 ∷ 53 ∷ []) parameters 108 final_byte e in h.hide (sym s.1) (sym s.0)
 makes_none parameters final_byte h ShowCursor p e = let s = same_sequence (63 ∷ 50 ∷ 53 ∷ []) parameters 104 final_byte e in h.show (sym s.1) (sym s.0)
 makes_none parameters final_byte h (Open style) p e = let s = same_sequence (style_parameters style) parameters 109 final_byte e in h.open_style (sym s.1) style p s.0

@@ -9,7 +9,7 @@ use Rattle.std.proofs.lemmas.Fmt.{decimal_is_IsNumeral}
 use Rattle.std.proofs.lemmas.List.{take-append-drop, take_at, get_or_at, length-take-le, append-nil, nil_from_length}
 use Rattle.std.proofs.lemmas.Str.{char_from_byte, encode_same}
 use Rattle.prodash_line.specs.declared.render.line.page.sign.Sign.{Sign}
-use Rattle.prodash_line.specs.declared.render.line.page.sign.Sign.TheVariants.{Char, LineFeed, CarriageReturn, Up, EraseLine, HideCursor, ShowCursor, Open, Reset}
+use Rattle.prodash_line.specs.declared.render.line.page.sign.Sign.TheVariants.{Char, LineFeed, CarriageReturn, Up, EraseLine, EraseBelow, HideCursor, ShowCursor, Open, Reset}
 use Rattle.prodash_line.specs.Styles.{style_parameters}
 use Rattle.prodash_line.specs.Signs.{spelling_of, spelling, sequence, IsProper}
 use Rattle.prodash_line.specs.Reading.{is_parameter, MakesNone, NoSequenceAt, NoSignAt, AreProper, IsLongestPrefix}
@@ -42,6 +42,7 @@ begins_sequence LineFeed bytes rest p e = absurd (omega (arith, ap (λ (t : List
 begins_sequence CarriageReturn bytes rest p e = absurd (omega (arith, ap (λ (t : List ℕ). get_or t 0 0) e))
 begins_sequence (Up n) bytes rest p e = let numeral = decimal_is_IsNumeral n (omega arith) in sequence_begins (decimal n) 65 (Up n) bytes rest refl (digits_parameters (decimal n) numeral.0.1) refl e
 begins_sequence EraseLine bytes rest p e = sequence_begins (50 ∷ []) 75 EraseLine bytes rest refl (refl, tt) refl e
+begins_sequence EraseBelow bytes rest p e = sequence_begins [] 74 EraseBelow bytes rest refl tt refl e
 begins_sequence HideCursor bytes rest p e = sequence_begins (63 ∷ 50 ∷ 53 ∷ []) 108 HideCursor bytes rest refl (refl, (refl, (refl, tt))) refl e
 begins_sequence ShowCursor bytes rest p e = sequence_begins (63 ∷ 50 ∷ 53 ∷ []) 104 ShowCursor bytes rest refl (refl, (refl, (refl, tt))) refl e
 begins_sequence (Open style) bytes rest p e = sequence_begins (style_parameters style) 109 (Open style) bytes rest refl (style_is_parameters style) refl e

@@ -1,6 +1,6 @@
 -- The styles of the lines of rows and messages: each has a code.
-use Rattle.std.proofs.Common.{ℕ, Bool, true, false, cond, nat_le, ◌==◌, ◌-◌, List, [], ◌∷◌, ◌++◌, Option, Some, None}
-use Rattle.std.specs.Prelude.{⊤, ◌≢◌}
+use Rattle.std.proofs.Common.{ℕ, Bool, true, false, cond, nat_eq, nat_le, nat_lt, ◌==◌, ◌-◌, List, [], ◌∷◌, ◌++◌, Option, Some, None}
+use Rattle.std.specs.Prelude.{⊤, ◌||◌, ◌≢◌}
 use Rattle.std.specs.List.{AllByRecursion}
 use Rattle.prodash_base.specs.Rows.{Phase, Running, Halted, Blocked, PathRow, RowProgress}
 use Rattle.prodash_base.specs.Units.{Measure}
@@ -12,7 +12,7 @@ use Rattle.prodash_line.specs.Styles.{style_codes}
 use Rattle.prodash_line.specs.TextStyles.{dimmed, name_style, style_in, row_style}
 use Rattle.prodash_line.specs.Lines.{Piece, Line, styled, shown_style, in_color, width_of, columns_of, longest_prefix, cut_to, cut}
 use Rattle.prodash_line.specs.DrawnLines.{limit_of, as_drawn}
-use Rattle.prodash_line.specs.ProgressRows.{DrawnRow, values_by, bounded_bar, unbounded_bar, bar, padded, row_line_with, row_lines}
+use Rattle.prodash_line.specs.ProgressRows.{DrawnRow, values_by, bounded_bar, unbounded_bar, bar, padded, row_line_with, row_lines, more_line, more_lines}
 use Rattle.prodash_line.specs.MessageLines.{time_of, text_of, message_line, drawn_message_line, message_lines, origin_width, greatest_width}
 use Rattle.prodash_line.proofs.Lists.{AllByRecursion-append}
 
@@ -93,6 +93,15 @@ pub rows_have : (options : Options) (midpoint : ℕ) (rows : List DrawnRow) → 
 rows_have options midpoint [] = tt
 rows_have options midpoint (row ∷ rows) =
     (drawn_has options _ (row_has options.terminal_dimensions.0 midpoint row.0 row.0.1.progress row.1), rows_have options midpoint rows)
+
+-- the line that counts the other rows, if it is drawn
+none_or_one : (b : Bool) (line : Line) → HasCodes line → HaveCodes (cond b [] (line ∷ []))
+none_or_one true line h = tt
+none_or_one false line h = (h, tt)
+
+pub more_have : (options : Options) (n : ℕ) → HaveCodes (more_lines options n)
+more_have options n =
+    none_or_one (nat_eq n 0 || nat_lt options.terminal_dimensions.1 2) (as_drawn options (more_line n)) (drawn_has options (more_line n) (tt, (tt, (tt, tt))))
 
 -- ---- messages
 

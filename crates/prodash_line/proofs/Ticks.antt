@@ -3,11 +3,10 @@ use Rattle.std.proofs.Common.{◌≡◌, ℕ, Bool, List, Some, ap, ◌∙◌}
 use Rattle.std.specs.Option.{option_or}
 use Rattle.prodash_base.specs.Rows.{PathRow}
 use Rattle.prodash_base.specs.declared.messages.Message.{Message}
-use Rattle.prodash_line.specs.declared.render.line.draw.input.Input.TheVariants.{Tick, Resize}
-use Rattle.prodash_line.specs.declared.render.line.draw.action.Drawn.{Drawn}
+use Rattle.prodash_line.specs.declared.render.line.draw.input.Input.TheVariants.{Tick}
 use Rattle.prodash_line.specs.declared.render.line.draw.action.Composed.{Composed}
 use Rattle.prodash_line.specs.Renderer.{Renderer, is_cursor_hidden, ended_after, next}
-use Rattle.prodash_line.specs.FrameWriting.{Leaves, LeavesTick, remembering}
+use Rattle.prodash_line.specs.FrameWriting.{LeavesTick, remembering}
 
 -- of a tick
 pub remembers : (r past : Renderer) (at : ℕ) (show : Bool) (seen : List PathRow × List Message × ℕ) (frame : Composed)
@@ -18,6 +17,7 @@ remembers r past at show seen frame p h =
     let widths = ap (λ s. s.widths) h.state in
     let midpoint = ap (λ s. s.midpoint) h.state in
     let tracker = ap (λ (x : Renderer). option_or frame.drawn.tracker x.tracker) p ∙ ap (λ s. s.tracker) h.state in
+    let erased = ap (λ s. s.rows_erased) h.state in
     let cursor = ap (λ (x : Renderer). x.cursor_hidden) p in
     let ended = ap (λ (x : Renderer). ended_after frame.action x.ended) p ∙ ap (λ action. ended_after action r.ended) h.action in
     λ i. record {
@@ -28,6 +28,7 @@ remembers r past at show seen frame p h =
       origin_widths = h.origin_widths i;
       seen = Some seen.2;
       tracker = tracker i;
+      rows_erased = erased i;
       cursor_hidden = cursor i;
       ended = ended i;
     }

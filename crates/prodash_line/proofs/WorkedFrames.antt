@@ -10,7 +10,7 @@ use Rattle.prodash_base.specs.Messages.{message_of}
 use Rattle.prodash_base.specs.declared.messages.Message.{Message}
 use Rattle.prodash_base.specs.declared.messages.MessageLevel.TheVariants.{Info, Failure}
 use Rattle.prodash_line.specs.declared.render.line.page.sign.Sign.{Sign}
-use Rattle.prodash_line.specs.declared.render.line.page.sign.Sign.TheVariants.{Char, LineFeed, CarriageReturn, Up, EraseLine, HideCursor, ShowCursor, Open, Reset}
+use Rattle.prodash_line.specs.declared.render.line.page.sign.Sign.TheVariants.{Char, LineFeed, CarriageReturn, Up, EraseLine, EraseBelow, HideCursor, ShowCursor, Open, Reset}
 use Rattle.prodash_line.specs.declared.render.line.draw.input.Options.{Options}
 use Rattle.prodash_line.specs.declared.render.line.draw.input.Input.{Input}
 use Rattle.prodash_line.specs.declared.render.line.draw.input.Input.TheVariants.{Tick, Resize, Quit}
@@ -23,7 +23,8 @@ use Rattle.prodash_line.specs.TextStyles.{of_color, dimmed, row_style}
 use Rattle.prodash_line.specs.declared.render.line.page.style.Color.TheVariants.{Red, Green, Yellow, Cyan, White}
 use Rattle.prodash_line.specs.declared.render.line.page.style.Color.{Color}
 use Rattle.prodash_line.specs.declared.render.line.page.style.Style.{Style}
-use Rattle.prodash_line.specs.ProgressRows.{bar}
+use Rattle.prodash_line.specs.ProgressRows.{bar, fitting_count, more_line, more_lines}
+use Rattle.prodash_line.specs.declared.render.line.draw.layout.Layout.TheVariants.{Clearing}
 
 -- a task below the root, without progress
 abbrev row : List ℕ → PathRow
@@ -147,6 +148,7 @@ raised_origins = refl
 pub fits : FrameFits true 40 4 (frame_at terminal (tick 0 true (row (codes "a") ∷ []) []))
 unfolding chars str_width char_width step past_emoji
 fits = record {
+  layout = refl;
   messages = tt;
   body = (
     (
@@ -165,6 +167,76 @@ fits = record {
     omega arith,
   );
 }
+
+-- ---- frames that clear their rows
+
+abbrev defensive : Renderer
+defensive = new_renderer (record options { defensive = true }) false
+
+abbrev task_row : Input
+task_row = tick 0 true (row (codes "task") ∷ []) []
+
+-- at the beginning of the row, which is erased; nothing is left below it
+pub clears_row : signs_at defensive task_row ≡ CarriageReturn ∷ EraseLine ∷ map Char (codes " task") ++ LineFeed ∷ EraseBelow ∷ Up 1 ∷ []
+unfolding chars str_width step past_emoji
+clears_row = refl
+
+-- a message, and the rows again though they haven't changed; its row is left over
+pub draws_again : signs_at (next defensive task_row) (tick 1 true (row (codes "task") ∷ []) (message_of 0 Info (codes "b") (codes "x") ∷ []))
+    ≡ CarriageReturn ∷ EraseLine ∷ map Char (codes " b x") ++ LineFeed ∷ EraseLine ∷ map Char (codes " task") ++ LineFeed ∷ EraseBelow ∷ Up 1 ∷ []
+unfolding chars str_width step past_emoji
+draws_again = refl
+
+-- hidden, the message erases them, and they are drawn once they are shown
+abbrev hidden_message : Input
+hidden_message = tick 1 false (row (codes "task") ∷ []) (message_of 0 Info (codes "b") (codes "x") ∷ [])
+
+pub erases_rows : signs_at (next defensive task_row) hidden_message ≡ CarriageReturn ∷ EraseLine ∷ map Char (codes " b x") ++ LineFeed ∷ EraseBelow ∷ []
+unfolding chars str_width step past_emoji
+erases_rows = refl
+
+pub draws_erased : signs_at (next (next defensive task_row) hidden_message) (tick 2 true (row (codes "task") ∷ []) [])
+    ≡ CarriageReturn ∷ EraseLine ∷ map Char (codes " task") ++ LineFeed ∷ EraseBelow ∷ Up 1 ∷ []
+unfolding chars str_width step past_emoji
+draws_erased = refl
+
+-- unchanged rows without a message are left
+pub leaves_unchanged : signs_at (next defensive task_row) (tick 1 true (row (codes "task") ∷ []) []) ≡ []
+unfolding chars str_width step past_emoji
+leaves_unchanged = refl
+
+-- in a window of four rows three rows fit; of four there are two, and the line that counts the others; in one of a single row there is none
+pub three_fit : fitting_count (Clearing 4) 3 ≡ 3
+three_fit = refl
+
+pub two_of_four : fitting_count (Clearing 4) 4 ≡ 2
+two_of_four = refl
+
+pub none_fits : fitting_count (Clearing 1) 1 ≡ 0
+none_fits = refl
+
+pub others : line_text (more_line 2) ≡ 32 ∷ 8230 ∷ codes " and 2 more"
+unfolding digits
+others = refl
+
+pub no_others : more_lines options 0 ≡ []
+no_others = refl
+
+pub no_row_for_others : more_lines (record options { terminal_dimensions = (40, 1) }) 2 ≡ []
+no_row_for_others = refl
+
+-- a row that is left over is erased, and no row is erased at the end
+pub closes_cleared : signs_at (next defensive task_row) (Quit 1) ≡ CarriageReturn ∷ EraseLine ∷ LineFeed ∷ EraseBelow ∷ Up 1 ∷ []
+unfolding chars str_width step past_emoji
+closes_cleared = refl
+
+-- without a terminal nothing is cleared
+pub clears_terminals : signs_at (new_renderer (record options { defensive = true; output_is_terminal = false }) false) (tick 0 true [] (message_of 0 Info (codes "b") (codes "x") ∷ []))
+    ≡ map Char (codes " b x") ++ LineFeed ∷ []
+unfolding chars str_width step past_emoji
+clears_terminals = refl
+
+-- ---- bars
 
 -- bars on the columns that are left: three tenths of 26 cells; a bound of 0; brackets and arrow alone; none
 pub three_tenths : line_text (bar (of_color Yellow) 30 3 (Some 10)) ≡ codes " [=======>-------------------]"

@@ -2,10 +2,13 @@
 use Rattle.std.proofs.Common.{◌≡◌, true, false, None, List, [], ◌∷◌, ap, refl, arith}
 use Rattle.unicode_width.specs.Width.{str_width, step, past_emoji}
 use Rattle.prodash_line.specs.declared.render.line.page.sign.Sign.TheVariants.{Char, LineFeed, Up, EraseLine, HideCursor, ShowCursor, Open, Reset}
+use Rattle.prodash_line.specs.declared.render.line.draw.layout.Layout.TheVariants.{Overwriting, Clearing}
+use Rattle.prodash_line.specs.declared.render.line.draw.layout.Layout.{Layout}
 use Rattle.prodash_line.specs.Lines.{Line, piece}
-use Rattle.prodash_line.specs.Frames.{Draws, Frame, signs_of, all_lines_after}
-use Rattle.prodash_line.specs.Page.{blank_page, page_after}
+use Rattle.prodash_line.specs.Frames.{Draws, Frame, frame_signs, signs_of, all_lines_after}
+use Rattle.prodash_line.specs.Page.{Canvas, blank_page, page_after}
 use Rattle.prodash_line.specs.Shows.{Shows}
+use Rattle.prodash_line.specs.ClearedPages.{IsTerminal}
 
 -- a page of one cell: `a`, `b`, a line feed, and up, which stops at the window's top
 pub one_cell : page_after (Char 97 ∷ Char 98 ∷ LineFeed ∷ Up 5 ∷ []) (blank_page 1 1)
@@ -28,7 +31,7 @@ styled = refl
 
 -- a frame that draws these lines
 abbrev drawing : List Line → Frame
-drawing lines = record { opening = []; messages = []; body = Draws lines }
+drawing lines = record { layout = Overwriting; opening = []; messages = []; body = Draws lines }
 
 -- two frames, each of one line
 abbrev two : List Frame
@@ -49,3 +52,28 @@ as_many_rows = refl
 -- so what a page shows would be false if frames were allowed to draw as many lines as the window has rows
 pub shows_fewer_rows : Shows [] (all_lines_after [] two) (page_after (signs_of [] two) (blank_page 1 1)) → ⊥
 shows_fewer_rows h = omega (arith, h.row, ap (λ p. p.row) as_many_rows)
+
+-- ---- frames that clear their rows
+
+-- a page full of `x`, with the cursor inside its second row
+abbrev filled : Canvas
+filled = record { columns = 3; height = 3; rows = (120 ∷ 120 ∷ 120 ∷ []) ∷ (120 ∷ 120 ∷ 120 ∷ []) ∷ (120 ∷ 120 ∷ 120 ∷ []) ∷ []; row = 1; column = 2 }
+
+pub filled_terminal : IsTerminal (3, 3) filled
+filled_terminal = record { columns = refl; height = refl; low = omega arith; row = omega arith; window = omega arith }
+
+-- a frame of one line where two were on screen
+abbrev line_in : Layout → Frame
+line_in layout = record { layout = layout; opening = []; messages = []; body = Draws ((piece (97 ∷ []) ∷ []) ∷ []) }
+
+-- it begins at column 0, and all is blank besides its line
+pub cleared : page_after (frame_signs (1 ∷ 1 ∷ []) (line_in (Clearing 3))) filled
+    ≡ record { columns = 3; height = 3; rows = (120 ∷ 120 ∷ 120 ∷ []) ∷ (97 ∷ 32 ∷ 32 ∷ []) ∷ (32 ∷ 32 ∷ 32 ∷ []) ∷ (32 ∷ 32 ∷ 32 ∷ []) ∷ []; row = 1; column = 0 }
+unfolding str_width step past_emoji
+cleared = refl
+
+-- one that overwrites leaves what was there
+pub not_cleared : page_after (frame_signs (1 ∷ 1 ∷ []) (line_in Overwriting)) filled
+    ≡ record { columns = 3; height = 3; rows = (120 ∷ 120 ∷ 120 ∷ []) ∷ (120 ∷ 120 ∷ 97 ∷ []) ∷ (32 ∷ 120 ∷ 120 ∷ []) ∷ (32 ∷ 32 ∷ 32 ∷ []) ∷ []; row = 1; column = 0 }
+unfolding str_width step past_emoji
+not_cleared = refl

@@ -1,8 +1,10 @@
--- Lines as they are drawn: in colour or not, and cut at the width of a terminal.
-use Rattle.std.specs.Prelude.{ℕ, Option}
+-- Lines as they are drawn: in colour or not, and cut at the width of a terminal; and how frames are laid out.
+use Rattle.std.specs.Prelude.{ℕ, Bool, ◌&&◌, Option, if◌then◌else◌}
 use Rattle.std.specs.Bool.{then_some}
 use Rattle.prodash_line.specs.declared.render.line.draw.input.Options.{Options}
 use Rattle.prodash_line.specs.Lines.{Line, cut, in_color}
+use Rattle.prodash_line.specs.declared.render.line.draw.layout.Layout.{Layout}
+use Rattle.prodash_line.specs.declared.render.line.draw.layout.Layout.TheVariants.{Overwriting, Clearing}
 
 -- the columns to which lines are cut: those of the terminal; on an output that is none, lines are whole
 abbrev pub limit_of : Options → Option ℕ
@@ -11,3 +13,11 @@ limit_of options = then_some options.output_is_terminal options.terminal_dimensi
 -- a line as it is drawn
 abbrev pub as_drawn : Options → Line → Line
 as_drawn options line = cut (limit_of options) (in_color options.colored line)
+
+-- are the rows that a frame writes on erased first? on a terminal, if the renderer is defensive
+abbrev pub clears : Options → Bool
+clears options = options.defensive && options.output_is_terminal
+
+-- how the frames of a renderer with these options are laid out
+abbrev pub layout_of : Options → Layout
+layout_of options = if clears options then Clearing options.terminal_dimensions.1 else Overwriting

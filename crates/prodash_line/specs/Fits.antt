@@ -1,10 +1,11 @@
 -- Lines and frames that fit a page: of characters that are one column wide each, no wider than the page, and lower than its window.
-use Rattle.std.specs.Prelude.{ℕ, ◌≡◌, ◌<◌, ◌≤◌, Bool, false, MatchBool, ⊤, Some, List, length}
+use Rattle.std.specs.Prelude.{ℕ, ◌≡◌, ◌<◌, ◌≤◌, Bool, false, MatchBool, ⊤, Some, List, [], length}
 use Rattle.std.specs.List.{AllByRecursion}
 use Rattle.unicode_width.specs.Width.{char_width}
 use Rattle.prodash_line.specs.Signs.{IsProper}
 use Rattle.prodash_line.specs.Lines.{Piece, Line, width_of, columns_of, line_text}
-use Rattle.prodash_line.specs.Frames.{Body, Unchanged, Draws, Closes, Frame}
+use Rattle.prodash_line.specs.Frames.{Body, Unchanged, Draws, Closes, Frame, body_lines}
+use Rattle.prodash_line.specs.declared.render.line.draw.layout.Layout.TheVariants.{Overwriting}
 use Rattle.prodash_line.specs.declared.render.line.page.sign.Sign.TheVariants.{Char}
 
 -- no control character, and one column wide
@@ -22,6 +23,11 @@ pub record IsPlain (line : Line) : Type 0 where
   pub pieces : AllByRecursion IsPlainPiece line
   pub columns : columns_of line ≡ length (line_text line)
 
+-- the messages and the drawn lines of a frame are plain
+pub record HasPlainLines (f : Frame) : Type 0 where
+  pub messages : AllByRecursion IsPlain f.messages
+  pub drawn : AllByRecursion IsPlain (body_lines [] f.body)
+
 -- a plain line, no wider than the page; of lines that are cut to its width only the first is asked
 pub record LineFits (cut : Bool) (columns : ℕ) (line : Line) : Type 0 where
   pub plain : IsPlain line
@@ -36,7 +42,8 @@ BodyFits cut columns height Unchanged = ⊤
 BodyFits cut columns height (Draws lines) = LinesFit cut columns lines × (length lines < height)
 BodyFits cut columns height (Closes ending) = ⊤
 
--- a frame whose messages and drawn lines fit
+-- a frame that writes over the lines on screen, and whose messages and drawn lines fit
 pub record FrameFits (cut : Bool) (columns height : ℕ) (f : Frame) : Type 0 where
+  pub layout : f.layout ≡ Overwriting
   pub messages : LinesFit cut columns f.messages
   pub body : BodyFits cut columns height f.body

@@ -1,5 +1,5 @@
 -- What composing a frame writes, and what it leaves to the next frame.
-use Rattle.std.specs.Prelude.{◌≡◌, ℕ, List, ◌++◌, length, Some, max}
+use Rattle.std.specs.Prelude.{◌≡◌, ℕ, List, [], ◌∷◌, ◌++◌, ◌+◌, ◌-◌, length, Option, Some, max}
 use Rattle.std.specs.Option.{option_or}
 use Rattle.prodash_base.specs.Rows.{PathRow, rows_of}
 use Rattle.prodash_base.specs.declared.progress.Row.{Row}
@@ -8,15 +8,20 @@ use Rattle.prodash_line.specs.declared.render.line.draw.input.Options.{Options}
 use Rattle.prodash_line.specs.declared.render.line.draw.action.Action.{Action}
 use Rattle.prodash_line.specs.declared.render.line.draw.action.Drawn.{Drawn}
 use Rattle.prodash_line.specs.declared.render.line.draw.action.Composed.{Composed}
+use Rattle.prodash_line.specs.declared.render.line.draw.layout.Layout.{Layout}
+use Rattle.prodash_line.specs.declared.render.line.draw.layout.Layout.TheVariants.{Overwriting, Clearing}
+use Rattle.prodash_line.specs.declared.render.line.draw.action.Action.TheVariants.{Leave}
+use Rattle.prodash_line.specs.declared.render.line.page.sign.Sign.TheVariants.{CarriageReturn, EraseBelow}
 use Rattle.prodash_line.specs.declared.render.line.draw.frame.Scene.{Scene}
 use Rattle.prodash_line.specs.declared.render.line.draw.line_writer.LineWriter.{LineWriter}
 use Rattle.prodash_line.specs.declared.render.line.page.sign.Sign.{Sign}
 use Rattle.prodash_line.specs.Signs.{spelling}
 use Rattle.prodash_line.specs.Lines.{Line}
-use Rattle.prodash_line.specs.Frames.{Body, redraw, body_signs, widths_of}
-use Rattle.prodash_line.specs.ProgressRows.{DrawnRow, filtered, row_lines, greatest_midpoint}
+use Rattle.prodash_line.specs.DrawnLines.{layout_of}
+use Rattle.prodash_line.specs.Frames.{Body, covered, erased_rows, left_over, cursor_up, redraw, body_signs, widths_of}
+use Rattle.prodash_line.specs.ProgressRows.{DrawnRow, filtered, fitting_count, fitting, more_lines, row_lines, greatest_midpoint}
 use Rattle.prodash_line.specs.Renderer.{Renderer, Drawing, FrameState, drawing_of, body_of, ending_of, state_after, state_at, action_at, remember, frame_bytes, ended_after}
-use Rattle.prodash_line.specs.OverwriteBytes.{overwrite_bytes}
+use Rattle.prodash_line.specs.OverwriteBytes.{lines_bytes}
 use Rattle.prodash_line.specs.Observing.{shown_by, observe_all}
 
 -- the buffer holds the frame of an input
@@ -28,22 +33,36 @@ abbrev pub AppendsSigns : LineWriter → List Sign → LineWriter → Type 0
 AppendsSigns old signs new = new.bytes.items ≡ old.bytes.items ++ spelling signs
 
 -- these lines, over lines on screen of these widths, follow the bytes of old
-abbrev pub AppendsOver : LineWriter → List ℕ → List Line → LineWriter → Type 0
-AppendsOver old widths lines new = new.bytes.items ≡ old.bytes.items ++ overwrite_bytes widths lines
+abbrev pub AppendsOver : Layout → LineWriter → List ℕ → List Line → LineWriter → Type 0
+AppendsOver layout old widths lines new = new.bytes.items ≡ old.bytes.items ++ lines_bytes layout widths lines
+
+-- what a frame that does this after its messages begins with where it is to erase rows
+abbrev pub action_start : Layout → Action → List Sign
+action_start Overwriting action = []
+action_start (Clearing height) Leave = []
+action_start (Clearing height) _ = CarriageReturn ∷ []
+
+-- what follows this many lines in a redraw that erases rows, if this many are on screen
+abbrev pub clearing_end : ℕ → ℕ → ℕ → List Sign
+clearing_end height widths count =
+    let rest = left_over height widths count in
+    erased_rows rest ++ EraseBelow ∷ cursor_up (count + rest)
 
 -- if this many lines, over lines on screen of these widths, end the bytes of old, those of new end with the whole redraw of the lines
-abbrev pub FinishesRedraw : LineWriter → List ℕ → ℕ → LineWriter → Type 0
-FinishesRedraw old widths count new =
-    (before : List ℕ) (lines : List Line) → length lines ≡ count → old.bytes.items ≡ before ++ overwrite_bytes widths lines
-    → new.bytes.items ≡ before ++ spelling (redraw widths lines)
+abbrev pub FinishesRedraw : Layout → LineWriter → List ℕ → ℕ → LineWriter → Type 0
+FinishesRedraw layout old widths count new =
+    (before : List ℕ) (lines : List Line) → length lines ≡ count → old.bytes.items ≡ before ++ lines_bytes layout (covered layout widths) lines
+    → new.bytes.items ≡ before ++ spelling (redraw layout widths lines)
 
 -- what a body has left; one that draws no rows leaves the renderer's tracker
 abbrev pub state_by : Renderer → Drawn → FrameState
-state_by r drawn = record { widths = drawn.widths.items; midpoint = drawn.midpoint; tracker = option_or drawn.tracker r.tracker }
+state_by r drawn =
+    record { widths = drawn.widths.items; midpoint = drawn.midpoint; tracker = option_or drawn.tracker r.tracker; rows_erased = drawn.rows_erased }
 
 -- the renderer that keeps what a body has left
 abbrev pub keeping : Drawn → Renderer → Renderer
-keeping drawn r = record r { widths = drawn.widths.items; midpoint = drawn.midpoint; tracker = option_or drawn.tracker r.tracker }
+keeping drawn r =
+    record r { widths = drawn.widths.items; midpoint = drawn.midpoint; tracker = option_or drawn.tracker r.tracker; rows_erased = drawn.rows_erased }
 
 -- the renderer that keeps what the frame of a tick has left, and the rows and how many messages had been pushed
 abbrev pub remembering : Composed → List PathRow → ℕ → Renderer → Renderer
@@ -74,7 +93,7 @@ body_in action scene = body_of action (drawing_in scene) (ending_of scene.past.n
 
 -- its signs, over the lines that are left on screen
 abbrev pub body_signs_in : Action → Scene → List ℕ → List Sign
-body_signs_in action scene left = body_signs left (body_in action scene)
+body_signs_in action scene left = body_signs (layout_of scene.options) left (body_in action scene)
 
 -- it is what an action in a scene leaves, over lines on screen of these widths
 abbrev pub LeavesInScene : Action → Scene → List ℕ → Drawn → Type 0
@@ -93,3 +112,41 @@ pub record AddsRows (options : Options) (aligned : ℕ) (rows : List Row) (old n
   pub widths : new.widths.items ≡ old.widths.items ++ widths_of (shown_lines options aligned old rows)
   pub midpoint : new.midpoint ≡ max old.midpoint (greatest_midpoint (shown_rows options old rows))
   pub tracker : new.tracker ≡ observe_all old.tracker (filtered options.level_filter (rows_of rows))
+  pub rows_erased : new.rows_erased ≡ old.rows_erased
+
+-- the rows of these that fit
+abbrev pub fitting_shown : Options → Drawn → List Row → List DrawnRow
+fitting_shown options drawn rows = fitting (layout_of options) (shown_rows options drawn rows)
+
+-- their lines, and the line that counts the others
+abbrev pub fitting_lines : Options → ℕ → Drawn → List Row → List Line
+fitting_lines options midpoint drawn rows =
+    row_lines options midpoint (fitting_shown options drawn rows)
+    ++ more_lines options (length (shown_rows options drawn rows) - length (fitting_shown options drawn rows))
+
+-- the rows that fit have been drawn besides those of old, aligned to this midpoint, and all have been observed
+pub record AddsFitting (options : Options) (aligned : ℕ) (rows : List Row) (old new : Drawn) : Type 0 where
+  pub widths : new.widths.items ≡ old.widths.items ++ widths_of (fitting_lines options aligned old rows)
+  pub midpoint : new.midpoint ≡ max old.midpoint (greatest_midpoint (fitting_shown options old rows))
+  pub tracker : new.tracker ≡ observe_all old.tracker (filtered options.level_filter (rows_of rows))
+  pub rows_erased : new.rows_erased ≡ old.rows_erased
+
+-- how many of the rows are drawn if all that pass the filter are
+abbrev pub count_of : Option (ℕ × ℕ) → List Row → ℕ
+count_of levels rows = length (filtered levels (rows_of rows))
+
+-- the rows are parted behind the last one that is drawn and fits
+pub record SplitsFitting (layout : Layout) (levels : Option (ℕ × ℕ)) (rows shown others : List Row) : Type 0 where
+  pub whole : rows ≡ shown ++ others
+  pub count : count_of levels shown ≡ fitting_count layout (count_of levels rows)
+
+-- the line that counts these rows
+abbrev pub more_of : Options → List Row → List Line
+more_of options rows = more_lines options (count_of options.level_filter rows)
+
+-- these rows have been counted besides those of old, and observed
+pub record CountsRows (options : Options) (rows : List Row) (old new : Drawn) : Type 0 where
+  pub widths : new.widths.items ≡ old.widths.items ++ widths_of (more_of options rows)
+  pub midpoint : new.midpoint ≡ old.midpoint
+  pub tracker : new.tracker ≡ observe_all old.tracker (filtered options.level_filter (rows_of rows))
+  pub rows_erased : new.rows_erased ≡ old.rows_erased

@@ -1,10 +1,12 @@
 -- Frames: messages over the lines on screen, and then perhaps lines drawn anew.
-use Rattle.std.specs.Prelude.{ℕ, zero, suc, ◌-◌, min, max, List, [], ◌∷◌, ◌++◌, length, map, drop, replicate, Option, Some, None}
+use Rattle.std.specs.Prelude.{ℕ, zero, suc, ◌+◌, ◌-◌, min, max, List, [], ◌∷◌, ◌++◌, length, map, drop, replicate, Option, Some, None}
 use Rattle.std.specs.List.{flat_map}
 use Rattle.prodash_line.specs.Lines.{Piece, Line, spaces, columns_of}
+use Rattle.prodash_line.specs.declared.render.line.draw.layout.Layout.{Layout}
+use Rattle.prodash_line.specs.declared.render.line.draw.layout.Layout.TheVariants.{Overwriting, Clearing}
 use Rattle.prodash_line.specs.declared.render.line.page.sign.Sign.{Sign}
 use Rattle.prodash_line.specs.declared.render.line.page.style.Style.{Style}
-use Rattle.prodash_line.specs.declared.render.line.page.sign.Sign.TheVariants.{Char, LineFeed, Up, Open, Reset}
+use Rattle.prodash_line.specs.declared.render.line.page.sign.Sign.TheVariants.{Char, LineFeed, CarriageReturn, Up, EraseLine, EraseBelow, Open, Reset}
 
 -- the signs of a text in a style; an empty text has none
 abbrev pub styled_signs : Option Style → List ℕ → List Sign
@@ -27,19 +29,45 @@ abbrev pub first_width : List ℕ → ℕ
 first_width [] = 0
 first_width (width ∷ widths) = width
 
--- the lines, each over the line on screen in its row
+-- what the row of a line begins with
+abbrev pub row_start : Layout → List Sign
+row_start Overwriting = []
+row_start (Clearing height) = EraseLine ∷ []
+
+-- the widths of the lines on screen that lines are written over, by those of all: on rows that are erased there is none
+abbrev pub covered : Layout → List ℕ → List ℕ
+covered Overwriting widths = widths
+covered (Clearing height) widths = []
+
+-- the lines, each over the line on screen in its row, of which these are the widths
+abbrev pub lines_over : Layout → List ℕ → List Line → List Sign
+lines_over layout widths [] = []
+lines_over layout widths (line ∷ lines) = row_start layout ++ (overwrite_line (first_width widths) line ++ lines_over layout (drop 1 widths) lines)
+
 abbrev pub overwrite : List ℕ → List Line → List Sign
-overwrite widths [] = []
-overwrite widths (line ∷ lines) = overwrite_line (first_width widths) line ++ overwrite (drop 1 widths) lines
+overwrite widths lines = lines_over Overwriting widths lines
 
 -- up n rows, if n isn't 0
 abbrev pub cursor_up : ℕ → List Sign
 cursor_up zero = []
 cursor_up (suc n) = Up (min (suc n) 65535) ∷ []
 
--- the lines over those on screen, spaces over the lines on screen that are left over, and back up
-abbrev pub redraw : List ℕ → List Line → List Sign
-redraw widths lines = overwrite widths (lines ++ replicate (length widths - length lines) []) ++ cursor_up (max (length lines) (length widths))
+-- n rows that are erased
+abbrev pub erased_rows : ℕ → List Sign
+erased_rows zero = []
+erased_rows (suc n) = EraseLine ∷ LineFeed ∷ erased_rows n
+
+-- how many rows are erased of n lines on screen that are left over below these lines: as many as there are above the window's last row
+abbrev pub left_over : ℕ → ℕ → ℕ → ℕ
+left_over height n lines = min (n - lines) (height - 1 - lines)
+
+-- the lines over those on screen; of the lines on screen that are left over, spaces over each, or erased rows and nothing below them; and back up
+abbrev pub redraw : Layout → List ℕ → List Line → List Sign
+redraw Overwriting widths lines =
+    overwrite widths (lines ++ replicate (length widths - length lines) []) ++ cursor_up (max (length lines) (length widths))
+redraw (Clearing height) widths lines =
+    let rest = left_over height (length widths) (length lines) in
+    lines_over (Clearing height) [] lines ++ (erased_rows rest ++ EraseBelow ∷ cursor_up (length lines + rest))
 
 -- what a frame does after its messages
 pub data Body : Type 0 where
@@ -50,20 +78,31 @@ pub data Body : Type 0 where
   -- it blanks them, goes back up, and ends with these signs
   Closes : List Sign → Body
 
--- what it begins with, the lines of its messages, and its body
+-- how it is laid out, what it begins with, the lines of its messages, and its body
 pub record Frame : Type 0 where
+  pub layout : Layout
   pub opening : List Sign
   pub messages : List Line
   pub body : Body
 
-abbrev pub body_signs : List ℕ → Body → List Sign
-body_signs widths Unchanged = []
-body_signs widths (Draws lines) = redraw widths lines
-body_signs widths (Closes ending) = redraw widths [] ++ ending
+abbrev pub body_signs : Layout → List ℕ → Body → List Sign
+body_signs layout widths Unchanged = []
+body_signs layout widths (Draws lines) = redraw layout widths lines
+body_signs layout widths (Closes ending) = redraw layout widths [] ++ ending
+
+-- where a frame is to erase rows, it begins at the beginning of the cursor's row
+abbrev pub frame_start : Layout → Body → List Sign
+frame_start Overwriting body = []
+frame_start (Clearing height) Unchanged = []
+frame_start (Clearing height) (Draws lines) = CarriageReturn ∷ []
+frame_start (Clearing height) (Closes ending) = CarriageReturn ∷ []
 
 -- the signs of a frame, by the widths of the lines on screen before it
 abbrev pub frame_signs : List ℕ → Frame → List Sign
-frame_signs widths f = f.opening ++ (overwrite widths f.messages ++ body_signs (drop (length f.messages) widths) f.body)
+frame_signs widths f =
+    f.opening
+    ++ (frame_start f.layout f.body
+    ++ (lines_over f.layout (covered f.layout widths) f.messages ++ body_signs f.layout (drop (length f.messages) widths) f.body))
 
 abbrev pub body_lines : List Line → Body → List Line
 body_lines lines Unchanged = lines

@@ -20,4 +20,5 @@ pub mod Reading
 pub mod Shows
 pub mod Fits
 pub mod Renderings
+pub mod ClearedPages
 pub mod plumbing

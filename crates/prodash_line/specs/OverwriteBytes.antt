@@ -2,7 +2,9 @@
 use Rattle.std.specs.Prelude.{◌≡◌, ℕ, ◌-◌, List, [], ◌∷◌, ◌++◌, drop, replicate, Option}
 use Rattle.prodash_line.specs.declared.render.line.draw.line_writer.LineWriter.{LineWriter}
 use Rattle.prodash_line.specs.Lines.{Line, columns_of, cut}
-use Rattle.prodash_line.specs.Frames.{first_width}
+use Rattle.prodash_line.specs.declared.render.line.draw.layout.Layout.{Layout}
+use Rattle.prodash_line.specs.Signs.{spelling}
+use Rattle.prodash_line.specs.Frames.{first_width, row_start}
 use Rattle.prodash_line.specs.Writing.{line_bytes, Begun}
 
 -- n spaces, and a line feed
@@ -14,9 +16,10 @@ abbrev pub overwrite_line_bytes : ℕ → Line → List ℕ
 overwrite_line_bytes width line = line_bytes line ++ row_end (width - columns_of line)
 
 -- the bytes of lines, each over the line on screen in its row
-abbrev pub overwrite_bytes : List ℕ → List Line → List ℕ
-overwrite_bytes widths [] = []
-overwrite_bytes widths (line ∷ lines) = overwrite_line_bytes (first_width widths) line ++ overwrite_bytes (drop 1 widths) lines
+abbrev pub lines_bytes : Layout → List ℕ → List Line → List ℕ
+lines_bytes layout widths [] = []
+lines_bytes layout widths (line ∷ lines) =
+    spelling (row_start layout) ++ (overwrite_line_bytes (first_width widths) line ++ lines_bytes layout (drop 1 widths) lines)
 
 -- the bytes of an empty line over each line on screen
 abbrev pub blank_bytes : List ℕ → List ℕ

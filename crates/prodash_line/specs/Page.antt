@@ -1,7 +1,7 @@
 -- A page: all rows ever, of which the last are the window, and a cursor.
-use Rattle.std.specs.Prelude.{◌≡◌, ◌<◌, Bool, false, ◌&&◌, nat_le, ℕ, ◌+◌, ◌-◌, max, List, [], ◌∷◌, ◌++◌, length, replicate, slice_index_or, slice_set, nat_lt, if◌then◌else◌}
+use Rattle.std.specs.Prelude.{◌≡◌, ◌<◌, Bool, false, ◌&&◌, nat_le, ℕ, ◌+◌, ◌-◌, max, List, [], ◌∷◌, ◌++◌, length, take, replicate, slice_index_or, slice_set, nat_lt, if◌then◌else◌}
 use Rattle.prodash_line.specs.declared.render.line.page.sign.Sign.{Sign}
-use Rattle.prodash_line.specs.declared.render.line.page.sign.Sign.TheVariants.{Char, LineFeed, CarriageReturn, Up, EraseLine, HideCursor, ShowCursor, Open, Reset}
+use Rattle.prodash_line.specs.declared.render.line.page.sign.Sign.TheVariants.{Char, LineFeed, CarriageReturn, Up, EraseLine, EraseBelow, HideCursor, ShowCursor, Open, Reset}
 
 -- how many columns it has, the height of its window, its rows from the first ever on, and the row and column of the cursor
 pub record Canvas : Type 0 where
@@ -39,6 +39,18 @@ with_char row column c rows = slice_set rows row (slice_set (slice_index_or rows
 abbrev pub put : ℕ → Canvas → Canvas
 put c p = record p { rows = with_char p.row p.column c p.rows; column = p.column + 1 }
 
+-- a row that is blank from this column on
+abbrev pub blank_row_from : ℕ → ℕ → List ℕ → List ℕ
+blank_row_from columns column row = take column row ++ blank (columns - column)
+
+-- the first n rows, and then blank ones
+abbrev pub blank_below : ℕ → ℕ → List (List ℕ) → List (List ℕ)
+blank_below columns n rows = take n rows ++ replicate (length rows - n) (blank columns)
+
+-- the rows with this one blank from a column on
+abbrev pub with_blank_from : ℕ → ℕ → ℕ → List (List ℕ) → List (List ℕ)
+with_blank_from columns row column rows = slice_set rows row (blank_row_from columns column (slice_index_or rows row []))
+
 -- The page after one sign: a character past the last column goes to the next row, and the cursor goes up no further than the window's top.
 -- Styles, and whether the cursor is hidden, change no cell.
 abbrev pub after_sign : Sign → Canvas → Canvas
@@ -47,6 +59,7 @@ after_sign LineFeed p = next_row p
 after_sign CarriageReturn p = record p { column = 0 }
 after_sign (Up n) p = record p { row = max (length p.rows - p.height) (p.row - n) }
 after_sign EraseLine p = record p { rows = slice_set p.rows p.row (blank p.columns) }
+after_sign EraseBelow p = record p { rows = blank_below p.columns (p.row + 1) (with_blank_from p.columns p.row p.column p.rows) }
 after_sign HideCursor p = p
 after_sign ShowCursor p = p
 after_sign (Open style) p = p
@@ -59,6 +72,7 @@ adds_row LineFeed p = nat_le (length p.rows) (p.row + 1)
 adds_row CarriageReturn p = false
 adds_row (Up n) p = false
 adds_row EraseLine p = false
+adds_row EraseBelow p = false
 adds_row HideCursor p = false
 adds_row ShowCursor p = false
 adds_row (Open style) p = false

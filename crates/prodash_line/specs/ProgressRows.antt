@@ -1,5 +1,5 @@
 -- The line of a row: its name, and with progress its values and a bar.
-use Rattle.std.specs.Prelude.{◌≡◌, ℕ, ◌-◌, ◌*◌, ◌/◌, ◌%◌, ◌^◌, min, max, List, [], ◌∷◌, ◌++◌, length, map, zip, replicate, reverse, codes, chars, if◌then◌else◌, ◌==◌, nat_lt, nat_le, Bool, true, ◌&&◌, Option, Some, None}
+use Rattle.std.specs.Prelude.{◌≡◌, ℕ, ◌-◌, ◌*◌, ◌/◌, ◌%◌, ◌^◌, min, max, List, [], ◌∷◌, ◌++◌, length, map, take, zip, replicate, reverse, codes, chars, if◌then◌else◌, ◌==◌, nat_eq, nat_lt, nat_le, Bool, true, ◌&&◌, ◌||◌, Option, Some, None}
 use Rattle.std.specs.List.{range_with_len, filter}
 use Rattle.std.specs.Fmt.{decimal}
 use Rattle.prodash_base.specs.Kinds.{quantity_shown}
@@ -11,6 +11,8 @@ use Rattle.prodash_base.specs.declared.unit.display.Throughput.{Throughput}
 use Rattle.prodash_line.specs.declared.render.line.draw.input.Options.{Options}
 use Rattle.prodash_line.specs.declared.render.line.page.style.Style.{Style}
 use Rattle.prodash_line.specs.Lines.{Line, piece, styled, spaces, columns_of}
+use Rattle.prodash_line.specs.declared.render.line.draw.layout.Layout.{Layout}
+use Rattle.prodash_line.specs.declared.render.line.draw.layout.Layout.TheVariants.{Overwriting, Clearing}
 use Rattle.prodash_line.specs.DrawnLines.{as_drawn}
 use Rattle.prodash_line.specs.TextStyles.{dimmed, name_style, values_style, row_style}
 
@@ -144,3 +146,20 @@ filtered levels rows = filter (is_row_drawn levels) rows
 abbrev pub with_throughputs : Option Tracker → ℕ → List PathRow → List DrawnRow
 with_throughputs None at rows = map (λ row. (row, None)) rows
 with_throughputs (Some tracker) at rows = zip rows (frame_throughputs tracker at rows)
+
+-- how many of n rows are drawn: all, or in a window of this height two fewer than it has rows, if they don't fit above its last row
+abbrev pub fitting_count : Layout → ℕ → ℕ
+fitting_count Overwriting n = n
+fitting_count (Clearing height) n = if nat_lt n height then n else height - 2
+
+-- of rows those that are drawn
+abbrev pub fitting : Layout → List DrawnRow → List DrawnRow
+fitting layout rows = take (fitting_count layout (length rows)) rows
+
+-- ` … and n more`
+abbrev pub more_line : ℕ → Line
+more_line n = piece (32 ∷ 8230 ∷ codes " and ") ∷ piece (decimal n) ∷ piece (codes " more") ∷ []
+
+-- the line that counts the rows that don't fit, if there are any and there is a row for it
+abbrev pub more_lines : Options → ℕ → List Line
+more_lines options n = if nat_eq n 0 || nat_lt options.terminal_dimensions.1 2 then [] else as_drawn options (more_line n) ∷ []

@@ -1,5 +1,5 @@
 -- The renderer: what it keeps, the frame that it draws for an input, and what that frame leaves.
-use Rattle.std.specs.Prelude.{◌≡◌, ℕ, nat_eq, List, [], ◌∷◌, ◌++◌, length, drop, Bool, true, false, ◌&&◌, ◌||◌, not, Option, Some, None, if◌then◌else◌, Result, Ok, Err, ◌⊎◌}
+use Rattle.std.specs.Prelude.{◌≡◌, ℕ, ◌-◌, nat_eq, List, [], ◌∷◌, ◌++◌, length, drop, Bool, true, false, ◌&&◌, ◌||◌, not, Option, Some, None, if◌then◌else◌, Result, Ok, Err, ◌⊎◌}
 use Rattle.std.specs.Option.{option_map}
 use Rattle.prodash_base.specs.Rings.{keep_last}
 use Rattle.prodash_base.specs.Rows.{PathRow, same_rows}
@@ -17,10 +17,12 @@ use Rattle.prodash_line.specs.declared.render.line.page.sign.Sign.{Sign}
 use Rattle.prodash_line.specs.declared.render.line.page.sign.Sign.TheVariants.{CarriageReturn, EraseLine, HideCursor, ShowCursor}
 use Rattle.prodash_line.specs.Signs.{spelling}
 use Rattle.prodash_line.specs.Lines.{Line}
+use Rattle.prodash_line.specs.declared.render.line.draw.layout.Layout.{Layout}
 use Rattle.prodash_line.specs.declared.render.line.draw.action.Action.{Action}
-use Rattle.prodash_line.specs.declared.render.line.draw.action.Action.TheVariants.{Leave, Redraw, Close}
+use Rattle.prodash_line.specs.declared.render.line.draw.action.Action.TheVariants.{Leave, Redraw, Erase, Close}
 use Rattle.prodash_line.specs.Frames.{Body, Unchanged, Draws, Closes, Frame, body_signs, frame_signs, widths_of}
-use Rattle.prodash_line.specs.ProgressRows.{DrawnRow, filtered, with_throughputs, row_lines, greatest_midpoint}
+use Rattle.prodash_line.specs.DrawnLines.{clears, layout_of}
+use Rattle.prodash_line.specs.ProgressRows.{DrawnRow, filtered, with_throughputs, fitting, more_lines, row_lines, greatest_midpoint}
 use Rattle.prodash_line.specs.MessageLines.{message_lines, latest_origin_widths}
 use Rattle.prodash_line.specs.Screens.{ScreenState, WritesFrame, BreaksDuring}
 
@@ -38,6 +40,8 @@ pub record Renderer : Type 0 where
   pub seen : Option ℕ
   -- the tracker of throughput, if throughput is shown
   pub tracker : Option Tracker
+  -- whether a frame that cleared its rows has erased the rows of tasks since they were last drawn
+  pub rows_erased : Bool
   -- whether a frame has hidden the cursor
   pub cursor_hidden : Bool
   -- the refusal of every further frame, if there is one
@@ -53,6 +57,7 @@ default_options = record {
   colored = true;
   timestamp = false;
   hide_cursor = false;
+  defensive = false;
 }
 
 -- the refusal of an ended renderer
@@ -73,6 +78,7 @@ new_renderer options throughput = record {
   origin_widths = [];
   seen = None;
   tracker = if throughput then Some new_tracker else None;
+  rows_erased = false;
   cursor_hidden = false;
   ended = None;
 }
@@ -89,22 +95,34 @@ is_cursor_hidden r = r.cursor_hidden || hides_cursor r
 abbrev pub opening_of : Renderer → List Sign
 opening_of r = if hides_cursor r then HideCursor ∷ [] else []
 
--- what a closing frame ends with: it shows a cursor that is hidden, and on a terminal it erases the row in which the first line on screen was
-abbrev pub ending_of : Renderer → List Sign
-ending_of r = (if is_cursor_hidden r then ShowCursor ∷ [] else []) ++ (if r.options.output_is_terminal then EraseLine ∷ CarriageReturn ∷ [] else [])
+-- does a closing frame erase the row in which the first line on screen was? on a terminal, if it hasn't erased it already
+abbrev pub erases_at_end : Options → Bool
+erases_at_end options = options.output_is_terminal && not options.defensive
 
--- a closing frame after its messages: spaces over these lines on screen, and its end
-abbrev pub closing_signs : Renderer → List ℕ → List Sign
-closing_signs r widths = body_signs widths (Closes (ending_of r))
+-- what a closing frame ends with: it shows a cursor that is hidden, and perhaps erases a row
+abbrev pub ending_of : Renderer → List Sign
+ending_of r = (if is_cursor_hidden r then ShowCursor ∷ [] else []) ++ (if erases_at_end r.options then EraseLine ∷ CarriageReturn ∷ [] else [])
+
+-- a closing frame after its messages: these lines on screen are blanked, and its end
+abbrev pub closing_signs : Layout → Renderer → List ℕ → List Sign
+closing_signs layout r widths = body_signs layout widths (Closes (ending_of r))
 
 -- no tick with a root was accepted before, or the latest saw other rows
 abbrev pub rows_changed : Option (List PathRow) → List PathRow → Bool
 rows_changed None rows = true
 rows_changed (Some before) rows = not (same_rows before rows)
 
--- rows are drawn on a terminal if they are shown and have changed
-abbrev pub is_drawn : Renderer → Bool → List PathRow → Bool
-is_drawn r show rows = show && (r.options.output_is_terminal && rows_changed r.last_rows rows)
+-- has it new messages?
+abbrev pub has_messages : List Message → Bool
+has_messages messages = not (nat_eq (length messages) 0)
+
+-- must rows be drawn though they haven't changed? if the frame clears its rows and prints messages, or comes after one that erased them
+abbrev pub draws_again : Renderer → Bool → Bool
+draws_again r printed = clears r.options && (printed || r.rows_erased)
+
+-- rows are drawn on a terminal if they are shown and have changed, or must be drawn again
+abbrev pub is_drawn : Renderer → Bool → Bool → List PathRow → Bool
+is_drawn r show printed rows = show && (r.options.output_is_terminal && (draws_again r printed || rows_changed r.last_rows rows))
 
 -- a tick that sees no rows closes the renderer, unless it is to keep running
 abbrev pub closes_at : Renderer → List PathRow → Bool
@@ -119,9 +137,14 @@ latest_rows (Some rows) = rows
 abbrev pub drawn_rows : Renderer → ℕ → List PathRow → List DrawnRow
 drawn_rows r at rows = with_throughputs r.tracker at (filtered r.options.level_filter rows)
 
--- the lines of those rows
+-- of those rows the ones that fit the window
+abbrev pub fitting_rows : Renderer → ℕ → List PathRow → List DrawnRow
+fitting_rows r at rows = fitting (layout_of r.options) (drawn_rows r at rows)
+
+-- the lines of the rows that fit, and the line that counts the others
 abbrev pub drawn_lines : Renderer → ℕ → List PathRow → List Line
-drawn_lines r at rows = row_lines r.options r.midpoint (drawn_rows r at rows)
+drawn_lines r at rows =
+    row_lines r.options r.midpoint (fitting_rows r at rows) ++ more_lines r.options (length (drawn_rows r at rows) - length (fitting_rows r at rows))
 
 -- the tracker after a frame at a moment that draws rows
 abbrev pub tracker_after : Renderer → ℕ → List PathRow → Option Tracker
@@ -137,7 +160,7 @@ pub record Drawing : Type 0 where
 -- the drawing of rows at a moment
 abbrev pub drawing_of : Renderer → ℕ → List PathRow → Drawing
 drawing_of r at rows =
-    record { lines = drawn_lines r at rows; midpoint = greatest_midpoint (drawn_rows r at rows); tracker = tracker_after r at rows }
+    record { lines = drawn_lines r at rows; midpoint = greatest_midpoint (fitting_rows r at rows); tracker = tracker_after r at rows }
 
 -- the renderer on a terminal of this size
 abbrev pub resized : Renderer → ℕ → ℕ → Renderer
@@ -168,9 +191,13 @@ moment_of (Quit at) = at
 abbrev pub drawing_at : Renderer → Input → Drawing
 drawing_at r input = let r' = remember r input in drawing_of r' (moment_of input) (latest_rows r'.last_rows)
 
--- what a tick with a root does after its messages: it closes the renderer, or draws the rows, or leaves the lines on screen
-abbrev pub tick_action : Renderer → Bool → List PathRow → Action
-tick_action r show rows = if closes_at r rows then Close else if is_drawn r show rows then Redraw else Leave
+-- what a tick without rows to draw does after its messages: they erase the lines on screen if the frame clears its rows
+abbrev pub idle_action : Renderer → Bool → Action
+idle_action r printed = if clears r.options && printed then Erase else Leave
+
+-- what a tick with a root does after its messages: it closes the renderer, or draws the rows, or erases or leaves the lines on screen
+abbrev pub tick_action : Renderer → Bool → Bool → List PathRow → Action
+tick_action r show printed rows = if closes_at r rows then Close else if is_drawn r show printed rows then Redraw else idle_action r printed
 
 -- what a resize does: it draws the remembered rows if they are shown on a terminal
 abbrev pub resize_action : Renderer → Bool → Action
@@ -178,7 +205,7 @@ resize_action r show = if show && r.options.output_is_terminal then Redraw else 
 
 -- what the frame of an input does after its messages
 abbrev pub action_at : Renderer → Input → Action
-action_at r (Tick at show (Some seen)) = tick_action r show seen.0
+action_at r (Tick at show (Some seen)) = tick_action r show (has_messages seen.1) seen.0
 action_at r (Tick at show None) = Close
 action_at r (Resize at show columns height) = resize_action r show
 action_at r (Quit at) = Close
@@ -194,11 +221,13 @@ printed_at r (Quit at) = []
 abbrev pub body_of : Action → Drawing → List Sign → Body
 body_of Leave drawing ending = Unchanged
 body_of Redraw drawing ending = Draws drawing.lines
+body_of Erase drawing ending = Draws []
 body_of Close drawing ending = Closes ending
 
 -- the frame of an input
 abbrev pub frame_at : Renderer → Input → Frame
 frame_at r input = record {
+  layout = layout_of (remember r input).options;
   opening = opening_of r;
   messages = printed_at r input;
   body = body_of (action_at r input) (drawing_at r input) (ending_of r);
@@ -206,19 +235,23 @@ frame_at r input = record {
 
 -- the closing frame without messages
 abbrev pub closing_frame : Renderer → Frame
-closing_frame r = record { opening = opening_of r; messages = []; body = Closes (ending_of r) }
+closing_frame r = record { layout = layout_of r.options; opening = opening_of r; messages = []; body = Closes (ending_of r) }
 
--- what a frame leaves to the next one: the width of each line on screen, the greatest midpoint, and the tracker
+-- what a frame leaves to the next one: the width of each line on screen, the greatest midpoint, the tracker, and whether the rows of tasks are
+-- erased
 pub record FrameState : Type 0 where
   pub widths : List ℕ
   pub midpoint : ℕ
   pub tracker : Option Tracker
+  pub rows_erased : Bool
 
 -- what a frame leaves that does this, over lines on screen of these widths
 abbrev pub state_after : Action → Renderer → Drawing → List ℕ → FrameState
-state_after Leave r drawing widths = record { widths = widths; midpoint = r.midpoint; tracker = r.tracker }
-state_after Redraw r drawing widths = record { widths = widths_of drawing.lines; midpoint = drawing.midpoint; tracker = drawing.tracker }
-state_after Close r drawing widths = record { widths = []; midpoint = r.midpoint; tracker = r.tracker }
+state_after Leave r drawing widths = record { widths = widths; midpoint = r.midpoint; tracker = r.tracker; rows_erased = r.rows_erased }
+state_after Redraw r drawing widths =
+    record { widths = widths_of drawing.lines; midpoint = drawing.midpoint; tracker = drawing.tracker; rows_erased = false }
+state_after Erase r drawing widths = record { widths = []; midpoint = r.midpoint; tracker = r.tracker; rows_erased = true }
+state_after Close r drawing widths = record { widths = []; midpoint = r.midpoint; tracker = r.tracker; rows_erased = r.rows_erased }
 
 -- what the frame of an input leaves: its messages are over as many of the lines on screen, from the first on
 abbrev pub state_at : Renderer → Input → FrameState
@@ -239,6 +272,7 @@ next r input = record (remember r input) {
   widths = (state_at r input).widths;
   midpoint = (state_at r input).midpoint;
   tracker = (state_at r input).tracker;
+  rows_erased = (state_at r input).rows_erased;
   cursor_hidden = is_cursor_hidden r;
   ended = ended_after (action_at r input) r.ended;
 }

@@ -44,6 +44,8 @@ pub(crate) enum Ask {
     Hide(&'static [Task]),
     /// A tick that prints these messages, and shows these tasks.
     Print(&'static [ShortMessage], &'static [Task]),
+    /// A tick that prints these messages, and hides these tasks.
+    PrintHidden(&'static [ShortMessage], &'static [Task]),
     /// A tick that shows a task `t` with a kind of unit, a step and a bound.
     Measure(Kind, u64, Option<u64>),
     /// A tick without a root, and whether it shows rows.
@@ -104,6 +106,7 @@ fn input(alloc: Global, ask: Ask) -> Result<Input, AllocError> {
         Ask::Show(tasks) => tick(alloc, true, &[], rows(alloc, tasks)?),
         Ask::Hide(tasks) => tick(alloc, false, &[], rows(alloc, tasks)?),
         Ask::Print(printed, tasks) => tick(alloc, true, printed, rows(alloc, tasks)?),
+        Ask::PrintHidden(printed, tasks) => tick(alloc, false, printed, rows(alloc, tasks)?),
         Ask::Measure(kind, step, bound) => {
             tick(alloc, true, &[], measured_row(alloc, kind, step, bound)?)
         }
@@ -138,14 +141,11 @@ pub(crate) fn draw<S: Screen>(
 
 /// A renderer on a terminal of this many columns and rows.
 pub(crate) fn renderer(alloc: Global, terminal_dimensions: (u16, u16)) -> draw::State {
-    draw::State::new(
-        alloc,
-        draw::Options {
-            terminal_dimensions,
-            ..TERMINAL
-        },
-        false,
-    )
+    let options = draw::Options {
+        terminal_dimensions,
+        ..TERMINAL
+    };
+    draw::State::new(alloc, options, false)
 }
 
 /// The columns and rows of a terminal, the inputs of a new renderer on it, and the bytes that each
@@ -161,9 +161,23 @@ pub(crate) fn assert_draws(
     alloc: Global,
     drawings: &[Drawing],
 ) -> Result<(), Fail> {
-    for Drawing(terminal, frames) in drawings {
-        let mut state = renderer(alloc, *terminal);
-        let mut other = renderer(alloc, *terminal);
+    assert_draws_with(rt, alloc, TERMINAL, drawings)
+}
+
+/// The same of renderers with these options, but for the size of the terminal.
+pub(crate) fn assert_draws_with(
+    rt: &impl Abort,
+    alloc: Global,
+    options: draw::Options,
+    drawings: &[Drawing],
+) -> Result<(), Fail> {
+    for Drawing(terminal_dimensions, frames) in drawings {
+        let options = draw::Options {
+            terminal_dimensions: *terminal_dimensions,
+            ..options
+        };
+        let mut state = draw::State::new(alloc, options, false);
+        let mut other = draw::State::new(alloc, options, false);
         for (ask, want) in *frames {
             assert_frame(rt, alloc, &mut state, *ask, *want)?;
             assert_slow_frame(rt, alloc, &mut other, *ask, *want)?;

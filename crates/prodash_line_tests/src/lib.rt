@@ -2,6 +2,8 @@
 #![tactic(auto)]
 
 #[cfg(test)]
+mod defensive;
+#[cfg(test)]
 mod fixtures;
 #[cfg(test)]
 mod frames;

@@ -117,9 +117,10 @@ fn reads_what_signs_spell(rt: HostRuntime) -> Result<(), Fail> {
         Sign::Up(65535),
         Sign::Char('é'),
         Sign::CarriageReturn,
+        Sign::EraseBelow,
         Sign::LineFeed,
     ];
-    let bytes = "a\x1b[2K\x1b[65535Aé\r\n".as_bytes();
+    let bytes = "a\x1b[2K\x1b[65535Aé\r\x1b[J\n".as_bytes();
     assert_same(
         &rt,
         read(rt.alloc(), bytes)?.as_slice(),
@@ -139,6 +140,7 @@ const FAULTS: &[(&[u8], usize)] = &[
     (b"a\xff", 1),
     (b"\x1b[65536A", 0),
     (b"\x1b[0A", 0),
+    (b"\x1b[0J", 0),
     (b"\x1b[2K\x1b", 4),
 ];
 
@@ -160,6 +162,7 @@ fn plain_values_differ_by_any_field(rt: HostRuntime) {
         Sign::Up(1),
         Sign::Up(2),
         Sign::EraseLine,
+        Sign::EraseBelow,
     ];
     let faults = [Fault::At(0), Fault::At(1), Fault::Memory];
     let answers = [Answer::Drawn, Answer::Ended];

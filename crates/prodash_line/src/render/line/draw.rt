@@ -2,15 +2,19 @@
 ghost use Rattle.std.specs.Prelude.{◌≡◌, ℕ, Bool, Some, None, IsOkUnless, OnOk, OnErr};
 ghost use Rattle.prodash_line.specs.Screens.{WritesFrame, BreaksDuring};
 ghost use Rattle.prodash_line.specs.Renderer.{Renders, begun, broken};
+ghost use Rattle.prodash_line.specs.ClearedPages.{ClearsPages};
 
 mod action;
 mod bar;
+mod clearing;
 mod fitting;
 mod frame;
 mod input;
+mod layout;
 mod line_writer;
 mod memory_screen;
 mod message;
+mod more;
 mod over_write;
 mod room;
 mod row;
@@ -71,13 +75,18 @@ use std::alloc::Global;
 /// all(alloc, &mut screen, &mut state, tick)?;
 /// all(alloc, &mut screen, &mut state, Input::Quit { at: 1 })?;
 /// ```
+#[tactic(auto, using(crate::proofs::ClearedRenderings::clears_pages))]
 pub fn all<S: Screen>(
     alloc: Global,
     screen: &mut S,
     state: &mut State,
     input: Input,
 ) -> Result<Answer, Refusal>
-    ensures { Renders state.old input (S.state screen.old) result state.new (S.state screen.new) }
+    ensures frame { Renders state.old input (S.state screen.old) result state.new
+        (S.state screen.new) }
+
+    // Every page shows a frame that erases the rows that it writes on.
+    ensures page { ClearsPages state.old input }
 {
     if let Some(refusal) = state.ended() {
         return Err(refusal);

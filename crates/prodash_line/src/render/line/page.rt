@@ -1,7 +1,8 @@
 //! Signs, the bytes that spell them, and a page on which they are written.
 ghost use Rattle.std.specs.Prelude.{◌≡◌, ◌+◌, ◌-◌, ◌<◌, ◌≤◌, [], length, slice_index_or, slice_set, IfOk, IsOkUnless, OnOk, OnErr, MatchOption, IsTrue};
 ghost use Rattle.prodash_line.specs.plumbing.Cells.{cells};
-ghost use Rattle.prodash_line.specs.Page.{blank, blank_page, IsRow, with_row, with_char, after_sign, adds_row};
+ghost use Rattle.std.specs.List.{All};
+ghost use Rattle.prodash_line.specs.Page.{blank, blank_page, blank_below, with_blank_from, IsRow, with_row, with_char, after_sign, adds_row};
 
 mod codes;
 mod reading;
@@ -98,6 +99,27 @@ fn erase_row(rows: &mut Vec<Vec<char>>, columns: u16, row: usize)
     cells.fill(' ');
 }
 
+/// Blanks a row from a column on.
+fn erase_row_from(rows: &mut Vec<Vec<char>>, columns: u16, row: usize, column: usize)
+    requires row { row < length rows.old.items }
+    requires column { column ≤ columns }
+    requires width { length (slice_index_or (cells rows.old.items) row []) ≡ columns }
+    ensures { cells rows.new.items ≡ with_blank_from columns row column (cells rows.old.items) }
+{
+    let cells = &mut rows[row];
+    cells[column..].fill(' ');
+}
+
+/// Blanks all rows from row `first` on.
+fn erase_rows(rows: &mut Vec<Vec<char>>, columns: u16, first: usize)
+    requires width { All (λ row. length row ≡ columns) (cells rows.old.items) }
+    ensures { cells rows.new.items ≡ blank_below columns first (cells rows.old.items) }
+{
+    for row in first..rows.len() {
+        erase_row(rows, columns, row);
+    }
+}
+
 impl Page {
     /// Returns a page of `rows` blank rows, all in the window, with the cursor at its beginning.
     ///
@@ -153,6 +175,10 @@ impl Page {
             Sign::CarriageReturn => self.column = 0,
             Sign::Up(n) => self.row = self.row.saturating_sub(n as usize).max(self.top()),
             Sign::EraseLine => erase_row(&mut self.rows, self.columns, self.row),
+            Sign::EraseBelow => {
+                erase_row_from(&mut self.rows, self.columns, self.row, self.column as usize);
+                erase_rows(&mut self.rows, self.columns, self.row + 1);
+            }
             Sign::HideCursor | Sign::ShowCursor | Sign::Open(_) | Sign::Reset => {}
         }
         Ok(())

@@ -9,6 +9,8 @@ pub(crate) enum Action {
     Leave,
     /// It draws rows in their place.
     Redraw,
+    /// It erases them.
+    Erase,
     /// It blanks them and closes the renderer.
     Close,
 }
@@ -23,6 +25,8 @@ pub(crate) struct Drawn {
     /// The tracker, if there is one, after a frame that draws rows. A frame that draws none leaves
     /// the tracker as it was.
     pub(crate) tracker: Option<Throughput>,
+    /// Whether the rows of tasks have been erased since they were last drawn.
+    pub(crate) rows_erased: bool,
 }
 
 /// What the composed frame of a tick leaves to the next one.

@@ -1,22 +1,26 @@
 //! Frames: the lines of messages and rows, written over the lines on screen.
-ghost use Rattle.std.specs.Prelude.{◌≡◌, ◌++◌, Some, drop, OnOk, IfOk, IsOkUnless};
+ghost use Rattle.std.specs.Prelude.{◌≡◌, [], ◌++◌, Some, drop, OnOk, IfOk, IsOkUnless};
 ghost use Rattle.std.specs.Option.{option_map};
 ghost use Rattle.prodash_base.specs.Rows.{row_of, rows_of};
 ghost use Rattle.prodash_base.specs.Trackers as trackers;
 ghost use Rattle.prodash_line.specs.declared.render.line.draw.input.Input.TheVariants as inputs;
 ghost use Rattle.prodash_line.specs.declared.render.line.draw.action.Action.TheVariants as actions;
 ghost use Rattle.prodash_line.specs.Signs.{spelling};
-ghost use Rattle.prodash_line.specs.Frames.{first_width, redraw, cursor_up};
+ghost use Rattle.prodash_line.specs.Frames.{first_width, covered, redraw, cursor_up};
 ghost use Rattle.prodash_line.specs.MessageLines.{message_lines, widths_of_origins};
 ghost use Rattle.prodash_line.specs.Renderer.{opening_of, ending_of, closing_signs, closing_bytes};
 ghost use Rattle.prodash_line.specs.Observing.{throughput_by, observe_by};
 ghost use Rattle.prodash_line.specs.OverwriteBytes.{blank_bytes};
-ghost use Rattle.prodash_line.specs.FrameWriting.{HoldsFrame, AppendsSigns, AppendsOver, Leaves, LeavesTick, LeavesInScene, FinishesRedraw, AddsRows, body_signs_in, drawing_in, shown_lines};
+ghost use Rattle.prodash_line.specs.DrawnLines.{layout_of};
+ghost use Rattle.prodash_line.specs.FrameWriting.{HoldsFrame, action_start, AppendsSigns, AppendsOver, Leaves, LeavesTick, LeavesInScene, FinishesRedraw, AddsRows, AddsFitting, body_signs_in, drawing_in, shown_lines, fitting_lines};
 
 use crate::render::line::draw::action::{Action, Composed, Drawn};
+use crate::render::line::draw::clearing::{finish_clearing, start_frame, start_row};
 use crate::render::line::draw::input::Options;
+use crate::render::line::draw::layout::Layout;
 use crate::render::line::draw::line_writer::LineWriter;
 use crate::render::line::draw::message::{greatest_of, push_message};
+use crate::render::line::draw::more::{split_fitting, write_more};
 use crate::render::line::draw::row::{is_row_drawn, push_row};
 use crate::render::line::draw::state::{Past, keep_latest};
 use crate::render::line::draw::text::text_width;
@@ -58,20 +62,21 @@ pub(crate) fn compose(
     ensures reason { IsOkUnless result Refusal.Memory }
 {
     let (_, height) = past.options.terminal_dimensions;
+    let layout = past.options.layout();
     let messages = seen.1.as_slice();
-    begin_frame(out, past)?;
+    let action = past.tick_action(show, !messages.is_empty(), &seen.0);
+    begin_frame(out, past, layout, action)?;
     let mut origin_widths = Vec::from_slice(alloc, &past.origin_widths)?;
     write_messages(
         alloc,
         out,
         &past.options,
         &mut origin_widths,
-        &past.widths,
+        layout.covered(&past.widths),
         messages,
     )?;
     keep_latest(&mut origin_widths, usize::from(height));
     let left = below(&past.widths, messages.len());
-    let action = past.tick_action(show, &seen.0);
     let scene = Scene {
         past,
         options: past.options,
@@ -90,8 +95,9 @@ pub(crate) fn compose(
 pub(crate) fn compose_closing(out: &mut LineWriter, past: &Past) -> Result<(), AllocError>
     ensures { OnOk result (out.new.bytes.items ≡ closing_bytes past.now) }
 {
-    begin_frame(out, past)?;
-    write_closing(out, past, &past.widths)?;
+    let layout = past.options.layout();
+    begin_frame(out, past, layout, Action::Close)?;
+    write_closing(out, past, layout, &past.widths)?;
     Ok(())
 }
 
@@ -111,30 +117,38 @@ pub(crate) fn compose_resized(
         (Leaves past.now (inputs.Resize at show dimensions.0 dimensions.1)) }
     ensures reason { IsOkUnless result Refusal.Memory }
 {
-    begin_frame(out, past)?;
     let options = Options {
         terminal_dimensions: dimensions,
         ..past.options
     };
+    let action = past.resize_action(show);
+    begin_frame(out, past, options.layout(), action)?;
     let scene = Scene {
         past,
         options,
         at,
         rows: past.latest_rows(),
     };
-    let action = past.resize_action(show);
     let drawn = write_body(alloc, out, &scene, action, &past.widths)?;
     Ok(drawn)
 }
 
-/// Begins a frame: empties the buffer, and hides the cursor if this frame does.
-fn begin_frame(out: &mut LineWriter, past: &Past) -> Result<(), AllocError>
-    ensures { OnOk result (out.new.bytes.items ≡ spelling (opening_of past.now)) }
+/// Begins a frame that does this after its messages: empties the buffer, hides the cursor if this
+/// frame does, and goes to the beginning of the cursor's row if the frame erases rows.
+fn begin_frame(
+    out: &mut LineWriter,
+    past: &Past,
+    layout: Layout,
+    action: Action,
+) -> Result<(), AllocError>
+    ensures { OnOk result
+        (out.new.bytes.items ≡ spelling (opening_of past.now ++ action_start layout action)) }
 {
     out.clear();
     if past.hides_cursor() {
         out.push_sign(Sign::HideCursor)?;
     }
+    start_frame(out, layout, action)?;
     Ok(())
 }
 
@@ -157,26 +171,50 @@ fn write_body(
             widths: Vec::from_slice(alloc, left)?,
             midpoint,
             tracker: None,
+            rows_erased: scene.past.rows_erased(),
         }),
         Action::Redraw => redraw_rows(alloc, out, scene, left),
-        Action::Close => {
-            write_closing(out, scene.past, left)?;
+        Action::Erase => {
+            write_no_rows(out, scene.options.layout(), left)?;
             Ok(Drawn {
                 widths: Vec::new(alloc),
                 midpoint,
                 tracker: None,
+                rows_erased: true,
+            })
+        }
+        Action::Close => {
+            write_closing(out, scene.past, scene.options.layout(), left)?;
+            Ok(Drawn {
+                widths: Vec::new(alloc),
+                midpoint,
+                tracker: None,
+                rows_erased: scene.past.rows_erased(),
             })
         }
     }
 }
 
-/// Writes the end of a closing frame: blanks over the lines on screen, and back up; the cursor is
-/// shown if it is hidden, and on a terminal the row of the first line is erased.
-fn write_closing(out: &mut LineWriter, past: &Past, widths: &[u16]) -> Result<(), AllocError>
-    ensures { OnOk result
-        (AppendsSigns out.old (closing_signs past.now widths.now) out.new) }
+/// Writes a redraw of no rows: the lines on screen are blanked, and the cursor is back at the first.
+fn write_no_rows(out: &mut LineWriter, layout: Layout, widths: &[u16]) -> Result<(), AllocError>
+    ensures { OnOk result (AppendsSigns out.old (redraw layout widths.now []) out.new) }
 {
-    finish_redraw(out, widths, 0)?;
+    finish_redraw(out, layout, widths, 0)?;
+    Ok(())
+}
+
+/// Writes the end of a closing frame: the lines on screen are blanked, and the cursor is back at
+/// the first; it is shown if it is hidden, and the row of the first line is erased if it wasn't.
+fn write_closing(
+    out: &mut LineWriter,
+    past: &Past,
+    layout: Layout,
+    widths: &[u16],
+) -> Result<(), AllocError>
+    ensures { OnOk result
+        (AppendsSigns out.old (closing_signs layout past.now widths.now) out.new) }
+{
+    write_no_rows(out, layout, widths)?;
     write_ending(out, past)?;
     Ok(())
 }
@@ -188,7 +226,7 @@ fn write_ending(out: &mut LineWriter, past: &Past) -> Result<(), AllocError>
     if past.is_cursor_hidden() {
         out.push_sign(Sign::ShowCursor)?;
     }
-    if past.options.output_is_terminal {
+    if past.erases_at_end() {
         out.push_sign(Sign::EraseLine)?;
         out.push_sign(Sign::CarriageReturn)?;
     }
@@ -207,17 +245,19 @@ fn write_messages(
 ) -> Result<(), Refusal>
     ensures bytes { OnOk result
         (let lines = message_lines options.now origin_widths.old.items messages.now in
-        AppendsOver out.old widths.now lines out.new) }
+        AppendsOver (layout_of options.now) out.old widths.now lines out.new) }
     ensures origins { OnOk result
         (origin_widths.new.items ≡ origin_widths.old.items ++ widths_of_origins messages.now) }
     ensures reason { IsOkUnless result Refusal.Memory }
 {
+    let layout = options.layout();
     let mut left = widths;
     let mut greatest = greatest_of(origin_widths);
     for message in messages {
         let (width, others) = split_row(left);
         let own_width = text_width(message.origin.as_str());
         greatest = greatest.max(own_width);
+        start_row(out, layout)?;
         push_message(alloc, out, options, greatest, own_width, message)?;
         out.end_over(width)?;
         origin_widths.push(own_width)?;
@@ -226,8 +266,8 @@ fn write_messages(
     Ok(())
 }
 
-/// Redraws the rows of a scene: writes the lines of those that are drawn over the lines on screen,
-/// and blanks over those that are left over, and moves the cursor back up.
+/// Redraws the rows of a scene: writes the lines of those that fit over the lines on screen and the
+/// line that counts the others, blanks the lines that are left over, and moves the cursor back up.
 fn redraw_rows(
     alloc: Global,
     out: &mut LineWriter,
@@ -235,29 +275,52 @@ fn redraw_rows(
     widths: &[u16],
 ) -> Result<Drawn, Refusal>
     ensures bytes { OnOk result
-        (AppendsSigns out.old (redraw widths.now (drawing_in scene.now).lines) out.new) }
+        (let layout = layout_of scene.now.options in
+        AppendsSigns out.old (redraw layout widths.now (drawing_in scene.now).lines) out.new) }
     ensures state { IfOk result (LeavesInScene actions.Redraw scene.now widths.now) }
     ensures reason { IsOkUnless result Refusal.Memory }
 {
     let midpoint = scene.past.midpoint();
     let rows = scene.rows;
+    let options = &scene.options;
+    let layout = options.layout();
     let mut drawn = Drawn {
         widths: Vec::new(alloc),
         midpoint: 0,
         tracker: scene.past.tracker_at(alloc, scene.at, rows)?,
+        rows_erased: false,
     };
-    write_rows(
-        alloc,
-        out,
-        &mut drawn,
-        &scene.options,
-        midpoint,
-        widths,
-        rows,
-    )?;
+    write_fitting(alloc, out, &mut drawn, options, midpoint, widths, rows)?;
     reconcile(&mut drawn.tracker, rows);
-    finish_redraw(out, widths, drawn.widths.len())?;
+    finish_redraw(out, layout, widths, drawn.widths.len())?;
     Ok(drawn)
+}
+
+/// Writes the lines of the rows that are drawn and fit over the lines on screen, and the line that
+/// counts the others. Observes all rows that are drawn.
+fn write_fitting(
+    alloc: Global,
+    out: &mut LineWriter,
+    drawn: &mut Drawn,
+    options: &Options,
+    midpoint: u16,
+    widths: &[u16],
+    rows: &[Row],
+) -> Result<(), Refusal>
+    ensures bytes { OnOk result
+        (let layout = layout_of options.now in
+        let lines = fitting_lines options.now midpoint drawn.old rows.now in
+        AppendsOver layout out.old (covered layout widths.now) lines out.new) }
+    ensures drawn { OnOk result
+        (AddsFitting options.now midpoint rows.now drawn.old drawn.new) }
+    ensures reason { IsOkUnless result Refusal.Memory }
+{
+    let layout = options.layout();
+    let (shown, others) = split_fitting(layout, options.level_filter, rows);
+    let covered = layout.covered(widths);
+    write_rows(alloc, out, drawn, options, midpoint, covered, shown)?;
+    write_more(alloc, out, drawn, options, others)?;
+    Ok(())
 }
 
 /// Writes the lines of the rows that are drawn over the lines on screen. Adds their widths to
@@ -273,11 +336,12 @@ fn write_rows(
 ) -> Result<(), Refusal>
     ensures bytes { OnOk result
         (let lines = shown_lines options.now midpoint drawn.old rows.now in
-        AppendsOver out.old widths.now lines out.new) }
+        AppendsOver (layout_of options.now) out.old widths.now lines out.new) }
     ensures drawn { OnOk result
         (AddsRows options.now midpoint rows.now drawn.old drawn.new) }
     ensures reason { IsOkUnless result Refusal.Memory }
 {
+    let layout = options.layout();
     let mut left = widths;
     for row in rows {
         if !is_row_drawn(options.level_filter, row) {
@@ -285,6 +349,7 @@ fn write_rows(
         }
         let (old_width, others) = split_row(left);
         let throughput = observe(alloc, &mut drawn.tracker, row)?;
+        start_row(out, layout)?;
         let own_midpoint = push_row(alloc, out, options, midpoint, row, throughput)?;
         drawn.midpoint = drawn.midpoint.max(own_midpoint);
         drawn.widths.push(out.end_over(old_width)?)?;
@@ -303,7 +368,7 @@ fn reconcile(tracker: &mut Option<Throughput>, rows: &[Row])
 }
 
 /// Observes a row, and returns the throughput that it gives, if there is a tracker.
-fn observe(
+pub(super) fn observe(
     alloc: Global,
     tracker: &mut Option<Throughput>,
     row: &Row,
@@ -320,10 +385,28 @@ fn observe(
     tracker.update_and_get(alloc, &row.key, step)
 }
 
+/// Blanks the lines on screen below the first `drawn` rows, and moves the cursor up to the first
+/// row.
+fn finish_redraw(
+    out: &mut LineWriter,
+    layout: Layout,
+    widths: &[u16],
+    drawn: usize,
+) -> Result<(), AllocError>
+    ensures { OnOk result (FinishesRedraw layout out.old widths.now drawn out.new) }
+{
+    match layout {
+        Layout::Overwriting => finish_overwriting(out, widths, drawn)?,
+        Layout::Clearing(height) => finish_clearing(out, height, widths.len(), drawn)?,
+    }
+    Ok(())
+}
+
 /// Writes blanks over the lines on screen below the first `drawn` rows, and moves the cursor up
 /// from below all rows to the first.
-fn finish_redraw(out: &mut LineWriter, widths: &[u16], drawn: usize) -> Result<(), AllocError>
-    ensures { OnOk result (FinishesRedraw out.old widths.now drawn out.new) }
+fn finish_overwriting(out: &mut LineWriter, widths: &[u16], drawn: usize) -> Result<(), AllocError>
+    ensures { OnOk result
+        (FinishesRedraw Layout.Overwriting out.old widths.now drawn out.new) }
 {
     write_blanks(out, below(widths, drawn))?;
     push_up(out, drawn.max(widths.len()))?;
@@ -342,7 +425,7 @@ fn write_blanks(out: &mut LineWriter, widths: &[u16]) -> Result<(), AllocError>
 }
 
 /// Moves the cursor up by `rows` rows, at most 65535; by none if that is 0.
-fn push_up(out: &mut LineWriter, rows: usize) -> Result<(), AllocError>
+pub(super) fn push_up(out: &mut LineWriter, rows: usize) -> Result<(), AllocError>
     ensures { OnOk result (AppendsSigns out.old (cursor_up rows) out.new) }
 {
     if rows > 0 {

@@ -1,8 +1,9 @@
 //! Inputs of the renderer, its options, and its answers.
 ghost use Rattle.std.specs.Prelude.{◌≡◌};
-ghost use Rattle.prodash_line.specs.DrawnLines.{limit_of};
+ghost use Rattle.prodash_line.specs.DrawnLines.{limit_of, clears, layout_of};
 ghost use Rattle.prodash_line.specs.Renderer.{default_options};
 
+use crate::render::line::draw::layout::Layout;
 use prodash_base::messages::{MessageCopyState, Messages};
 use prodash_base::progress::{Level, Rows};
 use prodash_base::time::Moment;
@@ -33,12 +34,16 @@ pub struct Options {
     pub timestamp: bool,
     /// Whether the first frame hides the cursor of a terminal. The closing frame shows it again.
     pub hide_cursor: bool,
+    /// Whether each frame erases the rows of a terminal that it writes on, and all rows below
+    /// them, and draws no more rows than the terminal has. Then nothing is left on screen of what
+    /// other programs print between two frames, or of a terminal whose size has changed.
+    pub defensive: bool,
 }
 
 impl Default for Options {
     /// Returns options for a coloured terminal of 80 columns and 20 rows. Rows of all levels are
-    /// drawn, messages have no timestamps, the cursor stays visible, and the renderer keeps running
-    /// without rows.
+    /// drawn, messages have no timestamps, the cursor stays visible, frames are not defensive, and
+    /// the renderer keeps running without rows.
     fn default() -> Options
         ensures { result ≡ default_options }
     {
@@ -50,6 +55,7 @@ impl Default for Options {
             colored: true,
             timestamp: false,
             hide_cursor: false,
+            defensive: false,
         }
     }
 }
@@ -62,6 +68,24 @@ impl Options {
     {
         self.output_is_terminal
             .then_some(self.terminal_dimensions.0)
+    }
+
+    /// Whether frames erase the rows that they write on.
+    pub(crate) fn clears(&self) -> bool
+        ensures { result ≡ clears self.now }
+    {
+        self.defensive && self.output_is_terminal
+    }
+
+    /// Returns how frames are laid out.
+    pub(crate) fn layout(&self) -> Layout
+        ensures { result ≡ layout_of self.now }
+    {
+        if self.clears() {
+            Layout::Clearing(self.terminal_dimensions.1)
+        } else {
+            Layout::Overwriting
+        }
     }
 }
 

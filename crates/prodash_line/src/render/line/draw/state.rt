@@ -1,7 +1,7 @@
 //! What the renderer keeps from frame to frame.
 ghost use Rattle.std.specs.Prelude.{◌≡◌, [], Some, IfSome, IfOk, IsOkUnless};
 ghost use Rattle.prodash_base.specs.Rows.{rows_of};
-ghost use Rattle.prodash_line.specs.Renderer.{IsEndRefusal, new_renderer, is_drawn, closes_at, hides_cursor, is_cursor_hidden, latest_rows, resized, tick_action, resize_action, answer_of};
+ghost use Rattle.prodash_line.specs.Renderer.{IsEndRefusal, new_renderer, rows_changed, draws_again, is_drawn, erases_at_end, closes_at, hides_cursor, is_cursor_hidden, latest_rows, resized, tick_action, resize_action, answer_of};
 ghost use Rattle.prodash_line.specs.FrameWriting.{keeping, remembering};
 ghost use Rattle.prodash_base.specs.Rings.{keep_last};
 ghost use Rattle.prodash_line.specs.Observing.{tracker_at};
@@ -49,6 +49,8 @@ pub(crate) struct Past {
     seen: Option<MessageCopyState>,
     /// Measures throughput, if it is shown.
     tracker: Option<Throughput>,
+    /// Whether a frame that clears its rows has erased those of tasks since they were last drawn.
+    rows_erased: bool,
     /// Whether a frame has hidden the cursor.
     cursor_hidden: bool,
     /// Why every further frame is refused, if so.
@@ -97,6 +99,7 @@ impl Model for Past {
       origin_widths = p.origin_widths.items;
       seen = p.seen;
       tracker = p.tracker;
+      rows_erased = p.rows_erased;
       cursor_hidden = p.cursor_hidden;
       ended = option_map refusal_of p.ending;
     } };
@@ -176,6 +179,7 @@ impl Past {
             } else {
                 None
             },
+            rows_erased: false,
             cursor_hidden: false,
             ending: None,
         }
@@ -194,6 +198,7 @@ impl Past {
             origin_widths: self.origin_widths.clone()?,
             seen: self.seen,
             tracker: self.copied_tracker(alloc, self.latest_rows())?,
+            rows_erased: self.rows_erased,
             cursor_hidden: self.cursor_hidden,
             ending: self.ending,
         })
@@ -207,16 +212,32 @@ impl Past {
         self.ending.map(Ending::refusal)
     }
 
-    /// Whether a tick draws these rows: they are shown on a terminal, and the latest accepted tick
-    /// with a root saw other rows, or there was none.
-    fn draws(&self, show: bool, rows: &Rows) -> bool
-        ensures { result ≡ is_drawn self.now show rows.now }
+    /// Whether these rows aren't those that the latest accepted tick with a root saw, or there was
+    /// no such tick.
+    fn has_changed(&self, rows: &Rows) -> bool
+        ensures { result ≡ rows_changed self.now.last_rows rows.now }
+    {
+        match &self.last_rows {
+            None => true,
+            Some(before) => *before != *rows,
+        }
+    }
+
+    /// Whether a tick that prints messages or not has to draw rows though they haven't changed: its
+    /// frame clears its rows, and prints messages or comes after one that has erased them.
+    fn draws_again(&self, printed: bool) -> bool
+        ensures { result ≡ draws_again self.now printed }
+    {
+        self.options.clears() && (printed || self.rows_erased)
+    }
+
+    /// Whether a tick that prints messages or not draws these rows: they are shown on a terminal,
+    /// and they have changed or must be drawn again.
+    fn draws(&self, show: bool, printed: bool, rows: &Rows) -> bool
+        ensures { result ≡ is_drawn self.now show printed rows.now }
     {
         show && self.options.output_is_terminal
-            && match &self.last_rows {
-                None => true,
-                Some(before) => *before != *rows,
-            }
+            && (self.draws_again(printed) || self.has_changed(rows))
     }
 
     /// Whether a tick that sees these rows closes the renderer: there are none, and the renderer
@@ -227,14 +248,17 @@ impl Past {
         !self.options.keep_running_if_progress_is_empty && rows.as_slice().is_empty()
     }
 
-    /// Returns what the frame of a tick that sees these rows does after its messages.
-    pub(crate) fn tick_action(&self, show: bool, rows: &Rows) -> Action
-        ensures { result ≡ tick_action self.now show rows.now }
+    /// Returns what the frame of a tick that prints messages or not and sees these rows does after
+    /// its messages.
+    pub(crate) fn tick_action(&self, show: bool, printed: bool, rows: &Rows) -> Action
+        ensures { result ≡ tick_action self.now show printed rows.now }
     {
         if self.closes_at(rows) {
             Action::Close
-        } else if self.draws(show, rows) {
+        } else if self.draws(show, printed, rows) {
             Action::Redraw
+        } else if self.options.clears() && printed {
+            Action::Erase
         } else {
             Action::Leave
         }
@@ -271,6 +295,20 @@ impl Past {
         ensures { result ≡ is_cursor_hidden self.now }
     {
         self.cursor_hidden || self.hides_cursor()
+    }
+
+    /// Whether the rows of tasks have been erased since they were last drawn.
+    pub(crate) fn rows_erased(&self) -> bool
+        ensures { result ≡ self.now.rows_erased }
+    {
+        self.rows_erased
+    }
+
+    /// Whether a closing frame erases the row in which the first line on screen was.
+    pub(crate) fn erases_at_end(&self) -> bool
+        ensures { result ≡ erases_at_end self.now.options }
+    {
+        self.options.output_is_terminal && !self.options.defensive
     }
 
     /// Returns the rows at the latest accepted tick with a root.
@@ -333,7 +371,7 @@ impl Past {
                 self.ending = Some(Ending::Closed);
                 Answer::Ended
             }
-            Action::Leave | Action::Redraw => Answer::Drawn,
+            Action::Leave | Action::Redraw | Action::Erase => Answer::Drawn,
         }
     }
 
@@ -343,6 +381,7 @@ impl Past {
     {
         self.widths = drawn.widths;
         self.last_progress_midpoint = drawn.midpoint;
+        self.rows_erased = drawn.rows_erased;
         if drawn.tracker.is_some() {
             self.tracker = drawn.tracker;
         }

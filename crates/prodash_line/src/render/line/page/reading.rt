@@ -100,6 +100,7 @@ fn sign_of(parameters: &[u8], final_byte: u8) -> Option<Sign>
         b'h' if is_cursor => Some(Sign::ShowCursor),
         b'm' if is_zero => Some(Sign::Reset),
         b'm' => Some(Sign::Open(style_of(parameters)?)),
+        b'J' if parameters.is_empty() => Some(Sign::EraseBelow),
         _ => None,
     }
 }

@@ -13,6 +13,8 @@ pub enum Sign {
     Up(u16),
     /// EL, `CSI 2 K`: blanks the cursor's row.
     EraseLine,
+    /// ED, `CSI J`: blanks the cursor's row from the cursor on, and all rows below it.
+    EraseBelow,
     /// `CSI ? 25 l`: hides the cursor.
     HideCursor,
     /// `CSI ? 25 h`: shows the cursor.

@@ -62,6 +62,7 @@ pub(crate) fn push_sign(out: &mut Vec<u8>, sign: Sign) -> Result<(), AllocError>
             push_sequence(out, digits.format(n).as_bytes(), b'A')
         }
         Sign::EraseLine => push_sequence(out, b"2", b'K'),
+        Sign::EraseBelow => push_sequence(out, b"", b'J'),
         Sign::HideCursor => push_sequence(out, b"?25", b'l'),
         Sign::ShowCursor => push_sequence(out, b"?25", b'h'),
         Sign::Open(style) => push_open(out, style),

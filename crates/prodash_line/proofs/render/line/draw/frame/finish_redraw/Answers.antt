@@ -1,6 +1,14 @@
-use Rattle.prodash_line.proofs.OverwriteBytes.{redrawn}
+use Rattle.std.proofs.Common.{subst, sym}
+use Rattle.prodash_line.specs.declared.render.line.draw.layout.Layout.{Layout}
+use Rattle.prodash_line.specs.FrameWriting.{FinishesRedraw}
+use Rattle.prodash_line.proofs.OverwriteBytes.{redrawn_clearing}
 use Rattle.prodash_line.proofs.render.line.draw.frame.finish_redraw.Goals as goal
 
-pub returns : goal.returns
-returns c = λ before lines n e.
-    redrawn c.args.widths.now lines c.args.drawn c.max.result before _ _ _ _ n c.below.ensures c.max.ensures e c.in_ok-write_blanks.ensures c.in_ok-push_up.ensures
+pub returns-in_ok-finish_overwriting-in-Overwriting : goal.returns-in_ok-finish_overwriting-in-Overwriting
+returns-in_ok-finish_overwriting-in-Overwriting c =
+    subst (λ (l : Layout). FinishesRedraw l c.args.out.now c.args.widths.now c.args.drawn c.finish_overwriting.new.out) (sym c.in-Overwriting.is) c.in_ok-finish_overwriting-in-Overwriting.ensures
+
+pub returns-in_ok-finish_clearing-in-Clearing : goal.returns-in_ok-finish_clearing-in-Clearing
+returns-in_ok-finish_clearing-in-Clearing c =
+    subst (λ (l : Layout). FinishesRedraw l c.args.out.now c.args.widths.now c.args.drawn c.finish_clearing.new.out) (sym c.in-Clearing.is)
+    (λ before lines n e. redrawn_clearing c.in-Clearing.height c.args.widths.now lines c.args.drawn before _ _ n e c.in_ok-finish_clearing-in-Clearing.ensures)

@@ -1,4 +1,4 @@
-use Rattle.std.proofs.Common.{[], ◌++◌, refl, ap, sym, ◌∙◌, append_assoc, append-nil}
+use Rattle.std.proofs.Common.{[], ◌++◌, ap, sym, ◌∙◌, append_assoc}
 use Rattle.prodash_line.specs.Signs.{spelling}
 use Rattle.prodash_line.specs.Frames.{redraw}
 use Rattle.prodash_line.specs.Renderer.{ending_of}
@@ -8,9 +8,9 @@ use Rattle.prodash_line.proofs.render.line.draw.frame.write_closing.Goals as goa
 pub returns : goal.returns
 returns c =
     let old = c.args.out.now.bytes.items in
-    let blanks = redraw c.args.widths.now [] in
+    let blanks = redraw c.args.layout c.args.widths.now [] in
     let ending = ending_of c.args.past.now in
     c.in_ok-write_ending.ensures
-    ∙ ap (λ t. t ++ spelling ending) (c.in_ok-finish_redraw.ensures old [] refl (sym (append-nil old)))
+    ∙ ap (λ t. t ++ spelling ending) c.in_ok-write_no_rows.ensures
     ∙ append_assoc old (spelling blanks) (spelling ending)
     ∙ ap (λ t. old ++ t) (sym (spelling-append blanks ending))

@@ -1,7 +1,9 @@
-use Rattle.std.proofs.Common.{◌≡◌, ◌∷◌, ◌+◌, drop, ap, sym, ◌∙◌, arith}
+use Rattle.std.proofs.Common.{◌≡◌, ◌∷◌, ◌++◌, ◌+◌, drop, ap, sym, ◌∙◌, arith}
 use Rattle.std.specs.Prelude.{max}
 use Rattle.prodash_line.specs.Lines.{in_color}
-use Rattle.prodash_line.specs.DrawnLines.{limit_of}
+use Rattle.prodash_line.specs.Signs.{spelling}
+use Rattle.prodash_line.specs.Frames.{row_start}
+use Rattle.prodash_line.specs.DrawnLines.{limit_of, layout_of}
 use Rattle.prodash_line.specs.MessageLines.{message_line, origin_width, greatest_width}
 use Rattle.prodash_line.proofs.MessageLines.{greatest_width-append}
 use Rattle.prodash_line.proofs.OverwriteBytes.{left_from, message_more, origin_more}
@@ -22,9 +24,10 @@ loop-message-preserved c =
     let others = drop (c.loop-message.message-index + 1) c.args.messages.now in
     let left = drop c.loop-message.message-index c.args.messages.now in
     record {
-      bytes = message_more c.args.options.now c.loop-message.left.now c.loop-message.origin_widths.items c.push.new.self.items c.loop-message.out.bytes.items _ _ m others left
+      bytes = message_more (layout_of c.args.options.now) c.args.options.now c.loop-message.left.now c.loop-message.origin_widths.items c.push.new.self.items c.loop-message.out.bytes.items _ _ _ m others left
           c.max-greatest.result c.text_width-own_width.result _ _ (own_is c) (greatest_is c) c.in_ok-push.ensures.items c.split_row-width.ensures.first c.split_row-width.ensures.others
-          (c.in_ok-end_over.ensures.bytes (limit_of c.args.options.now) c.loop-message.out (in_color c.args.options.now.colored (message_line c.args.options.now.timestamp c.max-greatest.result m)) c.in_ok-push_message.ensures.line).bytes (left_is c) c.loop-message.invariant.bytes;
+          (c.in_ok-start_row.ensures ∙ ap (λ layout. c.loop-message.out.bytes.items ++ spelling (row_start layout)) c.layout-layout.ensures)
+          (c.in_ok-end_over.ensures.bytes (limit_of c.args.options.now) c.start_row.new.out (in_color c.args.options.now.colored (message_line c.args.options.now.timestamp c.max-greatest.result m)) c.in_ok-push_message.ensures.line).bytes (left_is c) c.loop-message.invariant.bytes;
       origins = origin_more c.loop-message.origin_widths.items c.push.new.self.items _ m others left c.text_width-own_width.result (own_is c) c.in_ok-push.ensures.items (left_is c) c.loop-message.invariant.origins;
       greatest = greatest_is c ∙ sym (greatest_width-append c.loop-message.origin_widths.items c.text_width-own_width.result) ∙ ap greatest_width (sym c.in_ok-push.ensures.items);
     }

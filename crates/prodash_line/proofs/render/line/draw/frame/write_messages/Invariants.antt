@@ -1,12 +1,13 @@
 use Rattle.std.proofs.Common.{◌≡◌, ◌++◌, drop}
 use Rattle.prodash_line.specs.MessageLines.{message_lines, widths_of_origins, greatest_width}
-use Rattle.prodash_line.specs.OverwriteBytes.{overwrite_bytes}
+use Rattle.prodash_line.specs.OverwriteBytes.{lines_bytes}
+use Rattle.prodash_line.specs.DrawnLines.{layout_of}
 use Rattle.prodash_line.proofs.render.line.draw.frame.write_messages.Given as goal
 
 abbrev pub invariant-loop-message : goal.invariant-loop-message
 invariant-loop-message l = record {
-  bytes : l.out.bytes.items ++ overwrite_bytes l.left (message_lines l.options l.origin_widths.items (drop l.message-index l.messages))
-      ≡ l.fn.out.bytes.items ++ overwrite_bytes l.widths (message_lines l.options l.fn.origin_widths.items l.messages);
+  bytes : l.out.bytes.items ++ lines_bytes (layout_of l.options) l.left (message_lines l.options l.origin_widths.items (drop l.message-index l.messages))
+      ≡ l.fn.out.bytes.items ++ lines_bytes (layout_of l.options) l.widths (message_lines l.options l.fn.origin_widths.items l.messages);
   origins : l.origin_widths.items ++ widths_of_origins (drop l.message-index l.messages) ≡ l.fn.origin_widths.items ++ widths_of_origins l.messages;
   greatest : l.greatest ≡ greatest_width l.origin_widths.items;
 }

@@ -3,7 +3,8 @@ use Rattle.prodash_base.specs.Rows.{rows_of}
 use Rattle.prodash_line.specs.Frames.{widths_of}
 use Rattle.prodash_line.specs.ProgressRows.{filtered, row_lines, greatest_midpoint}
 use Rattle.prodash_line.specs.Observing.{shown_by, observe_all}
-use Rattle.prodash_line.specs.OverwriteBytes.{overwrite_bytes}
+use Rattle.prodash_line.specs.OverwriteBytes.{lines_bytes}
+use Rattle.prodash_line.specs.DrawnLines.{layout_of}
 use Rattle.prodash_line.proofs.render.line.draw.frame.write_rows.Given as goal
 
 abbrev pub invariant-loop-row : goal.invariant-loop-row
@@ -13,10 +14,11 @@ invariant-loop-row l =
     let shown_left = shown_by l.drawn.tracker left in
     let shown_all = shown_by l.fn.drawn.tracker all in
     record {
-      bytes : l.out.bytes.items ++ overwrite_bytes l.left (row_lines l.options l.midpoint shown_left)
-          ≡ l.fn.out.bytes.items ++ overwrite_bytes l.widths (row_lines l.options l.midpoint shown_all);
+      bytes : l.out.bytes.items ++ lines_bytes (layout_of l.options) l.left (row_lines l.options l.midpoint shown_left)
+          ≡ l.fn.out.bytes.items ++ lines_bytes (layout_of l.options) l.widths (row_lines l.options l.midpoint shown_all);
       widths : l.drawn.widths.items ++ widths_of (row_lines l.options l.midpoint shown_left)
           ≡ l.fn.drawn.widths.items ++ widths_of (row_lines l.options l.midpoint shown_all);
       midpoint : max l.drawn.midpoint (greatest_midpoint shown_left) ≡ max l.fn.drawn.midpoint (greatest_midpoint shown_all);
       tracker : observe_all l.drawn.tracker left ≡ observe_all l.fn.drawn.tracker all;
+      rows_erased : l.drawn.rows_erased ≡ l.fn.drawn.rows_erased;
     }

@@ -1,4 +1,5 @@
-use Rattle.std.proofs.Common.{[], ◌∷◌, refl, arith}
+use Rattle.std.proofs.Common.{ℕ, nat_eq, List, [], ◌∷◌, length, ap, ◌∙◌, refl, arith}
+use Rattle.std.proofs.lemmas.Bool.{both_ways}
 use Rattle.prodash_line.proofs.Sequences.{makes_none, differs}
 use Rattle.prodash_line.proofs.render.line.page.reading.sign_of.Goals as goal
 
@@ -6,6 +7,7 @@ pub returns-in_err-number_of-in-65 : goal.returns-in_err-number_of-in-65
 returns-in_err-number_of-in-65 c = rw c.from_residual.ensures (makes_none c.args.parameters.now c.args.final_byte (record {
   up = λ e. c.in_err-number_of-in-65.ensures;
   erase = λ e. absurd (omega arith);
+  erase_below = λ e. absurd (omega arith);
   hide = λ e. absurd (omega arith);
   show = λ e. absurd (omega arith);
   open_style = λ e. absurd (omega arith);
@@ -16,6 +18,7 @@ pub returns-in_err-style_of-in-109-2 : goal.returns-in_err-style_of-in-109-2
 returns-in_err-style_of-in-109-2 c = rw c.from_residual-in_err-style_of-in-109-2.ensures (makes_none c.args.parameters.now c.args.final_byte (record {
   up = λ e. absurd (omega arith);
   erase = λ e. absurd (omega arith);
+  erase_below = λ e. absurd (omega arith);
   hide = λ e. absurd (omega arith);
   show = λ e. absurd (omega arith);
   open_style = λ e. c.in_err-style_of-in-109-2.ensures;
@@ -26,6 +29,7 @@ pub returns-in_default : goal.returns-in_default
 returns-in_default c = makes_none c.args.parameters.now c.args.final_byte (record {
   up = λ e. absurd (omega arith);
   erase = λ e. differs c.eq-is_two.result c.args.parameters.now c.as_slice.result.now (50 ∷ []) c.if-is_two.false c.eq-is_two.ensures c.as_slice.ensures refl;
+  erase_below = λ e. absurd (omega arith);
   hide = λ e. absurd (omega arith);
   show = λ e. absurd (omega arith);
   open_style = λ e. absurd (omega arith);
@@ -36,6 +40,7 @@ pub returns-in_default-2 : goal.returns-in_default-2
 returns-in_default-2 c = makes_none c.args.parameters.now c.args.final_byte (record {
   up = λ e. absurd (omega arith);
   erase = λ e. absurd (omega arith);
+  erase_below = λ e. absurd (omega arith);
   hide = λ e. differs c.eq-is_cursor.result c.args.parameters.now c.as_slice-2.result.now (63 ∷ 50 ∷ 53 ∷ []) c.if-is_cursor.false c.eq-is_cursor.ensures c.as_slice-2.ensures refl;
   show = λ e. absurd (omega arith);
   open_style = λ e. absurd (omega arith);
@@ -46,6 +51,7 @@ pub returns-in_default-3 : goal.returns-in_default-3
 returns-in_default-3 c = makes_none c.args.parameters.now c.args.final_byte (record {
   up = λ e. absurd (omega arith);
   erase = λ e. absurd (omega arith);
+  erase_below = λ e. absurd (omega arith);
   hide = λ e. absurd (omega arith);
   show = λ e. differs c.eq-is_cursor.result c.args.parameters.now c.as_slice-2.result.now (63 ∷ 50 ∷ 53 ∷ []) c.if-is_cursor-2.false c.eq-is_cursor.ensures c.as_slice-2.ensures refl;
   open_style = λ e. absurd (omega arith);
@@ -56,6 +62,18 @@ pub returns-in_default-4 : goal.returns-in_default-4
 returns-in_default-4 c = makes_none c.args.parameters.now c.args.final_byte (record {
   up = λ e. absurd (omega arith);
   erase = λ e. absurd (omega arith);
+  erase_below = λ e none. both_ways c.is_empty.result c.if-is_empty.false (c.is_empty.ensures ∙ ap (λ (p : List ℕ). nat_eq (length p) 0) none);
+  hide = λ e. absurd (omega arith);
+  show = λ e. absurd (omega arith);
+  open_style = λ e. absurd (omega arith);
+  reset = λ e. absurd (omega arith);
+})
+
+pub returns-in_default-5 : goal.returns-in_default-5
+returns-in_default-5 c = makes_none c.args.parameters.now c.args.final_byte (record {
+  up = λ e. absurd (omega arith);
+  erase = λ e. absurd (omega arith);
+  erase_below = λ e. absurd (omega arith);
   hide = λ e. absurd (omega arith);
   show = λ e. absurd (omega arith);
   open_style = λ e. absurd (omega arith);

@@ -1,0 +1,170 @@
+-- The frames of a renderer that clears rows, on any page of the terminal's size.
+use Rattle.std.proofs.Common.{◌≡◌, ℕ, ◌+◌, ◌-◌, ◌<◌, nat_eq, nat_lt, Bool, true, false, cond, List, [], ◌∷◌, ◌++◌, length, refl, sym, ap, subst, ◌∙◌, length-append, Some, None, arith}
+use Rattle.std.specs.Prelude.{◌&&◌, ◌||◌, not, min}
+use Rattle.std.specs.List.{AllByRecursion}
+use Rattle.std.proofs.lemmas.List.{length-map, length-take}
+use Rattle.std.proofs.lemmas.Bool.Decides.{nat_tests}
+use Rattle.prodash_base.specs.Rows.{PathRow}
+use Rattle.prodash_base.specs.declared.messages.Message.{Message}
+use Rattle.prodash_line.specs.declared.render.line.draw.input.Options.{Options}
+use Rattle.prodash_line.specs.declared.render.line.draw.input.Input.{Input}
+use Rattle.prodash_line.specs.declared.render.line.draw.input.Input.TheVariants.{Tick, Resize, Quit}
+use Rattle.prodash_line.specs.declared.render.line.draw.action.Action.{Action}
+use Rattle.prodash_line.specs.declared.render.line.draw.action.Action.TheVariants.{Leave, Redraw, Erase, Close}
+use Rattle.prodash_line.specs.declared.render.line.draw.layout.Layout.{Layout}
+use Rattle.prodash_line.specs.declared.render.line.draw.layout.Layout.TheVariants.{Overwriting, Clearing}
+use Rattle.prodash_line.specs.declared.render.line.page.sign.Sign.{Sign}
+use Rattle.prodash_line.specs.declared.render.line.page.sign.Sign.TheVariants.{CarriageReturn, EraseLine, ShowCursor}
+use Rattle.prodash_line.specs.Lines.{Line}
+use Rattle.prodash_line.specs.DrawnLines.{as_drawn, clears, layout_of}
+use Rattle.prodash_line.specs.ProgressRows.{DrawnRow, drawn_row_line, row_lines, fitting_count, fitting, more_line, more_lines}
+use Rattle.prodash_line.specs.MessageLines.{message_lines}
+use Rattle.prodash_line.specs.Frames.{body_lines}
+use Rattle.prodash_line.specs.Fits.{IsPlain, HasPlainLines, LinesFit, BodyFits}
+use Rattle.prodash_line.specs.Renderer.{Renderer, Drawing, has_messages, closes_at, is_drawn, is_cursor_hidden, ending_of, drawn_rows, drawn_lines, latest_rows, remember, moment_of, drawing_at, action_at, printed_at, body_of, frame_at}
+use Rattle.prodash_line.specs.Screens.{ScreenState}
+use Rattle.prodash_line.specs.Renderings.{Rendering, RendersEach, RendersAll}
+use Rattle.prodash_line.specs.ClearedPages.{ClearsPages, ClearsPagesOf}
+use Rattle.prodash_line.proofs.FittingFrames.{lines_fit, body_fits, frame_cut}
+use Rattle.prodash_line.proofs.OrderlyFrames.{orderly_at}
+use Rattle.prodash_line.proofs.ProperFrames.{frame_proper}
+use Rattle.prodash_line.proofs.UnseenSigns.{IsUnseen}
+use Rattle.prodash_line.proofs.Renderings.{each}
+use Rattle.prodash_line.proofs.ClearedPages.{EndsUnseen, NoneLeft, ClearsRows, shows_frame}
+
+first_true : (a b : Bool) → (a && b) ≡ true → a ≡ true
+first_true true b e = refl
+first_true false b e = cc
+
+second_true : (a b : Bool) → (a && b) ≡ true → b ≡ true
+second_true true b e = e
+second_true false b e = cc
+
+-- ---- drawn lines are fewer than the window's rows
+
+one_if : (none : Bool) (line : Line) → length (cond none [] (line ∷ [])) ≡ cond none 0 1
+one_if true line = refl
+one_if false line = refl
+
+few_by : (n height count : ℕ) → count ≡ min (cond (nat_lt n height) n (height - 2)) n → 0 < height
+    → count + cond (nat_eq (n - count) 0 || nat_lt height 2) 0 1 < height
+few_by n height count e i = grind (arith, nat_tests)
+
+few_lines : (options : Options) (layout : Layout) (midpoint : ℕ) (rows : List DrawnRow) → layout ≡ Clearing options.terminal_dimensions.1 → 0 < options.terminal_dimensions.1
+    → length (row_lines options midpoint (fitting layout rows) ++ more_lines options (length rows - length (fitting layout rows))) < options.terminal_dimensions.1
+few_lines options layout midpoint rows e i =
+    let height = options.terminal_dimensions.1 in
+    let fit = fitting layout rows in
+    let others = length rows - length fit in
+    let none = nat_eq others 0 || nat_lt height 2 in
+    let size : length (row_lines options midpoint fit ++ more_lines options others) ≡ length (row_lines options midpoint fit) + length (more_lines options others) = length-append (row_lines options midpoint fit) (more_lines options others) in
+    let mapped : length (row_lines options midpoint fit) ≡ length fit = length-map fit (drawn_row_line options midpoint) in
+    let more : length (more_lines options others) ≡ cond none 0 1 = one_if none (as_drawn options (more_line others)) in
+    let taken : length fit ≡ min (cond (nat_lt (length rows) height) (length rows) (height - 2)) (length rows) =
+    length-take (fitting_count layout (length rows)) rows ∙ ap (λ (l : Layout). min (fitting_count l (length rows)) (length rows)) e in
+    let few : length fit + cond none 0 1 < height = few_by (length rows) height (length fit) taken i in
+    subst (λ (n : ℕ). n < height) (sym (size ∙ ap (λ (n : ℕ). n + length (more_lines options others)) mapped ∙ ap (λ (n : ℕ). length fit + n) more)) few
+
+clearing_layout : (options : Options) → clears options ≡ true → layout_of options ≡ Clearing options.terminal_dimensions.1
+clearing_layout options e = ap (λ (b : Bool). cond b (Clearing options.terminal_dimensions.1) Overwriting) e
+
+pub few_drawn : (r : Renderer) (at : ℕ) (rows : List PathRow) → clears r.options ≡ true → 0 < r.options.terminal_dimensions.1 → length (drawn_lines r at rows) < r.options.terminal_dimensions.1
+few_drawn r at rows e i = few_lines r.options (layout_of r.options) r.midpoint (drawn_rows r at rows) (clearing_layout r.options e) i
+
+clears_still : (r : Renderer) (input : Input) → clears (remember r input).options ≡ clears r.options
+clears_still r (Tick at show (Some seen)) = refl
+clears_still r (Tick at show None) = refl
+clears_still r (Resize at show width rows) = refl
+clears_still r (Quit at) = refl
+
+-- ---- the lines fit
+
+plain_fit : (columns : ℕ) (lines : List Line) → AllByRecursion IsPlain lines → LinesFit true columns lines
+plain_fit columns [] h = tt
+plain_fit columns (line ∷ lines) h = (record { plain = h.0; within = tt }, plain_fit columns lines h.1)
+
+body_fit : (action : Action) (drawing : Drawing) (ending : List Sign) (columns height : ℕ) → length drawing.lines < height → 0 < height
+    → AllByRecursion IsPlain (body_lines [] (body_of action drawing ending)) → BodyFits true columns height (body_of action drawing ending)
+body_fit Leave drawing ending columns height few i h = tt
+body_fit Redraw drawing ending columns height few i h = (plain_fit columns drawing.lines h, few)
+body_fit Erase drawing ending columns height few i h = (tt, i)
+body_fit Close drawing ending columns height few i h = tt
+
+-- ---- how frames end
+
+ends : (hidden defensive terminal : Bool) → (defensive && terminal) ≡ true
+    → AllByRecursion IsUnseen (cond hidden (ShowCursor ∷ []) [] ++ cond (terminal && not defensive) (EraseLine ∷ CarriageReturn ∷ []) [])
+ends true true true e = (tt, tt)
+ends false true true e = tt
+ends hidden true false e = cc
+ends hidden false terminal e = cc
+
+body_ends : (action : Action) (drawing : Drawing) (ending : List Sign) → AllByRecursion IsUnseen ending → EndsUnseen (body_of action drawing ending)
+body_ends Leave drawing ending h = tt
+body_ends Redraw drawing ending h = tt
+body_ends Erase drawing ending h = tt
+body_ends Close drawing ending h = h
+
+-- a tick that leaves the lines on screen prints no message
+left_by : (action : Action) (drawing : Drawing) (ending : List Sign) (messages : List Line) → (action ≡ Leave → messages ≡ []) → NoneLeft (body_of action drawing ending) messages
+left_by Leave drawing ending messages h = h refl
+left_by Redraw drawing ending messages h = tt
+left_by Erase drawing ending messages h = tt
+left_by Close drawing ending messages h = tt
+
+erases : (closes drawn clearing printed : Bool) → clearing ≡ true → printed ≡ true → cond closes Close (cond drawn Redraw (cond (clearing && printed) Erase Leave)) ≡ Leave → ⊥
+erases true drawn clearing printed c p e = cc
+erases false true clearing printed c p e = cc
+erases false false true true c p e = cc
+erases false false true false c p e = cc
+erases false false false printed c p e = cc
+
+counted : (n : ℕ) → 0 < n → not (nat_eq n 0) ≡ true
+counted n h = grind (arith, nat_tests)
+
+none_seen : (r : Renderer) (show : Bool) (rows : List PathRow) (pushed at : ℕ) (messages : List Message) → clears r.options ≡ true
+    → action_at r (Tick at show (Some (rows, messages, pushed))) ≡ Leave → message_lines r.options r.origin_widths messages ≡ []
+none_seen r show rows pushed at [] c e = refl
+none_seen r show rows pushed at (m ∷ messages) c e =
+    let printed = has_messages (m ∷ messages) in
+    absurd (erases (closes_at r rows) (is_drawn r show printed rows) (clears r.options) printed c (counted (length (m ∷ messages)) (omega arith)) e)
+
+none_printed : (r : Renderer) (input : Input) → clears r.options ≡ true → action_at r input ≡ Leave → printed_at r input ≡ []
+none_printed r (Tick at show (Some seen)) c e = none_seen r show seen.0 seen.2 at seen.1 c e
+none_printed r (Tick at show None) c e = refl
+none_printed r (Resize at show width rows) c e = refl
+none_printed r (Quit at) c e = refl
+
+-- ---- the frame of an input
+
+pub clears_rows : (r : Renderer) (input : Input) → clears r.options ≡ true → HasPlainLines (frame_at r input) → 0 < (remember r input).options.terminal_dimensions.1
+    → ClearsRows (remember r input).options.terminal_dimensions.0 (remember r input).options.terminal_dimensions.1 (frame_at r input)
+clears_rows r input c plain high =
+    let r' = remember r input in
+    let f = frame_at r input in
+    let drawing = drawing_at r input in
+    let size = r'.options.terminal_dimensions in
+    let c' : clears r'.options ≡ true = clears_still r input ∙ c in
+    let within = frame_cut r input (second_true r.options.defensive r.options.output_is_terminal c) in
+    let few = few_drawn r' (moment_of input) (latest_rows r'.last_rows) c' high in
+    record {
+      layout = clearing_layout r'.options c';
+      opening = (orderly_at r input).opening;
+      messages = lines_fit true size.0 f.messages (plain_fit size.0 f.messages plain.messages) within.messages;
+      body = body_fits true size.0 size.1 f.body (body_fit (action_at r input) drawing (ending_of r) size.0 size.1 few high plain.drawn) within.body;
+      ends = body_ends (action_at r input) drawing (ending_of r) (ends (is_cursor_hidden r) r.options.defensive r.options.output_is_terminal c);
+      left = left_by (action_at r input) drawing (ending_of r) f.messages (none_printed r input c);
+    }
+
+pub clears_pages : (r : Renderer) (input : Input) → ClearsPages r input
+clears_pages r input c plain = record {
+  proper = frame_proper r.widths (frame_at r input) plain (orderly_at r input);
+  shows = λ page terminal.
+      let size = (remember r input).options.terminal_dimensions in
+      let high : 0 < size.1 = omega (arith, terminal.row, terminal.window, terminal.height) in
+      shows_frame size page r.widths (frame_at r input) terminal (clears_rows r input c plain high);
+}
+
+-- each of a list of inputs
+pub clears_each : (r : Renderer) (s : ScreenState) (xs : List Rendering) (s' : ScreenState) → RendersAll r s xs s' → RendersEach ClearsPagesOf r s xs s'
+clears_each = each ClearsPagesOf (λ r s x s' h. clears_pages r x.input)

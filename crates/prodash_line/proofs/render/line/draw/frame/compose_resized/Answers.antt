@@ -1,0 +1,62 @@
+use Rattle.std.proofs.Common.{◌≡◌, ℕ, ◌++◌, List, ap, sym, ◌∙◌, append-nil, refl}
+use Rattle.prodash_base.specs.Rows.{rows_of}
+use Rattle.prodash_line.specs.declared.render.line.draw.action.Action.{Action}
+use Rattle.prodash_line.specs.declared.render.line.draw.input.Input.{Input}
+use Rattle.prodash_line.specs.declared.render.line.draw.input.Input.TheVariants.{Resize}
+use Rattle.prodash_line.specs.declared.render.line.draw.input.Options.{Options}
+use Rattle.prodash_line.specs.declared.render.line.draw.layout.Layout.{Layout}
+use Rattle.prodash_line.specs.Signs.{spelling}
+use Rattle.prodash_line.specs.DrawnLines.{layout_of}
+use Rattle.prodash_line.specs.Frames.{body_signs}
+use Rattle.prodash_line.specs.FrameWriting.{action_start}
+use Rattle.prodash_line.specs.Renderer.{Renderer, Drawing, frame_at, remember, drawing_of, drawing_at, action_at, body_of, ending_of, state_after}
+use Rattle.prodash_line.proofs.OverwriteBytes.{action_starts, frame_bytes_of}
+use Rattle.prodash_line.proofs.render.line.draw.frame.compose_resized.Goals as goal
+
+abbrev input : goal.In_ok-drawn → Input
+input c = Resize c.args.at c.args.show c.args.dimensions.0 c.args.dimensions.1
+
+-- the options that the frame is drawn with
+abbrev sized : goal.In_ok-drawn → Options
+sized c = record c.past.inside.options { terminal_dimensions = c.args.dimensions }
+
+sized_is : (c : goal.In_ok-drawn) → sized c ≡ (remember c.args.past.now (input c)).options
+sized_is c = ap (λ (x : Renderer). record x.options { terminal_dimensions = c.args.dimensions }) c.past.view_is
+
+abbrev drawing : goal.In_ok-drawn → Drawing
+drawing c = drawing_of (record c.args.past.now { options = sized c }) c.args.at (rows_of c.latest_rows.result.now)
+
+drawing_is : (c : goal.In_ok-drawn) → drawing c ≡ drawing_at c.args.past.now (input c)
+drawing_is c =
+    ap (λ (o : Options). drawing_of (record c.args.past.now { options = o }) c.args.at (rows_of c.latest_rows.result.now)) (sized_is c)
+    ∙ ap (λ rows. drawing_of (remember c.args.past.now (input c)) c.args.at rows) c.latest_rows.ensures
+
+left_is : (c : goal.In_ok-drawn) → c.deref.result.now ≡ c.args.past.now.widths
+left_is c = c.deref.ensures.value ∙ ap (λ (x : Renderer). x.widths) c.past.view_is
+
+pub returns-clause-bytes : goal.returns-clause-bytes
+returns-clause-bytes c =
+    let r = c.args.past.now in
+    let before = c.begin_frame.new.out.bytes.items in
+    let left = c.deref.result.now in
+    let layout = layout_of (remember r (input c)).options in
+    let action = action_at r (input c) in
+    let ending = ending_of r in
+    frame_bytes_of (frame_at r (input c)) _ r.widths left before before _ 0
+    c.in_ok-begin_frame.ensures
+    (ap (λ (l : Layout). action_start l c.resize_action-action.result) (c.layout.ensures ∙ ap layout_of (sized_is c))
+    ∙ ap (action_start layout) c.resize_action-action.ensures ∙ action_starts layout action (drawing_at r (input c)) ending)
+    (sym (append-nil before)) (left_is c) refl
+    (c.in_ok-drawn.ensures.bytes
+    ∙ ap (λ (o : Options). before ++ spelling (body_signs (layout_of o) left (body_of c.resize_action-action.result (drawing c) ending))) (sized_is c)
+    ∙ ap (λ (a : Action). before ++ spelling (body_signs layout left (body_of a (drawing c) ending))) c.resize_action-action.ensures
+    ∙ ap (λ (d : Drawing). before ++ spelling (body_signs layout left (body_of action d ending))) (drawing_is c))
+
+pub returns-clause-state : goal.returns-clause-state
+returns-clause-state c =
+    let r = c.args.past.now in
+    let action = action_at r (input c) in
+    c.in_ok-drawn.ensures.state
+    ∙ ap (λ (a : Action). state_after a r (drawing c) c.deref.result.now) c.resize_action-action.ensures
+    ∙ ap (λ (d : Drawing). state_after action r d c.deref.result.now) (drawing_is c)
+    ∙ ap (λ (left : List ℕ). state_after action r (drawing_at r (input c)) left) (left_is c)

@@ -1,0 +1,118 @@
+//! Frames that erase the rows that they write on.
+use crate::fixtures::Ask::{Hide, Print, PrintHidden, Quit, Resize, Show};
+use crate::fixtures::{Drawing, Progress, TERMINAL, Task, assert_draws_with};
+use prodash_line::render::line::draw::Options;
+use std::test::Fail;
+
+const DEFENSIVE: Options = Options {
+    defensive: true,
+    ..TERMINAL
+};
+
+const THREE_OF_TEN: Progress = Some((3, Some(10)));
+
+const TASK: Task = ("task", THREE_OF_TEN);
+
+/// Three tasks without progress, and five.
+const THREE: &[Task] = &[("a", None), ("b", None), ("c", None)];
+
+const FIVE: &[Task] = &[
+    ("a", None),
+    ("b", None),
+    ("c", None),
+    ("d", None),
+    ("e", None),
+];
+
+/// `task` at 3 of 10.
+const TASK_FRAME: &str = "\r\x1b[2K task 3/10 [=======>-------------------]\n\x1b[J\x1b[1A";
+
+/// The message `one` of `task`, and `task` at 3 of 10.
+const MESSAGE_FRAME: &str =
+    "\r\x1b[2K task one\n\x1b[2K task 3/10 [=======>-------------------]\n\x1b[J\x1b[1A";
+
+/// The three tasks.
+const THREE_FRAME: &str = "\r\x1b[2K a\n\x1b[2K b\n\x1b[2K c\n\x1b[J\x1b[3A";
+
+#[rattlefmt::skip]
+const FRAMES: &[Drawing] = &[
+    // rows are drawn if they have changed, and again with or after messages
+    Drawing((40, 20), &[
+        (Show(&[TASK]), Ok(TASK_FRAME)),
+        (Show(&[TASK]), Ok("")),
+        (Print(&[("task", "one")], &[TASK]), Ok(MESSAGE_FRAME)),
+        (PrintHidden(&[("task", "two")], &[TASK]), Ok("\r\x1b[2K task two\n\x1b[J")),
+        (Hide(&[TASK]), Ok("")),
+        (Show(&[TASK]), Ok(TASK_FRAME)),
+        (Quit, Ok("\r\x1b[2K\n\x1b[J\x1b[1A")),
+    ]),
+    // rows that were hidden are drawn once they change
+    Drawing((40, 20), &[(Hide(&[TASK]), Ok("")), (Show(&[TASK]), Ok("")), (Show(&[]), Ok("\r\x1b[J"))]),
+    // rows that go are erased
+    Drawing((40, 24), &[
+        (Show(&[("a", None), ("b", None)]), Ok("\r\x1b[2K a\n\x1b[2K b\n\x1b[J\x1b[2A")),
+        (Show(&[("a", None)]), Ok("\r\x1b[2K a\n\x1b[2K\n\x1b[J\x1b[2A")),
+        (Show(&[]), Ok("\r\x1b[2K\n\x1b[J\x1b[1A")),
+    ]),
+    // messages are over rows, of which the others are erased
+    Drawing((40, 24), &[
+        (Show(THREE), Ok(THREE_FRAME)),
+        (PrintHidden(&[("a", "one")], &[]), Ok("\r\x1b[2K a one\n\x1b[2K\n\x1b[2K\n\x1b[J\x1b[2A")),
+    ]),
+    // as many rows as fit above the last row of the window, and a line that counts the others
+    Drawing((40, 4), &[(Show(THREE), Ok(THREE_FRAME))]),
+    Drawing((40, 4), &[(Show(FIVE), Ok("\r\x1b[2K a\n\x1b[2K b\n\x1b[2K … and 3 more\n\x1b[J\x1b[3A"))]),
+    Drawing((40, 2), &[(Show(FIVE), Ok("\r\x1b[2K … and 5 more\n\x1b[J\x1b[1A"))]),
+    Drawing((40, 1), &[(Show(FIVE), Ok("\r\x1b[J"))]),
+    Drawing((8, 3), &[(Show(FIVE), Ok("\r\x1b[2K a\n\x1b[2K … and 4\n\x1b[J\x1b[2A"))]),
+    // no more rows are erased than the window has above its last one
+    Drawing((40, 4), &[
+        (Show(THREE), Ok(THREE_FRAME)),
+        (Resize(40, 2), Ok("\r\x1b[2K … and 3 more\n\x1b[J\x1b[1A")),
+        (Quit, Ok("\r\x1b[2K\n\x1b[J\x1b[1A")),
+    ]),
+];
+
+/// Frames that hide the cursor.
+#[rattlefmt::skip]
+const HIDING: &[Drawing] = &[
+    Drawing((40, 20), &[
+        (Hide(&[]), Ok("\x1b[?25l")),
+        (Show(&[("a", None)]), Ok("\r\x1b[2K a\n\x1b[J\x1b[1A")),
+        (Quit, Ok("\r\x1b[2K\n\x1b[J\x1b[1A\x1b[?25h")),
+    ]),
+    Drawing((40, 20), &[(Quit, Ok("\x1b[?25l\r\x1b[J\x1b[?25h"))]),
+];
+
+/// Frames on an output that is no terminal.
+#[rattlefmt::skip]
+const PLAIN: &[Drawing] = &[
+    Drawing((40, 20), &[
+        (Show(&[TASK]), Ok("")),
+        (Print(&[("task", "one")], &[TASK]), Ok(" task one\n")),
+        (Quit, Ok("")),
+    ]),
+];
+
+#[test]
+fn defensive_frames_have_exact_bytes(rt: HostRuntime) -> Result<(), Fail> {
+    assert_draws_with(&rt, rt.alloc(), DEFENSIVE, FRAMES)
+}
+
+#[test]
+fn defensive_frames_hide_the_cursor(rt: HostRuntime) -> Result<(), Fail> {
+    let hiding = Options {
+        hide_cursor: true,
+        ..DEFENSIVE
+    };
+    assert_draws_with(&rt, rt.alloc(), hiding, HIDING)
+}
+
+#[test]
+fn only_terminals_have_defensive_frames(rt: HostRuntime) -> Result<(), Fail> {
+    let plain = Options {
+        output_is_terminal: false,
+        ..DEFENSIVE
+    };
+    assert_draws_with(&rt, rt.alloc(), plain, PLAIN)
+}
