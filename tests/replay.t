@@ -334,28 +334,47 @@ Lines that are no events.
   line 1: not an event
   [2]
 
+Defensive frames: as many rows as fit, and a line that counts the others; and a message, below which
+the row is erased and drawn again.
+
+  $ printf 'add 0 a\nadd 0 b\nadd 0 c\nadd 0 d\nadd 0 e\ntick 0\n' >five
+  $ prodash-replay page 40 4 --defensive <five
+   a
+   b
+   \xe2\x80\xa6 and 3 more (esc)
+  
+  $ prodash-replay bytes 40 2 --defensive <five | tr '\033' E
+  \rE[2K \xe2\x80\xa6 and 5 more (esc)
+  E[JE[1A (no-eol)
+  $ printf 'add 0 a\ntick 0\ninfo 1 1 one\ntick 1\nquit 2\n' | prodash-replay bytes 40 4 --defensive | tr '\r\033' RE
+  RE[2K a
+  E[JE[1ARE[2K a one
+  E[2K a
+  E[JE[1ARE[2K
+  E[JE[1A (no-eol)
+
 Arguments that are not a command and two dimensions. They are checked before the input is read.
 
   $ prodash-replay <one_task >>written
-  usage: prodash-replay bytes|page COLUMNS ROWS
+  usage: prodash-replay bytes|page COLUMNS ROWS [--defensive]
   [2]
   $ prodash-replay bytes 40 <one_task >>written
-  usage: prodash-replay bytes|page COLUMNS ROWS
+  usage: prodash-replay bytes|page COLUMNS ROWS [--defensive]
   [2]
   $ prodash-replay bytes 0 4 <one_task >>written
-  usage: prodash-replay bytes|page COLUMNS ROWS
+  usage: prodash-replay bytes|page COLUMNS ROWS [--defensive]
   [2]
   $ prodash-replay page 40 65536 <one_task >>written
-  usage: prodash-replay bytes|page COLUMNS ROWS
+  usage: prodash-replay bytes|page COLUMNS ROWS [--defensive]
   [2]
   $ prodash-replay rows 40 4 <one_task >>written
-  usage: prodash-replay bytes|page COLUMNS ROWS
+  usage: prodash-replay bytes|page COLUMNS ROWS [--defensive]
   [2]
   $ prodash-replay bytes 40 20 4 <. >>written
-  usage: prodash-replay bytes|page COLUMNS ROWS
+  usage: prodash-replay bytes|page COLUMNS ROWS [--defensive]
   [2]
   $ prodash-replay "$(printf '\377')" 40 4 <one_task >>written
-  usage: prodash-replay bytes|page COLUMNS ROWS
+  usage: prodash-replay bytes|page COLUMNS ROWS [--defensive]
   [2]
 
 An input that can't be read: a folder.

@@ -161,11 +161,13 @@ rendered_fits = record {
   begins = record { below = blank 40 ∷ blank 40 ∷ blank 40 ∷ blank 40 ∷ []; rows = refl; shown = (refl, (refl, (refl, (refl, tt)))); row = refl; column = refl; inside = omega arith; window = omega arith };
   each = (
     record {
+      layout = refl;
       messages = tt;
       body = ((record { plain = record { pieces = (one_char 32 (refl, refl) refl refl, (one_char 97 (refl, refl) refl refl, tt)); columns = refl }; within = omega arith }, tt), omega arith);
     },
     (
       record {
+        layout = refl;
         messages = (
           record {
             plain = record {
@@ -178,7 +180,7 @@ rendered_fits = record {
         );
         body = ((record { plain = record { pieces = (one_char 32 (refl, refl) refl refl, (one_char 97 (refl, refl) refl refl, tt)); columns = refl }; within = omega arith }, (record { plain = record { pieces = (one_char 32 (refl, refl) refl refl, (one_char 98 (refl, refl) refl refl, tt)); columns = refl }; within = omega arith }, tt)), omega arith);
       },
-      (record { messages = tt; body = tt }, tt),
+      (record { layout = refl; messages = tt; body = tt }, tt),
     ),
   );
   unbroken = refl;

@@ -10,7 +10,7 @@ use std::alloc::{AllocError, Global};
 use std::io::{Read, Write};
 
 /// The fault of arguments that are not a command and two dimensions.
-pub const USAGE: Fault = Fault::Usage("prodash-replay bytes|page COLUMNS ROWS");
+pub const USAGE: Fault = Fault::Usage("prodash-replay bytes|page COLUMNS ROWS [--defensive]");
 
 /// What the program writes of the frames.
 #[derive(Clone, Copy, Debug, PartialEq, Eq)]
@@ -21,20 +21,22 @@ enum Command {
     Page,
 }
 
-/// The command line: a command, and the columns and rows of the terminal.
+/// The command line: a command, the columns and rows of the terminal, and whether frames are
+/// defensive.
 #[derive(Clone, Copy, Debug)]
 struct Request {
     command: Command,
     columns: u16,
     rows: u16,
+    defensive: bool,
     ghost wide: { 0 < columns },
     ghost high: { 0 < rows },
 }
 
 /// Runs the program: replays the events of `input`, one per line. `words` are the program's name,
-/// and then `bytes COLUMNS ROWS` or `page COLUMNS ROWS`. `bytes` writes the bytes of all frames to
-/// `out`; `page` plays them on a page of that size and writes each row that it ever had, without
-/// trailing blanks. Returns the exit status.
+/// and then `bytes COLUMNS ROWS` or `page COLUMNS ROWS`, and perhaps `--defensive`. `bytes` writes
+/// the bytes of all frames to `out`; `page` plays them on a page of that size and writes each row
+/// that it ever had, without trailing blanks. Returns the exit status.
 ///
 /// If anything fails, one line on `err` says what. Unless it was `out` that failed, nothing has
 /// been written to `out` then.
@@ -63,7 +65,7 @@ fn replayed<R: Read>(alloc: Global, words: &[String], input: &mut R) -> Result<V
         return Err(Fault::of_input(&error));
     }
     let events = events_of(alloc, &bytes)?;
-    let frames = drawn(alloc, (request.columns, request.rows), &events)?;
+    let frames = drawn(alloc, &request, &events)?;
     match request.command {
         Command::Bytes => Ok(frames),
         Command::Page => rows_written(alloc, &request, &frames),
@@ -72,8 +74,12 @@ fn replayed<R: Read>(alloc: Global, words: &[String], input: &mut R) -> Result<V
 
 /// Parses the command line.
 fn parse_args(words: &[String]) -> Result<Request, Fault> {
-    let [_, command, columns, rows] = words else {
-        return Err(USAGE);
+    let (command, columns, rows, defensive) = match words {
+        [_, command, columns, rows] => (command, columns, rows, false),
+        [_, command, columns, rows, option] if option.as_str() == "--defensive" => {
+            (command, columns, rows, true)
+        }
+        _ => return Err(USAGE),
     };
     let command = match command.as_str() {
         "bytes" => Command::Bytes,
@@ -86,6 +92,7 @@ fn parse_args(words: &[String]) -> Result<Request, Fault> {
         command,
         columns,
         rows,
+        defensive,
     })
 }
 
@@ -110,17 +117,18 @@ fn events_of(alloc: Global, bytes: &[u8]) -> Result<Vec<Event>, Fault> {
 }
 
 /// Returns the bytes of all frames that the events draw.
-fn drawn(alloc: Global, dimensions: (u16, u16), events: &[Event]) -> Result<Vec<u8>, Fault> {
+fn drawn(alloc: Global, request: &Request, events: &[Event]) -> Result<Vec<u8>, Fault> {
     let options = SessionOptions {
         root: RootOptions::default(),
         draw: draw::Options {
             level_filter: None,
-            terminal_dimensions: dimensions,
+            terminal_dimensions: (request.columns, request.rows),
             keep_running_if_progress_is_empty: true,
             output_is_terminal: true,
             colored: false,
             timestamp: false,
             hide_cursor: false,
+            defensive: request.defensive,
         },
         throughput: true,
     };

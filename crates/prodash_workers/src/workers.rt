@@ -36,6 +36,7 @@ pub(crate) fn run_workers<
     let options = Options {
         output_is_terminal: run.draws_rows,
         colored: run.draws_rows,
+        defensive: true,
         ..Options::default()
     };
     let shared = Arc::try_clone(&clock)?;
