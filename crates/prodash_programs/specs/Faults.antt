@@ -7,15 +7,13 @@ use Rattle.prodash_base.specs.declared.refusal.Refusal.TheVariants as refusals
 use Rattle.prodash_line.specs.declared.render.line.page.reading.Fault.{Fault as ReadFault}
 use Rattle.prodash_line.specs.declared.render.line.page.reading.Fault.TheVariants as reads
 use Rattle.prodash_programs.specs.declared.fault.Fault.{Fault}
-use Rattle.prodash_programs.specs.declared.fault.Fault.TheVariants.{Usage, Arguments, Line, Handle, CutOff, Sign, Journal, Input, Output, Memory, Thread}
+use Rattle.prodash_programs.specs.declared.fault.Fault.TheVariants.{Usage, Arguments, Line, Sign, Journal, Input, Output, Memory, Thread}
 
 -- 2 if the arguments or the input are at fault, else 1
 abbrev pub status_of : Fault → ℕ
 status_of (Usage text) = 2
 status_of Arguments = 2
 status_of (Line n) = 2
-status_of (Handle n) = 2
-status_of (CutOff n) = 2
 status_of (Sign n) = 1
 status_of Journal = 1
 status_of Input = 1

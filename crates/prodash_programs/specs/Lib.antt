@@ -1,2 +1,3 @@
 pub mod Faults
-pub mod Dimensions
+pub use Rattle.prodash_terminal.specs.Dimensions
+pub use Rattle.prodash_terminal.specs.Environments

@@ -21,12 +21,6 @@ pub enum Fault {
     /// This line of the input, counted from 1, is not an event.
     #[error("line {0}: not an event")]
     Line(u64),
-    /// This line of the input, counted from 1, names no item.
-    #[error("line {0}: no such handle")]
-    Handle(u64),
-    /// This line of the input, counted from 1, is its last and has no line feed.
-    #[error("line {0}: cut off")]
-    CutOff(u64),
     /// No sign begins at this byte of the frames, and the bytes before it are signs.
     #[error("byte {0}: not a sign")]
     Sign(usize),
@@ -55,8 +49,7 @@ impl Fault {
         ensures { result ≡ status_of self.now }
     {
         match self {
-            Fault::Usage(_) | Fault::Arguments => 2,
-            Fault::Line(_) | Fault::Handle(_) | Fault::CutOff(_) => 2,
+            Fault::Usage(_) | Fault::Arguments | Fault::Line(_) => 2,
             Fault::Sign(_) | Fault::Journal | Fault::Input | Fault::Output => 1,
             Fault::Memory | Fault::Thread => 1,
         }

@@ -5,6 +5,7 @@ mod command_line;
 mod fault;
 mod output;
 
-pub use command_line::{arguments, dimension};
+pub use command_line::arguments;
 pub use fault::Fault;
 pub use output::{report, write_all};
+pub use prodash_terminal::{Environment, dimension};
