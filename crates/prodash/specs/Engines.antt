@@ -1,5 +1,5 @@
 -- The engine: a renderer that looks at a root by itself, and what one step of it does.
-use Rattle.std.specs.Prelude.{◌≡◌, ℕ, List, Option, Some, None, Result, Ok, Err, ◌⊎◌, Bool, true, false}
+use Rattle.std.specs.Prelude.{◌≡◌, ℕ, List, Option, Some, None, Result, Ok, Err, ◌⊎◌, Bool, true, false, not, ◌&&◌, unwrap_or}
 use Rattle.std.specs.Map.{keys_of}
 use Rattle.prodash_base.specs.Adjacency.{IsAscending}
 use Rattle.prodash_base.specs.Rows.{PathRow}
@@ -12,6 +12,7 @@ use Rattle.prodash_line.specs.declared.render.line.draw.input.Answer.{Answer}
 use Rattle.prodash_line.specs.declared.render.line.draw.input.Options.{Options as DrawOptions}
 use Rattle.prodash_line.specs.Renderer.{Renderer, Seen, Accepts, RunsOutOfMemory, Refuses, Breaks, Renders, new_renderer}
 use Rattle.prodash_line.specs.Screens.{ScreenState}
+use Rattle.prodash_terminal.specs.declared.environment.Environment.{Environment}
 use Rattle.prodash.specs.declared.render.line.engine.options.Options.{Options}
 use Rattle.prodash.specs.declared.render.line.engine.event.EngineEvent.{EngineEvent}
 use Rattle.prodash.specs.declared.render.line.engine.event.EngineEvent.TheVariants.{Tick, Resize, Quit}
@@ -35,11 +36,20 @@ default_options = record {
   timestamp = false;
   terminal_dimensions = (80, 20);
   hide_cursor = false;
+  defensive = false;
   throughput = false;
   level_filter = None;
   initial_delay = None;
   nanoseconds_per_frame = 166_666_666;
   keep_running_if_progress_is_empty = true;
+}
+
+-- the options for an output: the default ones, but with what the environment says of the terminal
+abbrev pub terminal_options : Bool → Environment → Options
+terminal_options is_terminal it = record default_options {
+  output_is_terminal = is_terminal;
+  colored = is_terminal && not it.no_color;
+  terminal_dimensions = (unwrap_or it.columns 80, unwrap_or it.rows 20);
 }
 
 -- those of the options that decide what a frame is
@@ -52,6 +62,7 @@ draw_options o = record {
   colored = o.colored;
   timestamp = o.timestamp;
   hide_cursor = o.hide_cursor;
+  defensive = o.defensive;
 }
 
 -- what one look at a root may show, by how many messages were seen before

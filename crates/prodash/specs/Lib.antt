@@ -45,3 +45,5 @@ pub use Rattle.prodash_core.specs.Runs
 pub use Rattle.prodash_core.specs.Dashboard
 pub use Rattle.prodash_core.specs.Prefixes
 pub use Rattle.prodash_core.specs.Traits
+pub use Rattle.prodash_terminal.specs.Dimensions
+pub use Rattle.prodash_terminal.specs.Environments

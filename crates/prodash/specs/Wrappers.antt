@@ -1,5 +1,5 @@
 -- Progress that wraps other progress, or none.
-use Rattle.std.specs.Prelude.{Option, Some, None}
+use Rattle.std.specs.Prelude.{ℕ, Option, Some, None}
 use Rattle.prodash.specs.declared.progress.utils.do_or_discard.DoOrDiscard.{DoOrDiscard}
 use Rattle.prodash.specs.declared.progress.utils.either.Either.{Either}
 use Rattle.prodash.specs.declared.progress.utils.either.Either.TheVariants.{Left, Right}
@@ -23,3 +23,7 @@ left (Right r) = None
 -- the progress, if it is not discarded
 abbrev pub held : {T : Type 0} → DoOrDiscard T → Option T
 held it = left it.inner
+
+-- the fact holds of some moment, since a clock promises nothing
+abbrev pub AtSomeMoment : (ℕ → Type 0) → Type 0
+AtSomeMoment fact = (at : ℕ) × fact at

@@ -1,9 +1,37 @@
 //! Progress of many tasks, drawn on a terminal: the crate that users depend on.
 //!
-//! Begin at [`tree::run`]. It takes what happens to the tasks as a list of [`tree::Event`]s, and a
-//! [`render::line::draw::Screen`] to write to. Each event gets a [`tree::Reply`]. Each `Tick` draws
-//! a row for each task, below the messages that the tasks sent. To apply events one at a time, make
-//! a [`tree::Session`].
+//! Begin with a [`tree::Root`], which threads share, and with [`render::line::render`], which draws
+//! its tasks from threads of its own. A [`progress::Reporter`] is a task that is at hand: it counts
+//! its steps, sends messages and adds tasks below.
+//!
+//! ```
+//! use prodash::progress::Reporter;
+//! use prodash::render::line::{Options, StreamKind, render};
+//! use prodash::time::SystemClock;
+//! use prodash::tree::Root;
+//! use std::sync::Arc;
+//!
+//! let root = Root::new(rt, alloc)?;
+//! let clock = Arc::new(alloc, SystemClock::new(rt))?;
+//! let (weak, shared) = (root.downgrade()?, Arc::try_clone(&clock)?);
+//! let options = Options::detect(&rt, StreamKind::Stderr);
+//! let renderer = render(rt, alloc, rt.stderr(), weak, shared, options)?;
+//!
+//! let mut job = Reporter::new(alloc, root.add_child(alloc, "job")?, clock);
+//! job.init(Some(2), None);
+//! for name in ["fetch", "verify"] {
+//!     let part = job.add_child(name)?;
+//!     // `part` can go to a thread, and its row goes when it is dropped
+//!     part.done("is done")?;
+//!     job.inc();
+//! }
+//! renderer.shutdown_and_wait();
+//! ```
+//!
+//! Without threads, [`tree::run`] takes what happens to the tasks as a list of [`tree::Event`]s, and
+//! a [`render::line::draw::Screen`] to write to. Each event gets a [`tree::Reply`]. Each `Tick`
+//! draws a row for each task, below the messages that the tasks sent. To apply events one at a time,
+//! make a [`tree::Session`].
 //!
 //! ```
 //! use prodash::Text;
@@ -30,9 +58,6 @@
 //! let replies = run(alloc, &options, &events, &mut screen)?;
 //! // screen.bytes() is " task 3/10 [=======>-------------------]", a line feed, and ESC [1A
 //! ```
-//!
-//! To report progress from threads, make a [`tree::Root`] and add [`tree::Item`]s to it. To draw
-//! it from a thread of its own, call [`render::line::render`].
 //!
 //! Then see [`progress`] for what a task shows, [`unit`] for values as texts, [`messages`] for what
 //! tasks report, [`tree`] for the tasks without a screen, and [`render::line`] for the screen

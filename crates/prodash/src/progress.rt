@@ -10,4 +10,4 @@ pub use prodash_base::progress::{
     AtomicStep, Id, Row, Rows, State, Step, StepShared, UNKNOWN, Value,
 };
 pub use prodash_core::tree::Task;
-pub use utils::{AnyProgress, Discard, DoOrDiscard, Either, ThroughputOnDrop};
+pub use utils::{AnyProgress, Discard, DoOrDiscard, Either, Reporter, ThroughputOnDrop};

@@ -5,6 +5,8 @@
 #[cfg(test)]
 mod fixtures;
 #[cfg(test)]
+mod reporters;
+#[cfg(test)]
 mod traits;
 #[cfg(test)]
 mod wrappers;

@@ -89,7 +89,7 @@ fn references_reach_the_item(rt: HostRuntime) -> Result<(), Fail> {
 /// Progress whose calls, default or not, leave steps of their own, and which keeps its bound, and of
 /// its unit and its name whether they are those of the test.
 #[derive(Drop)]
-struct Peculiar {
+pub(crate) struct Peculiar {
     code: StepShared,
     max: Option<Step>,
     /// Whether its unit is `items`, and not none.
@@ -216,7 +216,7 @@ impl Progress for Peculiar {
     }
 }
 
-fn make_peculiar(alloc: Global) -> Result<Peculiar, Refusal> {
+pub(crate) fn make_peculiar(alloc: Global) -> Result<Peculiar, Refusal> {
     Ok(Peculiar {
         code: Arc::new(alloc, AtomicStep::new(0))?,
         max: None,
@@ -306,7 +306,7 @@ fn boxes_hand_all_on(rt: HostRuntime) -> Result<(), Fail> {
 }
 
 /// What an item sends by the default bodies.
-const BY_DEFAULT: &[Sent] = &[
+pub(crate) const BY_DEFAULT: &[Sent] = &[
     (1, MessageLevel::Info, "one"),
     (2, MessageLevel::Success, "two"),
     (3, MessageLevel::Failure, "three"),

@@ -14,7 +14,7 @@ use std::test::*;
 
 /// A clock that goes on only when it is waited for.
 #[derive(Drop)]
-struct Stopped {
+pub(crate) struct Stopped {
     now: AtomicU64,
 }
 
@@ -31,7 +31,7 @@ impl Clock for Stopped {
     }
 }
 
-fn make_stopped(alloc: Global) -> Result<Arc<Stopped>, Refusal> {
+pub(crate) fn make_stopped(alloc: Global) -> Result<Arc<Stopped>, Refusal> {
     let now = AtomicU64::new(0);
     Ok(Arc::new(alloc, Stopped { now })?)
 }

@@ -5,6 +5,8 @@
 #[cfg(test)]
 mod crowds;
 #[cfg(test)]
+mod detection;
+#[cfg(test)]
 mod engine;
 #[cfg(test)]
 mod fixtures;

@@ -1,58 +1,44 @@
-//! Two threads work on an item each. Then the messages of both are printed, and the tasks that are
-//! left.
+//! Four threads work on parts of a job, which are drawn on standard error.
 #![tactic(auto)]
 
-use prodash::Refusal;
-use prodash::messages::Message;
-use prodash::tree::{Item, Root};
-use std::alloc::Global;
-use std::sync::Wait;
-use std::{io, thread};
+use prodash::progress::Reporter;
+use prodash::render::line::{Options, StreamKind, render};
+use prodash::time::{Clock, SystemClock};
+use prodash::tree::Root;
+use prodash::{Progress, Refusal};
+use std::sync::Arc;
+use std::thread;
 
-/// Takes ten steps. The item's task is removed at the end, since the item is dropped.
-fn work<R: Wait + Clone + Drop>(mut item: Item<R>, alloc: Global) -> Result<(), Refusal> {
-    item.init(Some(10), None);
-    item.info(alloc, 0, "begins")?;
-    for _ in 0..10u32 {
-        item.inc();
+/// Takes twenty steps. The row of the part goes at the end, since the part is dropped.
+fn work<P: Progress + Drop, K: Clock + Drop>(mut part: Reporter<P, K>) -> Result<(), Refusal> {
+    part.init(Some(20), None);
+    for _ in 0..20u32 {
+        part.sleep(50_000_000);
+        part.inc();
     }
-    item.done(alloc, 1, "is done")
-}
-
-/// Prints the messages of the tasks with this name, the oldest first.
-fn print_messages(rt: &impl Print, messages: &[Message], name: &str) -> io::Result<()> {
-    for it in messages {
-        if it.origin.as_str() == name {
-            println!(rt; "{name} {}", it.message.as_str())?;
-        }
-    }
-    Ok(())
+    part.done("is done")
 }
 
 fn main(rt: HostRuntime) -> anyhow::Result<()> {
     let alloc = rt.alloc();
     let root = Root::new(rt, alloc)?;
-    let mut job = root.add_child(alloc, "job")?;
-    job.init(Some(2), None);
-    let read = job.add_child(alloc, "read")?;
-    let write = job.add_child(alloc, "write")?;
+    let clock = Arc::new(alloc, SystemClock::new(rt))?;
+    let (weak, shared) = (root.downgrade()?, Arc::try_clone(&clock)?);
+    let options = Options::detect(&rt, StreamKind::Stderr);
+    let renderer = render(rt, alloc, rt.stderr(), weak, shared, options)?;
 
-    let reader = thread::spawn(&rt, move || work(read, alloc))?;
-    let writer = thread::spawn(&rt, move || work(write, alloc))?;
-    for worker in [reader, writer] {
+    let mut job = Reporter::new(alloc, root.add_child(alloc, "job")?, clock);
+    job.init(Some(4), None);
+    let mut workers = Vec::new(alloc);
+    for name in ["compress", "fetch", "index", "verify"] {
+        let part = job.add_child(name)?;
+        workers.push(thread::spawn(&rt, move || work(part))?)?;
+    }
+    for worker in workers {
         worker.join(&rt)?;
         job.inc();
     }
-
-    let mut messages = Vec::new(alloc);
-    root.copy_messages(alloc, &mut messages)?;
-    print_messages(&rt, &messages, "read")?;
-    print_messages(&rt, &messages, "write")?;
-    let mut rows = Vec::new(alloc);
-    root.sorted_snapshot(alloc, &mut rows)?;
-    for row in &rows {
-        let step = row.progress.as_ref().map_or(0, |it| it.step);
-        println!(rt; "{} is left at step {step}", row.name.as_str())?;
-    }
+    job.done("is done")?;
+    renderer.shutdown_and_wait();
     Ok(())
 }

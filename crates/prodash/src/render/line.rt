@@ -3,4 +3,7 @@ pub mod draw;
 pub mod engine;
 pub mod page;
 
-pub use engine::{JoinHandle, Options, StackSizes, StreamKind, render, render_with_stacks};
+pub use engine::{
+    Environment, JoinHandle, Options, StackSizes, StandardStreams, StreamKind, render,
+    render_with_stacks,
+};

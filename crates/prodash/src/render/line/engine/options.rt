@@ -1,7 +1,10 @@
 //! How a tree is drawn, and how often.
+mod detection;
 mod values;
 
 use crate::progress::key::Level;
+pub use detection::StandardStreams;
+pub use prodash_terminal::Environment;
 
 /// Options for a renderer with threads of its own.
 ///
@@ -24,6 +27,10 @@ pub struct Options {
     pub terminal_dimensions: (u16, u16),
     /// Whether the first frame hides the cursor of a terminal. The closing frame shows it again.
     pub hide_cursor: bool,
+    /// Whether each frame erases the rows of a terminal that it writes on, and all rows below
+    /// them, and draws no more rows than the terminal has. Then nothing is left on screen of what
+    /// other programs print between two frames, or of a terminal whose size has changed.
+    pub defensive: bool,
     /// Whether rows show the throughput of values whose unit asks for it.
     pub throughput: bool,
     /// The lowest and the highest level of the rows that are drawn, or `None` to draw all rows.

@@ -6,8 +6,8 @@ use crate::render::line::draw;
 use crate::render::line::engine::options::{Options, StreamKind};
 
 impl Options {
-    /// Returns the options unchanged, since a stream can't be asked what it is connected to. Set
-    /// the fields yourself.
+    /// Returns the options unchanged. The Rust crate asks the stream and the terminal here; to do
+    /// that, begin with [`Options::detect`], which takes the runtime.
     pub fn auto_configure(self, _output: StreamKind) -> Options
         ensures { result ≡ self }
     {
@@ -26,6 +26,7 @@ impl Options {
             colored: self.colored,
             timestamp: self.timestamp,
             hide_cursor: self.hide_cursor,
+            defensive: self.defensive,
         }
     }
 }
@@ -33,7 +34,7 @@ impl Options {
 impl Default for Options {
     /// Returns options for a coloured terminal of 80 columns and 20 rows, with six frames a second.
     /// All levels are shown at once, without timestamps and throughput; the cursor stays visible,
-    /// and the renderer keeps running without rows.
+    /// frames aren't defensive, and the renderer keeps running without rows.
     fn default() -> Options
         ensures { result ≡ default_options }
     {
@@ -45,6 +46,7 @@ impl Default for Options {
             colored: true,
             timestamp: false,
             hide_cursor: false,
+            defensive: false,
             initial_delay: None,
             nanoseconds_per_frame: 166_666_666,
             throughput: false,

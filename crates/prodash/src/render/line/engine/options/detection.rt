@@ -1,0 +1,62 @@
+//! The options for a stream, by what the system and the environment say of it.
+ghost use Rattle.std.specs.Prelude.{◌≡◌, Bool};
+ghost use Rattle.prodash_terminal.specs.declared.environment.Environment.{Environment as Said};
+ghost use Rattle.prodash.specs.Engines.{terminal_options};
+
+use crate::render::line::engine::options::{Environment, Options, StreamKind};
+use std::io::IsTerminal;
+use std::rt::Env;
+
+/// A runtime whose standard streams can be asked whether they are terminals.
+pub trait StandardStreams {
+    /// Returns whether a stream is a terminal.
+    fn is_terminal(&self, stream: StreamKind) -> bool;
+}
+
+impl StandardStreams for HostRuntime {
+    fn is_terminal(&self, stream: StreamKind) -> bool {
+        match stream {
+            StreamKind::Stdout => self.stdout().is_terminal(),
+            StreamKind::Stderr => self.stderr().is_terminal(),
+        }
+    }
+}
+
+impl Options {
+    /// Returns the options for a stream, as [`Options::for_terminal`] makes them: the system says
+    /// whether the stream is a terminal, and the variables `NO_COLOR`, `COLUMNS` and `LINES`, as
+    /// [`Environment::read`] takes them, say the rest.
+    ///
+    /// ```rust
+    /// let options = Options {
+    ///     throughput: true,
+    ///     ..Options::detect(&rt, StreamKind::Stderr)
+    /// };
+    /// let renderer = render(rt, alloc, rt.stderr(), root.downgrade()?, clock, options)?;
+    /// ```
+    pub fn detect<R: Env + StandardStreams>(rt: &R, output: StreamKind) -> Options
+        ensures { (is_terminal : Bool) × (said : Said)
+            × (result ≡ terminal_options is_terminal said) }
+    {
+        Options::for_terminal(rt.is_terminal(output), Environment::read(rt))
+    }
+
+    /// Returns the options for an output: the default ones, but without colours off a terminal or
+    /// if the environment disables them, and with the columns and the rows that the environment
+    /// names.
+    pub fn for_terminal(is_terminal: bool, environment: Environment) -> Options
+        ensures { result ≡ terminal_options is_terminal environment }
+    {
+        let default = Options::default();
+        let (columns, rows) = default.terminal_dimensions;
+        Options {
+            output_is_terminal: is_terminal,
+            colored: is_terminal && !environment.no_color,
+            terminal_dimensions: (
+                environment.columns.unwrap_or(columns),
+                environment.rows.unwrap_or(rows),
+            ),
+            ..default
+        }
+    }
+}

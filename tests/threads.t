@@ -1,0 +1,33 @@
+A program with threads
+======================
+
+Off a terminal each message is a line.
+
+  $ unset COLUMNS LINES NO_COLOR
+  $ prodash-threads 2>messages
+  $ sed 's/^ *//' messages | sort
+  compress is done
+  fetch is done
+  index is done
+  job is done
+  verify is done
+
+On a terminal there are rows, of the size and with the colours that the environment asks for.
+
+  $ on_terminal() {
+  >     python3 -c 'import pty, sys; pty.spawn(["sh", "-c", sys.argv[1]])' "$1" </dev/null
+  > }
+  $ on_terminal 'COLUMNS=30 NO_COLOR=1 exec prodash-threads' >frames
+  $ head -n 1 frames | tr -d '\r'
+   job 0/4 [>------------------]
+  $ on_terminal 'exec prodash-threads' >frames
+  $ head -n 1 frames | cut -c 1-9
+   \x1b[1;36mj (esc)
+
+Standard error is asked, and not standard output.
+
+  $ on_terminal 'exec prodash-threads 2>messages' >frames
+  $ wc -c <frames | tr -d ' '
+  0
+  $ sed 's/^ *//' messages | sort | head -n 1
+  compress is done
