@@ -1,4 +1,6 @@
 pub mod Lines
+pub mod Mistakes
 pub mod Reading
 pub mod Requests
+pub mod ScriptUnits
 pub mod Words

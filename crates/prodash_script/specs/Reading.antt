@@ -1,7 +1,7 @@
 -- The events as which lines are read.
-use Rattle.std.specs.Prelude.{ℕ, ◌^◌, List, [], ◌∷◌, ◌++◌, Bool, true, false, length, codes, Option, Some, None, Result, IfOk, ◌≡◌, option_map, option_and_then, nat_lt, nat_eq, bytes_eq, if◌then◌else◌}
+use Rattle.std.specs.Prelude.{ℕ, ◌-◌, ◌^◌, List, [], ◌∷◌, ◌++◌, Bool, true, false, length, take, drop, codes, Option, Some, None, Result, IfOk, ◌≡◌, option_map, option_and_then, nat_lt, nat_eq, bytes_eq, if◌then◌else◌}
 use Rattle.std.specs.Option.{option_map_or}
-use Rattle.std.specs.List.{position_or_len, before_first, after_first}
+use Rattle.std.specs.List.{position_or_len, before_first, after_first, starts_with, ends_with}
 use Rattle.prodash_base.specs.declared.messages.MessageLevel.{MessageLevel}
 use Rattle.prodash_base.specs.declared.messages.MessageLevel.TheVariants.{Info, Success, Failure}
 use Rattle.prodash_base.specs.Rows.{unknown_id}
@@ -26,6 +26,16 @@ cut_at_space text =
     if nat_lt (position_or_len (λ b. nat_eq b 32) text) (length text)
     then Some (before_first (λ b. nat_eq b 32) text, after_first (λ b. nat_eq b 32) text)
     else None
+
+-- the text after a prefix, if there is this prefix
+abbrev pub after_prefix : List ℕ → Reader (List ℕ)
+after_prefix prefix text =
+    if starts_with nat_eq text prefix then Some (drop (length prefix) text) else None
+
+-- the text before a suffix, if there is this suffix
+abbrev pub before_suffix : List ℕ → Reader (List ℕ)
+before_suffix suffix text =
+    if ends_with nat_eq text suffix then Some (take (length text - length suffix) text) else None
 
 -- the value that is read before the first space, and the text after it
 unfoldable pub first_of : {A : Type 0} → Reader A → Reader (A × List ℕ)

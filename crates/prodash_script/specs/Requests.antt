@@ -1,13 +1,15 @@
 -- What the lines of a script ask for.
-use Rattle.std.specs.Prelude.{◌≡◌, ℕ, List, [], ◌∷◌, Option, Some, None, String, ◌&&◌, false, ⊤, bytes_eq, codes, unwrap_or, length, drop, nat_eq, nat_lt, option_map, option_and_then, string_bytes, if◌then◌else◌}
-use Rattle.std.specs.List.{starts_with}
+use Rattle.std.specs.Prelude.{◌≡◌, ℕ, List, [], ◌∷◌, Option, Some, None, String, ◌&&◌, false, ⊤, bytes_eq, codes, unwrap_or, length, nat_eq, nat_lt, option_map, option_and_then, string_bytes, if◌then◌else◌}
 use Rattle.std.specs.Option.{option_map_or}
 use Rattle.std.specs.Str.{is_utf8}
 use Rattle.std.specs.BTreeMap.{BTreeMap, get_by_text}
 use Rattle.prodash_core.specs.Trees.{is_frame}
+use Rattle.prodash_base.specs.declared.unit.units.Unit.{Unit}
 use Rattle.prodash_core.specs.declared.tree.event.Event.{Event}
+use Rattle.prodash_core.specs.declared.tree.event.Event.TheVariants.{Init}
 use Rattle.prodash_script.specs.Lines.{IsAddition}
-use Rattle.prodash_script.specs.Reading.{Reader, add_of, plain, read_line, then_read}
+use Rattle.prodash_script.specs.Reading.{Reader, add_of, after_prefix, bound_of, cut_at_space, plain, read_line, then_read}
+use Rattle.prodash_script.specs.ScriptUnits.{unit_in}
 use Rattle.prodash_script.specs.Words.{number_of}
 use Rattle.prodash_script.specs.declared.request.TheConstants.{NO_ITEM}
 use Rattle.prodash_script.specs.declared.request.Request.{Request}
@@ -38,11 +40,6 @@ moment_in now word = if bytes_eq word (codes "-") then Some now else number_of w
 abbrev pub nonempty_text_of : Reader (List ℕ)
 nonempty_text_of text = if nat_lt 0 (length text) then Some text else None
 
--- the text after a prefix, if there is this prefix
-abbrev pub after_prefix : List ℕ → Reader (List ℕ)
-after_prefix prefix text =
-    if starts_with nat_eq text prefix then Some (drop (length prefix) text) else None
-
 -- what a line asks for: an event, with the name of the item that it adds, if the line has one
 abbrev pub Asked : Type 0
 Asked = Option (List ℕ) × Event
@@ -52,17 +49,34 @@ abbrev pub named_add_of : Reader ℕ → Reader Asked
 named_add_of handle rest =
     option_map (λ a. (Some a.0, a.1)) (then_read nonempty_text_of (add_of handle) rest)
 
+-- the words of a bound and of a unit; without a unit the latter is `-`
+abbrev pub bound_and_unit : List ℕ → List ℕ × List ℕ
+bound_and_unit text = unwrap_or (cut_at_space text) (text, codes "-")
+
+-- `MAX` or `MAX UNIT` as a bound and a unit
+abbrev pub progress_of : Reader (Option ℕ × Option Unit)
+progress_of text =
+    option_and_then (λ max. option_map (λ unit. (max, unit)) (unit_in (bound_and_unit text).1))
+    (bound_of (bound_and_unit text).0)
+
+-- `H MAX` or `H MAX UNIT` as the begin of an item's progress, in any unit
+abbrev pub begin_of : Reader ℕ → Reader Asked
+begin_of handle rest =
+    option_map (λ a. (None, Init a.0 a.1.0 a.1.1)) (then_read handle progress_of rest)
+
 -- a line of events as one that draws no frame, and names no item
 abbrev pub unnamed_of : Reader ℕ → Reader ℕ → Reader Asked
 unnamed_of handle moment line =
     option_and_then (λ event. if is_frame event then None else Some (None, event))
     (read_line handle moment line)
 
--- what a line of a script asks for: after `add @` an item with a name, else any event but a frame
+-- what a line of a script asks for: after `add @` an item with a name, after `init ` the begin of an
+-- item's progress, else any event but a frame
 abbrev pub asked_by : Reader ℕ → Reader ℕ → Reader Asked
 asked_by handle moment line =
     option_map_or (named_add_of handle) (after_prefix (codes "add @") line)
-    (unnamed_of handle moment line)
+    (option_map_or (begin_of handle) (after_prefix (codes "init ") line)
+    (unnamed_of handle moment line))
 
 -- the same of bytes, which ask for nothing if they are no text
 abbrev pub asked_by_bytes : {Z : Type 0} → BTreeMap (String Z) ℕ → ℕ → Reader Asked

@@ -91,7 +91,7 @@ fn alone(word: &str) -> Option<Event>
 }
 
 /// Parses a bound: a number, or `-` for none.
-fn bound(word: &str) -> Option<Option<Step>>
+pub(crate) fn bound(word: &str) -> Option<Option<Step>>
     ensures { result ≡ bound_of word.now }
 {
     if word == "-" {
@@ -110,7 +110,7 @@ pub(crate) fn cut(text: &str) -> Option<(&str, &str)>
 
 /// Parses a handle and the text after it.
 #[tactic(auto, unfolding(crate::specs::Reading::first_of))]
-fn handle_and_text<'a, W: Words>(words: &W, rest: &'a str) -> Option<(Handle, &'a str)>
+pub(crate) fn handle_and_text<'a, W: Words>(words: &W, rest: &'a str) -> Option<(Handle, &'a str)>
     ensures { option_map (λ parts. (parts.0, parts.1.now)) result
         ≡ first_of (W.handle_of words.now) rest.now }
 {
@@ -311,7 +311,7 @@ fn quit<W: Words>(words: &W, rest: &str) -> Option<Event>
 }
 
 /// Parses a number of 16 bits.
-fn small(word: &str) -> Option<u16>
+pub(crate) fn small(word: &str) -> Option<u16>
     ensures { result ≡ small_of word.now }
 {
     u16::try_from(number(word)?).ok()

@@ -1,12 +1,14 @@
 //! What a line asks for: an event, whose items may have words for names.
-ghost use Rattle.std.specs.Prelude.{◌≡◌, codes, IfOk, option_map};
-ghost use Rattle.prodash_script.specs.Requests.{AsksForNoFrame, after_prefix, asked, asked_by_bytes, handle_in, moment_in, name_in, named_add_of, unnamed_of};
+ghost use Rattle.std.specs.Prelude.{◌≡◌, IfOk, option_map};
+ghost use Rattle.prodash_script.specs.Requests.{AsksForNoFrame, asked, asked_by_bytes, begin_of, handle_in, moment_in, name_in, named_add_of, unnamed_of};
+ghost use Rattle.prodash_script.specs.Reading.{after_prefix};
 
-use crate::reading::{add, cut, parse_with};
+use crate::labels::Labels;
+use crate::reading::{add, bound, cut, handle_and_text, parse_with};
 use crate::request::{NO_ITEM, Request};
 use crate::words::{Words, number};
 use prodash_base::time::Moment;
-use prodash_core::tree::Handle;
+use prodash_core::tree::{Event, Handle};
 use std::alloc::{AllocError, Global};
 use std::collections::BTreeMap;
 use std::str;
@@ -45,7 +47,7 @@ impl<'a> Words for Script<'a> {
 }
 
 /// Returns the name in a word that begins with `@`, if it isn't empty.
-fn name_of(word: &str) -> Option<&str>
+pub(crate) fn name_of(word: &str) -> Option<&str>
     ensures { option_map (λ name. name.now) result ≡ name_in word.now }
 {
     let name = word.strip_prefix('@')?;
@@ -53,7 +55,8 @@ fn name_of(word: &str) -> Option<&str>
 }
 
 /// Returns what a line of a script asks for, given the names of its items. A name that no item has
-/// is read as `NO_ITEM`. A line that draws a frame is a fault.
+/// is read as `NO_ITEM`. A line that draws a frame is a fault. The name of a unit is kept in
+/// `labels`.
 ///
 /// # Errors
 ///
@@ -61,6 +64,7 @@ fn name_of(word: &str) -> Option<&str>
 pub fn request_of(
     alloc: Global,
     names: &Names,
+    labels: &mut Labels,
     now: Moment,
     line: &[u8],
 ) -> Result<Request, AllocError>
@@ -72,17 +76,20 @@ pub fn request_of(
         return Ok(Request::Fault);
     };
     let script = Script { names, now };
-    match named_arguments(line) {
-        Some(rest) => named(alloc, script, rest),
-        None => unnamed(alloc, script, line),
+    if let Some(rest) = after(line, "add @") {
+        return named(alloc, script, rest);
     }
+    if let Some(rest) = after(line, "init ") {
+        return init(alloc, script, labels, rest);
+    }
+    unnamed(alloc, script, line)
 }
 
-/// Returns what comes after `add @`, if a line begins with it.
-fn named_arguments(line: &str) -> Option<&str>
-    ensures { option_map (λ rest. rest.now) result ≡ after_prefix (codes "add @") line.now }
+/// Returns what comes after a prefix, if a text begins with it.
+pub(crate) fn after<'a>(text: &'a str, prefix: &str) -> Option<&'a str>
+    ensures { option_map (λ rest. rest.now) result ≡ after_prefix prefix.now text.now }
 {
-    line.strip_prefix("add @")
+    text.strip_prefix(prefix)
 }
 
 /// Parses the arguments `WORD H NAME`, after the `@` of the word.
@@ -103,6 +110,34 @@ fn named(alloc: Global, script: Script<'_>, rest: &str) -> Result<Request, Alloc
             let word = String::from_str(alloc, word)?;
             Ok(Request::Name(word, event))
         }
+        None => Ok(Request::Fault),
+    }
+}
+
+/// Parses the arguments `H MAX UNIT`. Without a unit they are as with `-`.
+#[tactic(auto, unfolding(crate::specs::Reading::first_of))]
+fn init(
+    alloc: Global,
+    script: Script<'_>,
+    labels: &mut Labels,
+    rest: &str,
+) -> Result<Request, AllocError>
+    ensures no_frame { IfOk result AsksForNoFrame }
+    ensures asks { IfOk result (λ request.
+        asked request ≡ begin_of (handle_in script.entry.names.now) rest.now) }
+{
+    let Some((item, rest)) = handle_and_text(&script, rest) else {
+        return Ok(Request::Fault);
+    };
+    let (max, unit) = match cut(rest) {
+        Some(parts) => parts,
+        None => (rest, "-"),
+    };
+    let Some(max) = bound(max) else {
+        return Ok(Request::Fault);
+    };
+    match labels.unit_of(alloc, unit)? {
+        Some(unit) => Ok(Request::Apply(Event::Init { item, max, unit })),
         None => Ok(Request::Fault),
     }
 }

@@ -1,8 +1,11 @@
 //! Lines of events: a table has a line, `->`, and what it is read as.
 use crate::fixtures::assert_same;
+use prodash_base::unit::display::Throughput;
 use prodash_base::unit::label;
 use prodash_core::tree::Event;
-use prodash_script::{LIMIT, Lines, Names, Next, Request, parse, request_of, to_line};
+use prodash_script::{
+    LIMIT, Labels, Lines, Names, Next, Request, mistake_in, parse, request_of, to_line,
+};
 use std::alloc::{AllocError, Global};
 use std::fmt::Write;
 use std::io::{self, Error, ErrorKind, Read};
@@ -125,7 +128,7 @@ fn writes_no_line_for_a_unit_without_a_word(rt: HostRuntime) -> Result<(), Fail>
 fn asked(alloc: Global, line: &[u8]) -> Result<Request, AllocError> {
     let mut names = Names::new(alloc);
     names.insert(String::from_str(alloc, "a")?, 7)?;
-    request_of(alloc, &names, 5, line)
+    request_of(alloc, &names, &mut Labels::new(alloc), 5, line)
 }
 
 fn assert_request(
@@ -140,12 +143,26 @@ fn assert_request(
     Ok(())
 }
 
+/// Lines have a mistake exactly if they ask for nothing.
+#[test]
+fn finds_a_mistake_in_each_line_that_asks_for_nothing(rt: HostRuntime) -> Result<(), Fail> {
+    for row in EVENTS.lines().chain(REQUESTS.lines()) {
+        let (line, _) = row.split_once(" -> ").ok_or("no line")?;
+        let asks = !matches!(asked(rt.alloc(), line.as_bytes())?, Request::Fault);
+        assert_same(&rt, mistake_in(line).is_none(), asks, line);
+    }
+    Ok(())
+}
+
 const REQUESTS: &str = r#"set @a 3 -> Apply(Set { item: 7, step: 3 })
 set 1 3 -> Apply(Set { item: 1, step: 3 })
 drop @b -> Apply(Drop { item: 18446744073709551615 })
 info @a - x -> Apply(Message { item: 7, at: 5, level: Info, text: "x" })
 add 0 @a -> Apply(AddChild { parent: 0, name: "@a", id: [0, 0, 0, 0] })
 add @b @a x y -> Name("b", AddChild { parent: 7, name: "x y", id: [0, 0, 0, 0] })
+init @a 10 -> Apply(Init { item: 7, max: Some(10), unit: None })
+init @a - -> Apply(Init { item: 7, max: None, unit: None })
+init @a 10 - -> Apply(Init { item: 7, max: Some(10), unit: None })
  -> Fault
 set @ 3 -> Fault
 add @b -> Fault
@@ -163,6 +180,71 @@ fn reads_requests(rt: HostRuntime) -> Result<(), Fail> {
     }
     // not UTF-8
     assert_request(&rt, rt.alloc(), b"set @a \xff", "Fault")?;
+    Ok(())
+}
+
+/// Words of units, and a value of 3 of 10 with 5 in a second as it is shown in them.
+const UNITS: &str = r#"files -> 3/10 files
+files% -> 3/10 files [30%]
+files/s -> 3/10 files |5/s|
+files%/s -> 3/10 files [30%] |5/s|
+%files -> [30%] 3/10 files
+/sfiles -> |5/s| 3/10 files
+%/sfiles -> [30%] |5/s| 3/10 files
+steps% -> 4 of 10 steps [30%]
+bytes/s -> 3B/10B |5B/s|
+%duration -> [30%] 3s of 10s
+objects%/s -> 3/10 objects [30%] |5/s|
+- ->
+% ->
+-% ->
+a%b ->
+a/b ->
+%a% ->
+%%a ->
+a b ->
+ ->
+"#;
+
+/// What a value is shown as in the unit that a word names, with its unit in a space.
+fn shown(alloc: Global, labels: &mut Labels, word: &str) -> Result<String, Fail> {
+    let mut text = String::new(alloc);
+    if let Some(Some(unit)) = labels.unit_of(alloc, word)? {
+        let throughput = Throughput::new(5, 1_000_000_000);
+        let display = unit.display(alloc, 3, Some(10), Some(throughput));
+        text.push(' ')?;
+        display.append_to(&mut text)?;
+    }
+    Ok(text)
+}
+
+#[test]
+fn reads_units(rt: HostRuntime) -> Result<(), Fail> {
+    let mut labels = Labels::new(rt.alloc());
+    for row in UNITS.lines() {
+        let (word, want) = row.split_once(" ->").ok_or("no unit")?;
+        let got = shown(rt.alloc(), &mut labels, word)?;
+        assert_same(&rt, got.as_str(), want, word);
+    }
+    Ok(())
+}
+
+/// Lines, and what is expected in place of their first mistake, and what is there.
+const MISTAKES: &str = r#"set @a 3 -> None
+init @a 10 -> None
+size 40 4 -> None
+set @a x -> Some(Mistake { expected: Number, word: Some("x") })
+set @a -> Some(Mistake { expected: Number, word: None })
+add @b x y -> Some(Mistake { expected: Handle, word: Some("x") })
+"#;
+
+#[test]
+fn tells_mistakes(rt: HostRuntime) -> Result<(), Fail> {
+    for row in MISTAKES.lines() {
+        let (line, want) = row.split_once(" -> ").ok_or("no mistake")?;
+        let got = format!(in rt.alloc(); "{:?}", mistake_in(line))?;
+        assert_same(&rt, got.as_str(), want, line);
+    }
     Ok(())
 }
 

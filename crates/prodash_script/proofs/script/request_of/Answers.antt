@@ -13,7 +13,12 @@ returns-in-Some-clause-asks c =
     let text = is_utf8-from_IsUtf8 c.args.line.now c.in-Ok.ensures.cases.1 in
     search rules
 
-pub returns-in-None-clause-asks : goal.returns-in-None-clause-asks
-returns-in-None-clause-asks c =
+pub returns-in-Some-after-clause-asks : goal.returns-in-Some-after-clause-asks
+returns-in-Some-after-clause-asks c =
+    let text = is_utf8-from_IsUtf8 c.args.line.now c.in-Ok.ensures.cases.1 in
+    search rules
+
+pub returns-clause-asks : goal.returns-clause-asks
+returns-clause-asks c =
     let text = is_utf8-from_IsUtf8 c.args.line.now c.in-Ok.ensures.cases.1 in
     search rules

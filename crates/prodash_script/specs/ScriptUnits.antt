@@ -1,0 +1,69 @@
+-- The words of units in a script.
+use Rattle.std.specs.Prelude.{ℕ, List, [], ◌∷◌, Bool, true, false, not, ◌&&◌, ◌||◌, length, codes, Option, Some, None, option_map, nat_lt, nat_eq, bytes_eq, unwrap_or, if◌then◌else◌}
+use Rattle.std.specs.List.{list_all}
+use Rattle.std.specs.Option.{option_map_or}
+use Rattle.prodash_base.specs.declared.unit.display.Location.TheVariants.{BeforeValue, AfterUnit}
+use Rattle.prodash_base.specs.declared.unit.display.Mode.{Mode}
+use Rattle.prodash_base.specs.declared.unit.kind.Kind.{Kind}
+use Rattle.prodash_base.specs.declared.unit.kind.Kind.TheVariants.{Label, Bytes, Duration, Human, Range}
+use Rattle.prodash_base.specs.declared.unit.units.Unit.{Unit}
+use Rattle.prodash_script.specs.Reading.{Reader, after_prefix, before_suffix}
+use Rattle.prodash_script.specs.Words.{lookup, ref_to}
+
+-- a mode that shows a percentage, a throughput or both after the unit
+abbrev pub showing : Bool → Bool → Mode
+showing percentage throughput =
+    record { location = AfterUnit; percentage = percentage; throughput = throughput }
+
+-- a word without its signs, if it has some, and the mode of these; `strip` takes them off
+abbrev pub stripped_by : (List ℕ → Reader (List ℕ)) → Reader (List ℕ × Mode)
+stripped_by strip word =
+    option_map_or (λ name. Some (name, showing true true)) (strip (codes "%/s") word)
+    (option_map_or (λ name. Some (name, showing true false)) (strip (codes "%") word)
+    (option_map (λ name. (name, showing false true)) (strip (codes "/s") word)))
+
+-- a word without the signs before its name, or else those after it, and the mode of these
+abbrev pub name_and_mode : List ℕ → List ℕ × Option Mode
+name_and_mode word =
+    option_map_or (λ found. (found.0, Some (record found.1 { location = BeforeValue })))
+    (stripped_by after_prefix word)
+    (option_map_or (λ found. (found.0, Some found.1)) (stripped_by before_suffix word)
+    (word, None))
+
+-- a byte of a name: no space, no `%` and no `/`
+abbrev pub is_name_byte : ℕ → Bool
+is_name_byte b = not (nat_eq b 32) && not (nat_eq b 37) && not (nat_eq b 47)
+
+-- a unit's name: any other text but the empty one and `-`
+abbrev pub is_unit_name : List ℕ → Bool
+is_unit_name name =
+    nat_lt 0 (length name) && not (bytes_eq name (codes "-")) && list_all is_name_byte name
+
+-- the kinds of unit that have names of their own
+abbrev pub kinds : List (List ℕ × Kind)
+kinds =
+    (codes "steps", Range (record { name = ref_to (codes "steps") }))
+    ∷ (codes "bytes", Bytes (record {}))
+    ∷ (codes "duration", Duration (record {}))
+    ∷ (
+      codes "objects",
+      Human (record { name = ref_to (codes "objects"); formatter = record { decimals = 2 } }),
+    )
+    ∷ []
+
+-- the kind of unit that a name says: a label, unless it is one of those
+abbrev pub kind_in : List ℕ → Kind
+kind_in name = unwrap_or (lookup kinds name) (Label (ref_to name))
+
+-- whether a word is that of a unit, or `-`
+abbrev pub is_unit_word : List ℕ → Bool
+is_unit_word word = bytes_eq word (codes "-") || is_unit_name (name_and_mode word).0
+
+-- the unit that a word says: none for `-`
+abbrev pub unit_in : Reader (Option Unit)
+unit_in word =
+    let parts = name_and_mode word in
+    if bytes_eq word (codes "-") then Some None
+    else if is_unit_name parts.0
+    then Some (Some (record { kind = kind_in parts.0; mode = parts.1 }))
+    else None

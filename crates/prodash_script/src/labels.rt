@@ -1,0 +1,160 @@
+//! The units of a script, whose names may be any words.
+ghost use Rattle.std.specs.Prelude.{◌≡◌, IfOk, option_map};
+ghost use Rattle.std.specs.List.{list_all};
+ghost use Rattle.prodash_script.specs.Reading.{after_prefix, before_suffix};
+ghost use Rattle.prodash_script.specs.ScriptUnits.{is_name_byte, is_unit_name, is_unit_word, kind_in, name_and_mode, stripped_by, unit_in};
+ghost use Rattle.prodash_script.specs.Words.{plain_kind, plain_unit};
+
+use crate::script::after;
+use prodash_base::unit::display::Mode;
+use prodash_base::unit::human::Formatter;
+use prodash_base::unit::{Bytes, Duration, Human, Kind, Range, Unit, dynamic, dynamic_and_mode};
+use std::alloc::{AllocError, Global};
+use std::str;
+
+/// The names of units that were kept, each once. They are kept until the program ends.
+#[derive(Drop)]
+pub struct Labels {
+    names: Vec<&'static str>,
+}
+
+impl Labels {
+    /// Returns the names of no units.
+    pub fn new(alloc: Global) -> Labels {
+        Labels {
+            names: Vec::new(alloc),
+        }
+    }
+
+    /// Parses the word of a unit; `-` is no unit. Returns `None` if it is not such a word.
+    ///
+    /// # Errors
+    ///
+    /// `AllocError`, if there is no memory for the name of the unit.
+    pub fn unit_of(&mut self, alloc: Global, word: &str) -> Result<Option<Option<Unit>>, AllocError>
+        ensures { IfOk result (λ found.
+            option_map (option_map plain_unit) found ≡ unit_in word.now) }
+    {
+        if word == "-" {
+            return Ok(Some(None));
+        }
+        let (name, mode) = name_and_mode(word);
+        if !is_unit_name(name) {
+            return Ok(None);
+        }
+        let kind = self.kind_of(alloc, name)?;
+        Ok(Some(Some(match mode {
+            Some(mode) => dynamic_and_mode(kind, mode),
+            None => dynamic(kind),
+        })))
+    }
+
+    /// Returns the kind of unit that a name says.
+    fn kind_of(&mut self, alloc: Global, name: &str) -> Result<Kind, AllocError>
+        ensures { IfOk result (λ kind. plain_kind kind ≡ kind_in name.now) }
+    {
+        Ok(match name {
+            "steps" => Kind::Range(Range::new("steps")),
+            "bytes" => Kind::Bytes(Bytes),
+            "duration" => Kind::Duration(Duration),
+            "objects" => Kind::Human(Human::new(Formatter::default(), "objects")),
+            _ => Kind::Label(self.keep(alloc, name)?),
+        })
+    }
+
+    /// Returns a name that is kept, after keeping it if it wasn't.
+    fn keep(&mut self, alloc: Global, name: &str) -> Result<&'static str, AllocError>
+        ensures { IfOk result (λ kept. kept.now ≡ name.now) }
+    {
+        for kept in &self.names {
+            if *kept == name {
+                return Ok(kept);
+            }
+        }
+        let kept = leak(alloc, name)?;
+        self.names.push(kept)?;
+        Ok(kept)
+    }
+}
+
+/// Returns a copy of a text that is never freed.
+fn leak(alloc: Global, text: &str) -> Result<&'static str, AllocError>
+    ensures { IfOk result (λ kept. kept.now ≡ text.now) }
+{
+    let bytes: &'static [u8] = String::from_str(alloc, text)?.into_bytes().leak();
+    match str::from_utf8(bytes) {
+        Ok(kept) => Ok(kept),
+        Err(_) => unreachable!(),
+    }
+}
+
+/// Returns whether a word is that of a unit, or `-`.
+pub(crate) fn is_unit(word: &str) -> bool
+    ensures { result ≡ is_unit_word word.now }
+{
+    word == "-" || is_unit_name(name_and_mode(word).0)
+}
+
+/// Returns whether a text is a unit's name.
+fn is_unit_name(name: &str) -> bool
+    ensures { result ≡ is_unit_name name.now }
+{
+    !name.is_empty() && name != "-" && has_no_signs(name)
+}
+
+/// Returns whether a text has no space, no `%` and no `/`.
+fn has_no_signs(text: &str) -> bool
+    ensures { result ≡ list_all is_name_byte text.now }
+{
+    text.bytes().all(|b| b != b' ' && b != b'%' && b != b'/')
+}
+
+/// Returns a word without the signs before its name, or else those after it, and what these show.
+fn name_and_mode(word: &str) -> (&str, Option<Mode>)
+    ensures { (result.0.now, result.1) ≡ name_and_mode word.now }
+{
+    if let Some((name, mode)) = signs_before(word) {
+        return (name, Some(mode.show_before_value()));
+    }
+    match signs_after(word) {
+        Some((name, mode)) => (name, Some(mode)),
+        None => (word, None),
+    }
+}
+
+/// Returns a word without the signs that it begins with, and what they show.
+fn signs_before(word: &str) -> Option<(&str, Mode)>
+    ensures { option_map (λ found. (found.0.now, found.1)) result
+        ≡ stripped_by after_prefix word.now }
+{
+    if let Some(name) = after(word, "%/s") {
+        return Some((name, Mode::with_percentage().and_throughput()));
+    }
+    if let Some(name) = after(word, "%") {
+        return Some((name, Mode::with_percentage()));
+    }
+    let name = after(word, "/s")?;
+    Some((name, Mode::with_throughput()))
+}
+
+/// Returns a word without the signs that it ends with, and what they show.
+fn signs_after(word: &str) -> Option<(&str, Mode)>
+    ensures { option_map (λ found. (found.0.now, found.1)) result
+        ≡ stripped_by before_suffix word.now }
+{
+    if let Some(name) = before(word, "%/s") {
+        return Some((name, Mode::with_percentage().and_throughput()));
+    }
+    if let Some(name) = before(word, "%") {
+        return Some((name, Mode::with_percentage()));
+    }
+    let name = before(word, "/s")?;
+    Some((name, Mode::with_throughput()))
+}
+
+/// Returns what comes before a suffix, if a text ends with it.
+fn before<'a>(text: &'a str, suffix: &str) -> Option<&'a str>
+    ensures { option_map (λ front. front.now) result ≡ before_suffix suffix.now text.now }
+{
+    text.strip_suffix(suffix)
+}
