@@ -23,7 +23,7 @@ On a terminal too. Rows are as late as they are asked to be.
 Faulty lines are messages too.
 
   $ yes nothing | head -n 20000 | timeout 30 prodash-live --stdout --fps 1 | late >output
-  $ seq 20000 | sed 's/.*/ input line &: not an event/' | cmp output -
+  $ seq 20000 | sed 's/.*/ ✗ input line &: no event "nothing" in: nothing/' | cmp output -
 
 No frame is awaited where none comes: of an output that is broken, or of a tree without its root.
 

@@ -8,7 +8,7 @@ shows the rows that were drawn last before the closing frame.
   >   text=$1; shift
   >   { cat; until grep -q "$text" frames; do sleep 0.02; done; } | "$@"
   > }
-  $ last_rows() { tail -n $((2 * $1 + 1)) frames | head -n "$1" | sed 's/^.\[[0-9]*A//'; }
+  $ last_rows() { tail -n $((2 * $1 + 1)) frames | head -n "$1" | sed 's/.*\[2K//'; }
 
 A task that is halted, one that is blocked, and one that runs again.
 
@@ -63,10 +63,10 @@ The root is dropped once, and has no children from then on.
   $ printf 'add 0 a\ndroproot\ndroproot\n' | prodash-live
   [2]
   $ printf 'droproot\nadd 0 a\n' | prodash-live --strict
-  line 2: no such handle
+  line 2: no such handle in: add 0 a
   [2]
   $ printf 'droproot\ndroproot\n' | prodash-live --strict
-  line 2: no such handle
+  line 2: no such handle in: droproot
   [2]
 
 Faults
@@ -77,13 +77,35 @@ A faulty line is told as a failure, in red, and is counted.
   $ echo bad | prodash-live --terminal always 2>frames
   [2]
   $ grep -o ' .\[2minput.*' frames
-   \x1b[2minput\x1b[0m \x1b[1;31mline 1: not an event\x1b[0m (esc)
+   \x1b[2minput\x1b[0m \x1b[1;31mline 1: no event "bad" in: bad\x1b[0m (esc)
 
 So is a last line without a line feed, which isn't applied.
 
   $ printf 'add 0 a\ninfo 1 0 b' | prodash-live
-   input line 2: cut off
+   \xe2\x9c\x97 input line 2: cut off in: info 1 0 b (esc)
   [2]
+
+Severity
+========
+
+Without colours a sign before the origin says that a message is a success or a failure. The row of
+the item has none.
+
+  $ printf 'add 0 task\ninfo 1 0 a\ndone 1 0 b\nfail 1 0 c\ninit 1 3 -\nset 1 2\n' >said
+  $ until_shown 2/3 prodash-live --no-color --columns 30 --terminal always <said 2>frames
+  $ last_rows 1
+   task 2/3 [===========>------]
+  $ prodash-live <said
+   task a
+   \xe2\x9c\x93 task b (esc)
+   \xe2\x9c\x97 task c (esc)
+
+With colours there are no signs.
+
+  $ until_shown 2/3 prodash-live --columns 30 --terminal always <said 2>frames
+  $ grep -c -e ✓ -e ✗ frames
+  0
+  [1]
 
 Delay
 =====

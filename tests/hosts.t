@@ -21,5 +21,5 @@ examples/many_hosts.sh is `many-hosts` here. `reach` runs its job on this machin
 No line is faulty, and each host has sent its message.
 
   $ prodash-live --stdout --strict <lines
-   copy copied
-   copy copied
+   \xe2\x9c\x93 copy copied (esc)
+   \xe2\x9c\x93 copy copied (esc)

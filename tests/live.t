@@ -25,15 +25,15 @@ the rest is read; the status is 2 then. The script comes in pieces of five bytes
   > END
   $ { cat script; printf 'info 3 0 si'; } | dd bs=5 2>/dev/null | prodash-live >other
    beta one
-   input line 6: not an event
-   alpha two
-   input line 8: not an event
-   input line 9: no such handle
-   delta three
-   input line 12: no such handle
-   input line 14: no such handle
-   alpha five
-   input line 17: cut off
+   \xe2\x9c\x97 input line 6: no event "bad" in: bad (esc)
+   \xe2\x9c\x93 alpha two (esc)
+   \xe2\x9c\x97 input line 8: frames are drawn without "tick" in: tick 0 (esc)
+   \xe2\x9c\x97 input line 9: no such handle in: set @c 1 (esc)
+   \xe2\x9c\x97 delta three (esc)
+   \xe2\x9c\x97 input line 12: no such handle in: drop 2 (esc)
+   \xe2\x9c\x97 input line 14: no such handle in: info @b - four (esc)
+   \xe2\x9c\x93 alpha five (esc)
+   \xe2\x9c\x97 input line 17: cut off in: info 3 0 si (esc)
   [2]
   $ cat other
 
@@ -41,14 +41,14 @@ The same on standard output, without the line that is cut off.
 
   $ prodash-live --stdout <script 2>other
    beta one
-   input line 6: not an event
-   alpha two
-   input line 8: not an event
-   input line 9: no such handle
-   delta three
-   input line 12: no such handle
-   input line 14: no such handle
-   alpha five
+   \xe2\x9c\x97 input line 6: no event "bad" in: bad (esc)
+   \xe2\x9c\x93 alpha two (esc)
+   \xe2\x9c\x97 input line 8: frames are drawn without "tick" in: tick 0 (esc)
+   \xe2\x9c\x97 input line 9: no such handle in: set @c 1 (esc)
+   \xe2\x9c\x97 delta three (esc)
+   \xe2\x9c\x97 input line 12: no such handle in: drop 2 (esc)
+   \xe2\x9c\x97 input line 14: no such handle in: info @b - four (esc)
+   \xe2\x9c\x93 alpha five (esc)
   [2]
   $ cat other
 
@@ -59,9 +59,9 @@ A line that is not UTF-8, one that is longer than 65536 bytes, and lines after t
   >   head -c 65531 /dev/zero | tr '\0' a
   >   printf '\nadd 0 a\ninfo 1 - one\n'
   > } | prodash-live
-   input line 1: not an event
-   input line 2: not an event
-       a one
+   \xe2\x9c\x97 input line 1: not UTF-8 in: add 0 \xef\xbf\xbd (esc)
+   \xe2\x9c\x97 input line 2: longer than 65536 bytes in: add 0 aaaaaaaaaaaaaaaaaaaaaaaaaaaaaaaaaaaaaaaaaaaaaaaaaaaaaa (esc)
+         a one
   [2]
 
 Without a faulty line the status is 0.
@@ -74,24 +74,24 @@ handle, and one that is cut off. The rows are cleared.
 
   $ strict() { printf "$1" | prodash-live --strict --stdout --terminal always >frames; }
   $ strict 'add @a 0 a\nset a 1\nset @b 1\n'
-  line 2: not an event
+  line 2: no handle "a" in: set a 1
   [2]
   $ strict 'add @a 0 a\nset @b 1\nset a 1\n'
-  line 2: no such handle
+  line 2: no such handle in: set @b 1
   [2]
   $ strict 'add @a 0 a\nset @a 1'
-  line 2: cut off
+  line 2: cut off in: set @a 1
   [2]
-  $ tail -c 5 frames
-  \x1b[2K\r (no-eol) (esc)
+  $ tail -c 7 frames | grep -o '\[J'
+  [J
 
 Streams
 =======
 
-An empty input gets the closing frame alone.
+An empty input gets a frame without rows, and the closing frame.
 
   $ prodash-live --terminal always </dev/null
-  \x1b[2K\r (no-eol) (esc)
+  \r\x1b[J\r\x1b[J (no-eol) (esc)
 
 An input that can't be read, and an output that can't be written.
 
@@ -115,16 +115,17 @@ the row that was drawn last before the closing frame. What was drawn before it d
   >   text=$1; shift
   >   { cat; until grep -q "$text" frames; do sleep 0.02; done; } | "$@"
   > }
-  $ last_row() { tail -n 3 frames | head -n 1 | sed 's/^.\[1A//'; }
+  $ last_row() { tail -n 3 frames | head -n 1 | sed 's/.*\[2K//'; }
   $ printf 'add 0 task\ninit 1 10 -\nset 1 3\n' >one_task
 
-A row without progress is drawn once. The closing frame blanks it.
+A row without progress is drawn once. The closing frame erases it. A frame before it may have come
+too early for it, and have no rows.
 
   $ echo 'add 0 task' | until_shown task prodash-live --terminal always 2>frames
-  $ cat frames
-   \x1b[1;37mtask\x1b[0m (esc)
-  \x1b[1A      (esc)
-  \x1b[1A\x1b[2K\r (no-eol) (esc)
+  $ sed 's/^\r.\[J//' frames
+  \r\x1b[2K \x1b[1;37mtask\x1b[0m (esc)
+  \x1b[J\x1b[1A\r\x1b[2K (esc)
+  \x1b[J\x1b[1A (no-eol) (esc)
 
 By default there are 80 columns, colours, and no rows if the output is no terminal.
 
@@ -136,6 +137,22 @@ By default there are 80 columns, colours, and no rows if the output is no termin
    task 3/10 [===================>-----------------------------------------------]
   $ prodash-live <one_task
   $ prodash-live --terminal never <one_task
+
+The unit may be left out, and may have any name, with a percentage before or after the value.
+
+  $ in_unit() {
+  >   printf 'add 0 task\ninit 1 %s\nset 1 3\n' "$1" \
+  >     | until_shown 3/10 prodash-live --no-color --columns 40 --terminal always 2>frames
+  >   last_row | sed 's/ \[=*>-*\]$//'
+  > }
+  $ in_unit 10
+   task 3/10
+  $ in_unit '10 flies'
+   task 3/10 flies
+  $ in_unit '10 %flies'
+   task [30%] 3/10 flies
+  $ in_unit '10 flies%'
+   task 3/10 flies [30%]
 
 The number of columns is that of the environment, unless an option says it. So are colours.
 
@@ -186,8 +203,8 @@ Rows are hidden until the delay has passed, and messages are not.
   $ printf 'add 0 a\ninfo 1 0 one\n' \
   >   | until_shown one prodash-live --terminal always --delay 86400000 2>frames
   $ cat frames
-   \x1b[2ma\x1b[0m \x1b[1;37mone\x1b[0m (esc)
-  \x1b[2K\r (no-eol) (esc)
+  \r\x1b[2K \x1b[2ma\x1b[0m \x1b[1;37mone\x1b[0m (esc)
+  \x1b[J\r\x1b[J (no-eol) (esc)
 
 Of 200,000 items that are added and dropped one after another below one item none takes the row of
 one that stays. The names that stay are of one length, since a frame aligns bars with those of the
@@ -199,7 +216,7 @@ frame before it.
   > drop @part' | head -n 400000
   >   printf 'add @final @task final\ninit @final 3 -\nset @final 2\n'
   > } | until_shown 2/3 prodash-live --no-color --columns 40 --terminal always 2>frames
-  $ tail -n 7 frames | head -n 3 | sed 's/^.\[.*A//; s/ *$//'
+  $ tail -n 7 frames | head -n 3 | sed 's/.*\[2K//; s/ *$//'
    task
     first 0/3 [>-------------------------]
     final 2/3 [================>---------]
@@ -233,13 +250,13 @@ second five take two seconds.
   $ takes 900 one_by_one 10 prodash-live --fps=10
   $ takes 2000 one_by_one 5 prodash-live --fps 2
 
-A throughput is drawn after a second, if it is asked for.
+A throughput is drawn after a second, if the unit asks for it.
 
   $ {
   >   {
-  >     printf 'add 0 t\ninit 1 - items/s\n'
-  >     until grep -q 't [0-9]* items |[0-9]*/s|' frames; do echo 'inc 1 1'; sleep 0.02; done
-  >   } | prodash-live --throughput --no-color --terminal always
+  >     printf 'add 0 t\ninit 1 - files/s\n'
+  >     until grep -q 't [0-9]* files |[0-9]*/s|' frames; do echo 'inc 1 1'; sleep 0.02; done
+  >   } | prodash-live --no-color --terminal always
   > } 2>frames
 
 The command line
@@ -259,7 +276,7 @@ The command line
         --delay <MILLISECONDS>  time until rows are drawn [default: 0]
         --no-color              no colours, as with $NO_COLOR
         --timestamps            messages with their time of day, in UTC
-        --throughput            rows with the throughput of units that ask for it
+        --throughput            no effect: units that end in /s have their throughput
         --stdout                draw on standard output, not on standard error
         --strict                end at the first line that is faulty
         --terminal <WHEN>       whether the output is a terminal; if not, messages alone are written [default: auto] [possible values: auto, always, never]

@@ -37,7 +37,7 @@ The status is the program's, which says what is wrong with a line that is cut of
 wait for a script whose program has ended.
 
   $ printf 'add @a 0 alpha\ninfo @a 0 one' | relay prodash-live --stdout
-   input line 2: cut off
+   \xe2\x9c\x97 input line 2: cut off in: info @a 0 one (esc)
   [2]
   $ relay prodash-live --nothing <lines 2>fault &
   $ exec 3>lines

@@ -17,12 +17,12 @@ A line sets it. Empty lines and those that begin with `#` do nothing, and each l
 Lines that are no size.
 
   $ printf 'size\nsize 40\nsize 40 4 5\nsize 0 4\nsize 40 65536\nsize  40 4\n' | prodash-live --stdout
-   input line 1: not an event
-   input line 2: not an event
-   input line 3: not an event
-   input line 4: not an event
-   input line 5: not an event
-   input line 6: not an event
+   \xe2\x9c\x97 input line 1: no size in: size (esc)
+   \xe2\x9c\x97 input line 2: no size in: size 40 (esc)
+   \xe2\x9c\x97 input line 3: no size "4 5" in: size 40 4 5 (esc)
+   \xe2\x9c\x97 input line 4: no size "0" in: size 0 4 (esc)
+   \xe2\x9c\x97 input line 5: no size "65536" in: size 40 65536 (esc)
+   \xe2\x9c\x97 input line 6: no size "" in: size  40 4 (esc)
   [2]
 
 `resize` changes the size of a terminal, which `relay` passes on, unless the environment says a size.

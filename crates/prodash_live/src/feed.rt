@@ -1,23 +1,32 @@
 //! The lines of an input, applied as they come.
 use crate::display::Display;
 use crate::items::Items;
+use crate::line_fault::{LineFault, fault_text};
 use prodash::Refusal;
 use prodash::time::Clock;
 use prodash::tree::Event;
 use prodash_programs::{Fault, dimension};
-use prodash_script::{Lines, Next, Request, request_of};
+use prodash_script::{Labels, Lines, Next, Request, request_of};
 use std::alloc::Global;
 use std::io::Read;
 use std::sync::Wait;
 use std::thread::Threads;
 
+/// How an input was read.
+#[derive(Drop)]
+pub enum Outcome {
+    /// To its end, with so many faulty lines.
+    Ended(u64),
+    /// Up to its first faulty line, of which this is said.
+    Stopped(String),
+}
+
 /// Applies each line of an input. A faulty line is reported in a message, or ends the program if it
-/// is strict. Returns the number of faulty lines.
+/// is strict.
 ///
 /// # Errors
 ///
-/// The fault that ended it: a faulty line if the program is strict, the input, the output, or
-/// memory.
+/// The fault that ended it: the input, the output, or memory.
 pub fn feed_lines<R: Wait + Threads + Clone + Drop, I: Read + Drop, K: Clock>(
     rt: &R,
     alloc: Global,
@@ -26,51 +35,57 @@ pub fn feed_lines<R: Wait + Threads + Clone + Drop, I: Read + Drop, K: Clock>(
     items: &mut Items<R>,
     display: &mut Display<R>,
     is_strict: bool,
-) -> Result<u64, Fault> {
+) -> Result<Outcome, Fault> {
     let mut lines = Lines::new(alloc, input);
+    let mut labels = Labels::new(alloc);
     let mut faults: u64 = 0;
     for number in 1..u64::MAX {
         let next = match lines.advance() {
             Ok(next) => next,
             Err(error) => return Err(Fault::of_input(&error)),
         };
-        let fault = match next {
+        let line = lines.line();
+        let line = line.strip_suffix(b"\r").unwrap_or(line);
+        let text = match next {
             Next::End => break,
-            Next::TooLong => Some(Fault::Line(number)),
+            Next::TooLong => Some(fault_text(alloc, number, LineFault::TooLong, line)?),
             // `set 1 10` may be the beginning of `set 1 100`
-            Next::CutOff => Some(Fault::CutOff(number)),
-            Next::Line => take(rt, alloc, lines.line(), clock, items, display, number)?,
+            Next::CutOff => Some(fault_text(alloc, number, LineFault::CutOff, line)?),
+            Next::Line => {
+                match take(rt, alloc, line, clock, items, &mut labels, display)? {
+                    Some(fault) => Some(fault_text(alloc, number, fault, line)?),
+                    None => None,
+                }
+            }
         };
         if display.is_broken() {
             return Err(Fault::Output);
         }
-        let Some(fault) = fault else {
+        let Some(text) = text else {
             continue;
         };
         if is_strict {
-            return Err(fault);
+            return Ok(Outcome::Stopped(text));
         }
         faults = faults.saturating_add(1);
-        let text = format!(in alloc; "{fault}")?;
         if items.has_root() {
             display.make_room(rt, clock);
         }
         items.say(alloc, clock.now(), text.as_str())?;
     }
-    Ok(faults)
+    Ok(Outcome::Ended(faults))
 }
 
 /// Does what a line asks for. Returns its fault, if it has one.
-fn take<R: Wait + Threads + Clone + Drop, K: Clock>(
+fn take<'a, R: Wait + Threads + Clone + Drop, K: Clock>(
     rt: &R,
     alloc: Global,
-    line: &[u8],
+    line: &'a [u8],
     clock: &K,
     items: &mut Items<R>,
+    labels: &mut Labels,
     display: &mut Display<R>,
-    number: u64,
-) -> Result<Option<Fault>, Fault> {
-    let line = line.strip_suffix(b"\r").unwrap_or(line);
+) -> Result<Option<LineFault<'a>>, Fault> {
     if is_comment(line) {
         return Ok(None);
     }
@@ -78,11 +93,21 @@ fn take<R: Wait + Threads + Clone + Drop, K: Clock>(
         display.resize(columns, rows);
         return Ok(None);
     }
-    let request = request_of(alloc, items.names(), clock.now(), line)?;
+    let request = request_of(alloc, items.names(), labels, clock.now(), line)?;
+    if let Request::Fault = request {
+        return Ok(Some(LineFault::of_line(line)));
+    }
+    if items.is_too_deep(&request) {
+        return Ok(Some(LineFault::TooDeep));
+    }
     if is_message(&request) && items.has_root() {
         display.make_room(rt, clock);
     }
-    serve(alloc, items, request, number)
+    match items.serve(alloc, request) {
+        Ok(()) | Err(Refusal::TooManyMessages) => Ok(None),
+        Err(Refusal::Gone) => Ok(Some(LineFault::NoHandle)),
+        Err(refusal) => Err(Fault::from(refusal)),
+    }
 }
 
 /// Returns whether a line does nothing: it is empty, or begins with `#`.
@@ -100,21 +125,4 @@ fn size_of(line: &[u8]) -> Option<(u16, u16)> {
 /// Returns whether a line sends a message.
 fn is_message(request: &Request) -> bool {
     matches!(request, Request::Apply(Event::Message { .. }))
-}
-
-/// Applies what a line asks for to the tree. Returns its fault, if it has one.
-fn serve<R: Wait + Clone + Drop>(
-    alloc: Global,
-    items: &mut Items<R>,
-    request: Request,
-    number: u64,
-) -> Result<Option<Fault>, Fault> {
-    if let Request::Fault = request {
-        return Ok(Some(Fault::Line(number)));
-    }
-    match items.serve(alloc, request) {
-        Ok(()) | Err(Refusal::TooManyMessages) => Ok(None),
-        Err(Refusal::Gone) => Ok(Some(Fault::Handle(number))),
-        Err(refusal) => Err(Fault::from(refusal)),
-    }
 }

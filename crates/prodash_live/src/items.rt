@@ -8,10 +8,14 @@ use std::alloc::Global;
 use std::collections::BTreeMap;
 use std::sync::Wait;
 
-/// An item, and its name in the script if it has one.
+/// The level of the items that have none below them. One below would take the place of another.
+const LAST_LEVEL: u8 = 6;
+
+/// An item, its level from 1 on, and its name in the script if it has one.
 #[derive(Drop)]
 struct Named<R: Wait + Clone + Drop> {
     item: Item<R>,
+    level: u8,
     name: Option<String>,
 }
 
@@ -22,16 +26,20 @@ pub struct Items<R: Wait + Clone + Drop> {
     items: BTreeMap<Handle, Named<R>>,
     names: Names,
     made: u64,
+    /// Whether a sign says the severity of a message, as where there are no colours.
+    has_signs: bool,
 }
 
 impl<R: Wait + Clone + Drop> Items<R> {
-    /// Returns a tree without items.
-    pub fn new(alloc: Global, root: Root<R>) -> Items<R> {
+    /// Returns a tree without items. `has_signs` says whether a sign before the origin of a message
+    /// is to say its severity.
+    pub fn new(alloc: Global, root: Root<R>, has_signs: bool) -> Items<R> {
         Items {
             root: Some(root),
             items: BTreeMap::new(alloc),
             names: BTreeMap::new(alloc),
             made: 0,
+            has_signs,
         }
     }
 
@@ -43,6 +51,18 @@ impl<R: Wait + Clone + Drop> Items<R> {
     /// Returns whether the tree has its root. Without it no frame is drawn.
     pub fn has_root(&self) -> bool {
         self.root.is_some()
+    }
+
+    /// Returns whether a request adds an item below the last level.
+    pub fn is_too_deep(&self, request: &Request) -> bool {
+        let parent = match request {
+            Request::Apply(Event::AddChild { parent, .. }) => parent,
+            Request::Name(_, Event::AddChild { parent, .. }) => parent,
+            _ => return false,
+        };
+        self.items
+            .get(parent)
+            .is_some_and(|named| named.level >= LAST_LEVEL)
     }
 
     /// Does what a line asks for.
@@ -87,7 +107,7 @@ impl<R: Wait + Clone + Drop> Items<R> {
                 at,
                 level,
                 text,
-            } => self.item(item)?.message(alloc, at, level, text.as_str())?,
+            } => self.send(alloc, self.item(item)?, at, level, text.as_str())?,
             // A script neither queries the tree nor draws frames.
             Event::Name { .. } | Event::Id { .. } | Event::Step { .. } => return Err(Refusal::Gone),
             Event::Max { .. } | Event::Unit { .. } | Event::NumTasks => return Err(Refusal::Gone),
@@ -113,19 +133,27 @@ impl<R: Wait + Clone + Drop> Items<R> {
 
     /// Adds an item, and returns its handle.
     fn add(&mut self, alloc: Global, parent: Handle, name: &Text) -> Result<Handle, Refusal> {
-        let item = if parent == 0 {
+        let (item, level) = if parent == 0 {
             match &self.root {
-                Some(root) => root.add_child(alloc, name.as_str())?,
+                Some(root) => (root.add_child(alloc, name.as_str())?, 1),
                 None => return Err(Refusal::Gone),
             }
         } else {
             match self.items.get_mut(&parent) {
-                Some(parent) => parent.item.add_child(alloc, name.as_str())?,
+                Some(parent) => (
+                    parent.item.add_child(alloc, name.as_str())?,
+                    parent.level.saturating_add(1),
+                ),
                 None => return Err(Refusal::Gone),
             }
         };
         let handle = self.made.saturating_add(1);
-        self.items.insert(handle, Named { item, name: None })?;
+        let named = Named {
+            item,
+            level,
+            name: None,
+        };
+        self.items.insert(handle, named)?;
         self.made = handle;
         Ok(handle)
     }
@@ -155,14 +183,39 @@ impl<R: Wait + Clone + Drop> Items<R> {
         }
     }
 
-    /// Sends a message that belongs to no item.
+    /// Sends a failure that belongs to no item.
     pub fn say(&self, alloc: Global, at: Moment, text: &str) -> Result<(), Refusal> {
         match &self.root {
             Some(root) => {
                 let item = root.add_child(alloc, "input")?;
-                item.message(alloc, at, MessageLevel::Failure, text)
+                self.send(alloc, &item, at, MessageLevel::Failure, text)
             }
             None => Ok(()),
         }
+    }
+
+    /// Sends a message of an item. Its origin is the item's name, after a sign if there is one:
+    /// the item has both for a name while the message is sent.
+    fn send(
+        &self,
+        alloc: Global,
+        item: &Item<R>,
+        at: Moment,
+        level: MessageLevel,
+        text: &str,
+    ) -> Result<(), Refusal> {
+        let sign = match level {
+            MessageLevel::Success if self.has_signs => "✓",
+            MessageLevel::Failure if self.has_signs => "✗",
+            _ => return item.message(alloc, at, level, text),
+        };
+        let Some(name) = item.name(alloc)? else {
+            return Err(Refusal::Gone);
+        };
+        let origin = format!(in alloc; "{sign} {name}")?;
+        item.set_name(alloc, origin.as_str())?;
+        let sent = item.message(alloc, at, level, text);
+        item.set_name(alloc, name.as_str())?;
+        sent
     }
 }

@@ -4,17 +4,18 @@
 mod display;
 mod feed;
 mod items;
+mod line_fault;
 mod options;
 mod output;
 mod program;
 
-use options::{Environment, Options};
+use feed::Outcome;
+use options::Options;
 use prodash::time::SystemClock;
-use prodash_programs::{Fault, arguments, dimension, report};
+use prodash_programs::{Environment, Fault, arguments, report};
 use program::live;
 use std::alloc::Global;
-use std::env;
-use std::io::IsTerminal;
+use std::io::{IsTerminal, Write};
 use std::process::ExitCode;
 use std::rt::Env;
 use std::sync::Arc;
@@ -24,7 +25,7 @@ fn main(rt: HostRuntime) -> ExitCode {
         Ok(words) => words,
         Err(fault) => return ExitCode::from(report(&mut rt.stderr(), fault)),
     };
-    let options = match Options::parse(rt.alloc(), &words, read_environment(&rt)) {
+    let options = match Options::parse(rt.alloc(), &words, Environment::read(&rt)) {
         Ok(options) => options,
         Err(error) => {
             let status = error.exit_code() as u8;
@@ -46,21 +47,11 @@ fn main(rt: HostRuntime) -> ExitCode {
         live(rt, alloc, input, rt.stderr(), clock, options, is_terminal)
     };
     match ended {
-        Ok(faults) => ExitCode::from(if faults == 0 { 0 } else { 2 }),
+        Ok(Outcome::Ended(faults)) => ExitCode::from(if faults == 0 { 0 } else { 2 }),
+        Ok(Outcome::Stopped(text)) => {
+            let _ = writeln!(rt.stderr(), "{text}");
+            ExitCode::from(2)
+        }
         Err(fault) => ExitCode::from(report(&mut rt.stderr(), fault)),
     }
-}
-
-/// What the environment says of the terminal.
-fn read_environment<R: Env + Alloc<A = Global>>(rt: &R) -> Environment {
-    Environment {
-        columns: size(rt, "COLUMNS"),
-        rows: size(rt, "LINES"),
-        no_color: matches!(env::var(rt, "NO_COLOR"), Ok(text) if !text.is_empty()),
-    }
-}
-
-/// The columns or rows that a variable of the environment names, if it names any.
-fn size<R: Env + Alloc<A = Global>>(rt: &R, name: &str) -> Option<u16> {
-    dimension(env::var(rt, name).ok()?.as_str())
 }

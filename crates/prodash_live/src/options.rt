@@ -4,18 +4,8 @@ ghost use Rattle.std.specs.Prelude.{◌≡◌, ◌&&◌};
 use clap::builder::ValueParser;
 use clap::{Arg, ArgAction, ArgMatches, Command, Error};
 use prodash::render::line;
+use prodash_programs::Environment;
 use std::alloc::Global;
-
-/// What the environment says of the terminal.
-#[derive(Clone, Copy, Debug)]
-pub struct Environment {
-    /// The columns of the terminal.
-    pub columns: Option<u16>,
-    /// The rows of the terminal.
-    pub rows: Option<u16>,
-    /// Whether colours are disabled.
-    pub no_color: bool,
-}
 
 /// Whether the output is a terminal.
 #[derive(Clone, Copy, Debug, PartialEq, Eq)]
@@ -41,8 +31,6 @@ pub struct Options {
     pub is_colored: bool,
     /// Whether messages have their time of day.
     pub has_timestamps: bool,
-    /// Whether rows have their throughput.
-    pub has_throughput: bool,
     /// Whether to draw on standard output in place of standard error.
     pub to_stdout: bool,
     /// Whether the first faulty line ends the program.
@@ -73,7 +61,6 @@ impl Options {
             delay: matches.get_one::<u64>("delay").unwrap_or(0),
             is_colored: !matches.get_flag("no-color") && !env.no_color,
             has_timestamps: matches.get_flag("timestamps"),
-            has_throughput: matches.get_flag("throughput"),
             to_stdout: matches.get_flag("stdout"),
             is_strict: matches.get_flag("strict"),
             terminal: match matches.get_str("terminal") {
@@ -99,7 +86,8 @@ impl Options {
             colored: self.is_colored && output_is_terminal,
             timestamp: self.has_timestamps,
             terminal_dimensions: self.dimensions,
-            throughput: self.has_throughput,
+            throughput: true,
+            defensive: true,
             initial_delay: Some(self.delay.saturating_mul(1_000_000)),
             nanoseconds_per_frame: 1_000_000_000 / self.frames.max(1),
             ..line::Options::default()
@@ -154,7 +142,7 @@ fn command<'a>(alloc: Global) -> Result<Command<'a>, Error> {
         .arg(flag(
             alloc,
             "throughput",
-            "rows with the throughput of units that ask for it",
+            "no effect: units that end in /s have their throughput",
         ))?
         .arg(flag(
             alloc,

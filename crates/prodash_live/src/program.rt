@@ -1,6 +1,6 @@
 //! The whole program over a reader, a writer and a clock.
 use crate::display::{Display, MESSAGES};
-use crate::feed::feed_lines;
+use crate::feed::{Outcome, feed_lines};
 use crate::items::Items;
 use crate::options::Options;
 use crate::output::{OutputState, PromptClock, Watched};
@@ -13,8 +13,8 @@ use std::io::{Read, Write};
 use std::sync::{Arc, Wait};
 use std::thread::Threads;
 
-/// Shows the events of `input` on `out` until the input ends. Returns the number of faulty
-/// lines.
+/// Shows the events of `input` on `out` until the input ends. Returns how far it
+/// was read.
 ///
 /// # Errors
 ///
@@ -32,7 +32,7 @@ pub fn live<
     clock: Arc<K>,
     options: Options,
     is_terminal: bool,
-) -> Result<u64, Fault> {
+) -> Result<Outcome, Fault> {
     let output = Arc::new(alloc, OutputState::new())?;
     let root = root::Options {
         message_buffer_capacity: MESSAGES,
@@ -53,7 +53,7 @@ pub fn live<
         Arc::new(alloc, prompt)?,
         rendering,
     )?;
-    let mut items = Items::new(alloc, root);
+    let mut items = Items::new(alloc, root, !rendering.colored);
     let mut display = Display::new(handle, Arc::try_clone(&output)?);
     let is_strict = options.is_strict;
     let fed = feed_lines(

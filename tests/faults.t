@@ -1,0 +1,131 @@
+Faulty lines
+============
+
+Each of these lines is wrong in one way. `told` writes what is said of them, without its origin. The
+status of prodash-live is 2.
+
+  $ unset COLUMNS LINES NO_COLOR
+  $ told() { prodash-live --stdout >output; echo "status $?"; sed 's/^.*input //' output; }
+  $ told <<'END'
+  > foo 1
+  > foo
+  >  drop 1
+  > tick 0
+  > hold 0
+  > resize 0 40 4
+  > quit
+  > droproot 1
+  > add @ 0 a
+  > add @
+  > set a 3
+  > drop @
+  > blocked
+  > info 0 now a
+  > fail 0
+  > set 1 3 4
+  > inc 1 -
+  > set 1 18446744073709551616
+  > set 1
+  > max 1 ten
+  > init 1
+  > init 1 ten files
+  > init 1 10 a%b
+  > init 1 10 %files%
+  > init 1 10 files/m
+  > init 1 10 %
+  > init 1 10 
+  > init 1 10 two words
+  > size 0 4
+  > size 40 65536
+  > size 40
+  > add 0
+  > name 1
+  > info 0 -
+  > set 9 3
+  > drop @a
+  > END
+  status 2
+  line 1: no event "foo" in: foo 1
+  line 2: no event "foo" in: foo
+  line 3: no event "" in:  drop 1
+  line 4: frames are drawn without "tick" in: tick 0
+  line 5: frames are drawn without "hold" in: hold 0
+  line 6: frames are drawn without "resize" in: resize 0 40 4
+  line 7: frames are drawn without "quit" in: quit
+  line 8: too many words "1" in: droproot 1
+  line 9: no word "" in: add @ 0 a
+  line 10: no word "" in: add @
+  line 11: no handle "a" in: set a 3
+  line 12: no handle "@" in: drop @
+  line 13: no handle in: blocked
+  line 14: no moment "now" in: info 0 now a
+  line 15: no moment in: fail 0
+  line 16: no number "3 4" in: set 1 3 4
+  line 17: no number "-" in: inc 1 -
+  line 18: no number "18446744073709551616" in: set 1 18446744073709551616
+  line 19: no number in: set 1
+  line 20: no bound "ten" in: max 1 ten
+  line 21: no bound in: init 1
+  line 22: no bound "ten" in: init 1 ten files
+  line 23: no unit "a%b" in: init 1 10 a%b
+  line 24: no unit "%files%" in: init 1 10 %files%
+  line 25: no unit "files/m" in: init 1 10 files/m
+  line 26: no unit "%" in: init 1 10 %
+  line 27: no unit "" in: init 1 10 
+  line 28: no unit "two words" in: init 1 10 two words
+  line 29: no size "0" in: size 0 4
+  line 30: no size "65536" in: size 40 65536
+  line 31: no size in: size 40
+  line 32: no name in: add 0
+  line 33: no name in: name 1
+  line 34: no text in: info 0 -
+  line 35: no such handle in: set 9 3
+  line 36: no such handle in: drop @a
+
+An item below one at the sixth level, whose place it would take. It has no handle.
+
+  $ told <<'END'
+  > add @a 0 a
+  > add @b @a b
+  > add @c @b c
+  > add @d @c d
+  > add @e @d e
+  > add @f @e f
+  > add 6 g
+  > add @f @f g
+  > add @g @e g
+  > info @f - one
+  > info 7 - two
+  > END
+  status 2
+  line 7: below the sixth level in: add 6 g
+  line 8: below the sixth level in: add @f @f g
+         f one
+         g two
+
+A line that is not UTF-8, one that is too long, and one that is cut off.
+
+  $ { printf 'add 0 \377\n'; head -c 65537 /dev/zero | tr '\0' a; printf '\nset 1 10'; } | told
+  status 2
+  line 1: not UTF-8 in: add 0 \xef\xbf\xbd (esc)
+  line 2: longer than 65536 bytes in: aaaaaaaaaaaaaaaaaaaaaaaaaaaaaaaaaaaaaaaaaaaaaaaaaaaaaaaaaaaa
+  line 3: cut off in: set 1 10
+
+60 characters of a line or a word are shown, and no control character.
+
+  $ sixty=$(printf '%060d' 0)
+  $ printf "$sixty\n${sixty}1\n${sixty}1 a\nset 1 ${sixty}1\n" | told | tr 0 .
+  status 2
+  line 1: no event "............................................................" in: ............................................................
+  line 2: no event "............................................................" in: ............................................................
+  line 3: no event "............................................................" in: ............................................................
+  line 4: no number "............................................................" in: set 1 ......................................................
+  $ printf 'a\033b\tc\177d\302\233e\303\251\n' | told
+  status 2
+  line 1: no event "a\xef\xbf\xbdb\xef\xbf\xbdc\xef\xbf\xbdd\xef\xbf\xbde\xc3\xa9" in: a\xef\xbf\xbdb\xef\xbf\xbdc\xef\xbf\xbdd\xef\xbf\xbde\xc3\xa9 (esc)
+
+With `--strict` the same is said of the first.
+
+  $ printf 'add @a 0 a\ninit @a 10 a b\nfoo\n' | prodash-live --strict
+  line 2: no unit "a b" in: init @a 10 a b
+  [2]
