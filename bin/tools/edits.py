@@ -3,6 +3,7 @@ import difflib
 import glob
 import itertools
 import os
+import re
 
 import functions
 import switches
@@ -28,12 +29,17 @@ class Edit:
             # a text that the file has more than once may be there once in the function
             self.texts = in_function(file, crate.folder, modules[-1])
             self.fault = None if self.texts else self.fault
-        # The name of the copy of its function that it changes, or None if it changes the function.
-        self.copy = None
+        # The name of the copy of its function that it changes, or None if it changes the function,
+        # and the modules and type that have the copy.
+        self.copy, self.owner = None, modules[:-1]
 
     def tried_as(self):
-        """Returns the function that a round asks for."""
-        return "::".join([self.crate.name, *self.names[:-1], self.copy or self.names[-1]])
+        """Returns the function that a round asks for, or the end of its name."""
+        return "::".join([self.crate.name, *self.names_tried()])
+
+    def names_tried(self):
+        """Returns the modules, the type and the name of what a round asks for."""
+        return [*self.owner, self.copy] if self.copy else self.names
 
     def replacements(self, read):
         """Returns path, begin, end and new text of each replacement, in the texts as they are.
@@ -47,7 +53,8 @@ class Edit:
         """Returns the insertion of a copy of the function that has these replacements, and the
         files with the proofs that are kept for it.
 
-        Returns None if they are not all in the function, or if that is a trait's.
+        Returns None if they are not all in the function, or if that has its contract from a trait.
+        A copy from an impl of a trait is in an impl of the type's own.
         """
         path, name = found[0][0], self.names[-1]
         text = read(path)
@@ -56,9 +63,20 @@ class Edit:
             return None
         inside = [(begin - span[0], end - span[0], new) for _, begin, end, new in found]
         wrong = replaced(text[span[0] : span[1]], inside)
-        inserted = "\n\n" + functions.renamed(wrong, name, self.copy)
-        proofs = functions.proofs_of(self.crate.folder, self.names, self.copy)
-        return [(path, span[1], span[1], inserted), *((it, 0, 0, new) for it, new in proofs)]
+        inserted, at = functions.renamed(wrong, name, self.copy), span[1]
+        of_trait = functions.impl_of_trait(text, span[0]) if inserted.startswith(" ") else None
+        if of_trait:
+            (owner, trait), header, at = of_trait
+            if self.names[-2] != owner + trait or "Self::" in wrong:
+                return None
+            inserted = f"{header}\n{inserted}\n}}"
+            # it is named by the module of the type, which may be another one
+            is_here = re.search(rf"\b(?:struct|enum) {owner}\b", text)
+            self.owner = [*self.names[:-2], owner] if is_here else [owner]
+        proofs = [*functions.proofs_of(self.crate.folder, self.names, self.names_tried())]
+        if proofs and len(self.owner) < len(self.names) - 1:
+            return None
+        return [(path, at, at, f"\n\n{inserted}"), *((it, 0, 0, new) for it, new in proofs)]
 
 
 def in_function(file, folder, name):

@@ -6,13 +6,17 @@ import re
 HEADER = r"(?m)^( *)(?:pub(?:\([a-z]+\))? )?(?:const )?fn {}\b"
 # What a function with an indentation is in.
 AROUND = re.compile(r"(?ms)^(?:pub(?:\([a-z]+\))? )?(impl|trait|mod)\b(.*?)(?:\{$|\{ ghost|;$)")
+# The header of an impl of a trait: its parameters, the trait's name, and the type.
+OF_TRAIT = re.compile(r"(?s)(<.*>)? (?:\w+::)*(\w+)(?:<[^<>]*>)? for ((\w+)\b.*)")
+# The beginning of a clause.
+CLAUSE = re.compile(r"(?m)^ *(?:requires|ensures)\b")
 
 
 def span(text, name, at):
     """Returns where the function of this name that goes over a place begins and ends.
 
     Its attributes belong to it. Returns None if there is no such function, or if it is in a trait
-    or in an impl of one.
+    or has its contract from one.
     """
     header = None
     for header in re.finditer(HEADER.format(re.escape(name)), text[:at]):
@@ -20,17 +24,41 @@ def span(text, name, at):
     if not header:
         return None
     end = re.compile(rf"(?m)^{header[1]}\}}$").search(text, header.end())
-    if not end or end.end() < at or header[1] and not is_in_own_impl(text[: header.start()]):
+    if not end or end.end() < at:
         return None
+    if header[1] and not is_in_own_impl(text[: header.start()]):
+        has_contract = CLAUSE.search(text, header.start(), end.end())
+        if not has_contract or not impl_of_trait(text, header.start()):
+            return None
     return attributes_begin(text, header.start(), header[1]), end.end()
+
+
+def around(before):
+    """Returns the match of what begins last in a text, and goes on."""
+    found = None
+    for found in AROUND.finditer(before):
+        pass
+    return found
 
 
 def is_in_own_impl(before):
     """Returns whether what begins last in a text, and goes on, is an impl of a type's own."""
-    around = None
-    for around in AROUND.finditer(before):
-        pass
-    return bool(around) and around[1] == "impl" and not re.search(r"\bfor\b(?!<)", around[2])
+    found = around(before)
+    return bool(found) and found[1] == "impl" and not re.search(r"\bfor\b(?!<)", found[2])
+
+
+def impl_of_trait(text, at):
+    """Returns the impl of a trait that goes over a place, or None if there is none.
+
+    It is the names of the type and the trait, the header that an impl of the type's own has, and
+    where the impl ends.
+    """
+    found = around(text[:at])
+    of = OF_TRAIT.fullmatch(found[2].rstrip()) if found and found[1] == "impl" else None
+    end = re.compile(r"(?m)^\}$").search(text, at)
+    if not of or not end:
+        return None
+    return (of[4], of[2]), f"impl{of[1] or ''} {of[3]} {{", end.end()
 
 
 def attributes_begin(text, begin, indentation):
@@ -51,15 +79,16 @@ def renamed(text, name, new):
 def proofs_of(folder, names, copy):
     """Yields the files of proofs for a copy of a function, by their paths.
 
-    They are those of the function, which name it.
+    They are those of the function, which name it. Both are given by their names in the crate.
     """
     *modules, last = names
+    *to_modules, to_last = copy
+    below, to_below = ("/".join(["proofs", *it]) for it in (modules, to_modules))
+    named, to_named = (".".join(["proofs", *it, ""]) for it in (names, copy))
     for each in (last, f"+{last}"):
-        below = "/".join(["proofs", *modules])
         for path in glob.glob(f"{glob.escape(f'{folder}/{below}/{each}')}/**/*.antt", recursive=True):
             with open(path, encoding="utf-8") as it:
                 text = it.read()
-            named = ".".join(["proofs", *modules, ""])
             to = os.path.relpath(path, f"{folder}/{below}/{each}")
-            new = f"{below}/{each.replace(last, copy)}/{to}"
-            yield new, text.replace(f"{named}{last}.", f"{named}{copy}.")
+            new = f"{to_below}/{each.replace(last, to_last)}/{to}"
+            yield new, text.replace(named, to_named)

@@ -34,6 +34,20 @@ pub fn zero() -> usize
 {
     0
 }
+
+trait Counts {
+    fn count(&self) -> usize;
+}
+
+struct One;
+
+impl Counts for One {
+    fn count(&self) -> usize
+        ensures { result ≡ 1 }
+    {
+        1
+    }
+}
 """
 FILES = {
     ".git/HEAD": "",
@@ -50,6 +64,9 @@ EDITS = {
     "edits/lesser/right_body_of_a_copy": ("x < y", "x <= y", THROUGH, ""),
     "edits/least/caller_as_before": (f"    {LEAST}", f"    {{ {LEAST} }}", THROUGH, ""),
     "edits/least/wrong_caller": (LEAST, "lesser(lesser(x, y), y)", REFUSED, "small::least"),
+    "edits/OneCounts/count/two": ("        1", "        2", REFUSED, "OneCounts::count"),
+    "edits/OneCounts/count/three": ("        1", "        3", REFUSED, "OneCounts::count"),
+    "edits/OneCounts/count/one": ("        1", "        3 - 2", THROUGH, ""),
     "edits/zero/names_nothing": ("absent", "x", UNREAD, "0 times"),
     "edits/zero/does_not_compile": ("    0", "    absent", UNREAD, "src/lib.rt"),
     "edits/none/names_no_function": ("result ≡ 0", "result ≡ 1", UNREAD, "small::none"),
@@ -63,6 +80,8 @@ AFTER_CI = (
     "edits/lesser/wrong_body_of_a_copy",
     "edits/lesser/right_body_of_a_copy",
     "edits/least/wrong_caller",
+    "edits/OneCounts/count/two",
+    "edits/OneCounts/count/three",
     "edits/zero/names_nothing",
 )
 

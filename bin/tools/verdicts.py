@@ -37,11 +37,11 @@ class Verdict:
         return [it for it in ERROR.findall(self.text) if not FOLLOWS.search(it[2])]
 
     def goals_of(self, name):
-        """Returns the goals of this function that are not proved.
+        """Returns the goals of this function that are not proved. The end of its name is enough.
 
         That a callee isn't proved is none of them.
         """
-        names = self.with_closures(name)
+        names = self.with_closures(self.whole_name(name))
         if not names or all(self.functions[it] == "proved" for it in names):
             return []
         goals = []
@@ -51,6 +51,17 @@ class Verdict:
         folders = tuple("proofs/" + "/".join(it.split("::")[1:]) + "/" for it in names)
         ours = [it for it in self.errors() if it[0].startswith(folders)]
         return goals + [goal or file for file, goal, why in ours if not is_lost_name(why)]
+
+    def whole_name(self, name):
+        """Returns the name of the function of a crate that this is, or of the only one whose name
+        ends so.
+        """
+        crate, _, end = name.partition("::")
+        if name in self.functions:
+            return name
+        ours = [it for it in self.functions if it.startswith(f"{crate}::")]
+        ending = [it for it in ours if it.endswith(f"::{end}")]
+        return ending[0] if len(ending) == 1 else name
 
     def with_closures(self, name):
         """Returns the function and its closures, whose lines are below `fn::NAME`."""
