@@ -2,12 +2,20 @@ Bursts of messages
 ==================
 
 No message is lost, however many come between two frames, and they stay in order. The reader of the
-frames is late here, and so are they.
+frames is late here, and so are they: it waits until all lines are taken, or for five seconds.
 
-  $ burst() { echo 'add @a 0 a'; seq 20000 | sed 's/^/info @a 0 /; s/$/ of a burst of messages/'; }
-  $ late() { sleep 2; cat; }
+  $ burst() {
+  >   echo 'add @a 0 a'
+  >   seq 20000 | sed 's/^/info @a 0 /; s/$/ of a burst of messages/'
+  >   touch taken
+  > }
+  $ late() {
+  >   for _ in $(seq 50); do [ -f taken ] || sleep 0.1; done
+  >   cat
+  > }
   $ seq 20000 | sed 's/^/ a /; s/$/ of a burst of messages/' >expected
   $ burst | timeout 30 prodash-live --stdout --fps 1 | late | cmp expected -
+  $ rm taken
 
 On a terminal too. Rows are as late as they are asked to be.
 
@@ -15,6 +23,7 @@ On a terminal too. Rows are as late as they are asked to be.
   >   timeout 30 prodash-live --stdout --fps 1 --no-color --terminal always --delay 86400000
   > }
   $ burst | as_on_a_terminal | late >output
+  $ rm taken
   $ grep -o ' a [0-9][0-9]* of a burst of messages' output | cmp expected -
   $ grep -c '\[1A' output
   0
@@ -22,7 +31,8 @@ On a terminal too. Rows are as late as they are asked to be.
 
 Faulty lines are messages too.
 
-  $ yes nothing | head -n 20000 | timeout 30 prodash-live --stdout --fps 1 | late >output
+  $ nothings() { yes nothing | head -n 20000 && touch taken; }
+  $ nothings | timeout 30 prodash-live --stdout --fps 1 | late >output
   $ seq 20000 | sed 's/.*/ ✗ input line &: no event "nothing" in: nothing/' | cmp output -
 
 No frame is awaited where none comes: of an output that is broken, or of a tree without its root.
