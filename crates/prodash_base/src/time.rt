@@ -1,14 +1,12 @@
 //! Moments, clocks, and moments as texts.
 ghost use Rattle.std.specs.Prelude.{◌≡◌, ℕ, ◌/◌, pos, length, unsigned_abs, OnOk, IfOk, string_bytes, IsOkUnless};
 ghost use Rattle.prodash_base.specs.Appending.{Pushes};
-ghost use Rattle.jiff.specs.Words.{epoch_day};
+ghost use Rattle.jiff_core.specs.Date.{epoch_day};
 ghost use Rattle.prodash_base.specs.Moments.{HasOneDate, IsDateTimeText, calendar_date, seconds_of, day_of, date_text, clock_text, time_text};
 
 use crate::appending::{push_ascii, push_last_digits};
 use crate::refusal::Refusal;
-use jiff::Timestamp;
-use jiff::civil::Date;
-use jiff::tz::Offset;
+use jiff_core::civil::{Date, DateTime};
 use std::alloc::{AllocError, Global};
 
 /// A point in time: nanoseconds since 1970-01-01T00:00:00 in UTC.
@@ -65,19 +63,18 @@ const NANOSECONDS_PER_SECOND: u64 = 1_000_000_000;
 fn date_of(at: Moment) -> Date
     ensures { epoch_day result ≡ pos (day_of at) }
 {
-    let timestamp = Timestamp::from_nanosecond(i128::from(at)).unwrap();
-    Offset::UTC.to_datetime(timestamp).date()
+    DateTime::from_nanosecond_in_range(i128::from(at)).date
 }
 
 /// Appends a date, as `2554-07-21`.
 fn push_date(out: &mut String, date: Date) -> Result<(), AllocError>
     ensures { Pushes result out.old (date_text (calendar_date date)) out.new }
 {
-    push_last_digits(out, 4, u128::from(date.year().unsigned_abs()))?;
+    push_last_digits(out, 4, u128::from(date.year.unsigned_abs()))?;
     push_ascii(out, b'-')?;
-    push_last_digits(out, 2, u128::from(date.month().unsigned_abs()))?;
+    push_last_digits(out, 2, u128::from(date.month))?;
     push_ascii(out, b'-')?;
-    push_last_digits(out, 2, u128::from(date.day().unsigned_abs()))
+    push_last_digits(out, 2, u128::from(date.day))
 }
 
 /// Appends the time of day of a second since 1970, as `23:34:33`.
