@@ -96,6 +96,7 @@ def ready(name, stderr_is_output=False):
         how = "building without proofs, in about a minute; bin/build proves and builds it"
         say(f"{name.replace('_', '-')}: {how}", stderr_is_output)
         words = [f"{TOP}/bin/build", "--unproved", name]
+        words += ["--quiet"] if stderr_is_output and not os.isatty(2) else []
         try:
             if subprocess.run(words, stdin=subprocess.DEVNULL).returncode:
                 return None
