@@ -353,28 +353,40 @@ the row is erased and drawn again.
   E[JE[1ARE[2K
   E[JE[1A (no-eol)
 
+In colour. Both options may be given, in any order. A page shows no styles.
+
+  $ printf 'add 0 a\ntick 0\n' | prodash-replay bytes 40 4 --colored | tr '\033' E
+   E[1;37maE[0m
+  E[1A (no-eol)
+  $ printf 'add 0 a\ntick 0\n' | prodash-replay bytes 40 4 --colored --defensive | tr '\r\033' RE
+  RE[2K E[1;37maE[0m
+  E[JE[1A (no-eol)
+  $ printf 'add 0 a\ntick 0\n' | prodash-replay page 40 2 --defensive --colored
+   a
+  
+
 Arguments that are not a command and two dimensions. They are checked before the input is read.
 
   $ prodash-replay <one_task >>written
-  usage: prodash-replay bytes|page COLUMNS ROWS [--defensive]
+  usage: prodash-replay bytes|page COLUMNS ROWS [--defensive] [--colored]
   [2]
   $ prodash-replay bytes 40 <one_task >>written
-  usage: prodash-replay bytes|page COLUMNS ROWS [--defensive]
+  usage: prodash-replay bytes|page COLUMNS ROWS [--defensive] [--colored]
   [2]
   $ prodash-replay bytes 0 4 <one_task >>written
-  usage: prodash-replay bytes|page COLUMNS ROWS [--defensive]
+  usage: prodash-replay bytes|page COLUMNS ROWS [--defensive] [--colored]
   [2]
   $ prodash-replay page 40 65536 <one_task >>written
-  usage: prodash-replay bytes|page COLUMNS ROWS [--defensive]
+  usage: prodash-replay bytes|page COLUMNS ROWS [--defensive] [--colored]
   [2]
   $ prodash-replay rows 40 4 <one_task >>written
-  usage: prodash-replay bytes|page COLUMNS ROWS [--defensive]
+  usage: prodash-replay bytes|page COLUMNS ROWS [--defensive] [--colored]
   [2]
   $ prodash-replay bytes 40 20 4 <. >>written
-  usage: prodash-replay bytes|page COLUMNS ROWS [--defensive]
+  usage: prodash-replay bytes|page COLUMNS ROWS [--defensive] [--colored]
   [2]
   $ prodash-replay "$(printf '\377')" 40 4 <one_task >>written
-  usage: prodash-replay bytes|page COLUMNS ROWS [--defensive]
+  usage: prodash-replay bytes|page COLUMNS ROWS [--defensive] [--colored]
   [2]
 
 An input that can't be read: a folder.

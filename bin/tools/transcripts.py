@@ -25,6 +25,7 @@ SCRIPTS = {
     "build-failures": f"{TOOLS}/build-failures",
     "install-prodash": f"{TOP}/bin/install",
     "many-hosts": f"{TOP}/examples/many_hosts.sh",
+    "picture": f"{TOP}/bin/picture",
     "relay": f"{TOOLS}/relay.py",
     "resize": f"{TOP}/tests/scripts/resize.py",
 }

@@ -10,7 +10,9 @@ use std::alloc::{AllocError, Global};
 use std::io::{Read, Write};
 
 /// The fault of arguments that are not a command and two dimensions.
-pub const USAGE: Fault = Fault::Usage("prodash-replay bytes|page COLUMNS ROWS [--defensive]");
+pub const USAGE: Fault = Fault::Usage(
+    "prodash-replay bytes|page COLUMNS ROWS [--defensive] [--colored]",
+);
 
 /// What the program writes of the frames.
 #[derive(Clone, Copy, Debug, PartialEq, Eq)]
@@ -22,21 +24,22 @@ enum Command {
 }
 
 /// The command line: a command, the columns and rows of the terminal, and whether frames are
-/// defensive.
+/// defensive and have colours.
 #[derive(Clone, Copy, Debug)]
 struct Request {
     command: Command,
     columns: u16,
     rows: u16,
     defensive: bool,
+    colored: bool,
     ghost wide: { 0 < columns },
     ghost high: { 0 < rows },
 }
 
 /// Runs the program: replays the events of `input`, one per line. `words` are the program's name,
-/// and then `bytes COLUMNS ROWS` or `page COLUMNS ROWS`, and perhaps `--defensive`. `bytes` writes
-/// the bytes of all frames to `out`; `page` plays them on a page of that size and writes each row
-/// that it ever had, without trailing blanks. Returns the exit status.
+/// and then `bytes COLUMNS ROWS` or `page COLUMNS ROWS`, and perhaps `--defensive` and `--colored`.
+/// `bytes` writes the bytes of all frames to `out`; `page` plays them on a page of that size and
+/// writes each row that it ever had, without trailing blanks. Returns the exit status.
 ///
 /// If anything fails, one line on `err` says what. Unless it was `out` that failed, nothing has
 /// been written to `out` then.
@@ -74,13 +77,17 @@ fn replayed<R: Read>(alloc: Global, words: &[String], input: &mut R) -> Result<V
 
 /// Parses the command line.
 fn parse_args(words: &[String]) -> Result<Request, Fault> {
-    let (command, columns, rows, defensive) = match words {
-        [_, command, columns, rows] => (command, columns, rows, false),
-        [_, command, columns, rows, option] if option.as_str() == "--defensive" => {
-            (command, columns, rows, true)
-        }
-        _ => return Err(USAGE),
+    let [_, command, columns, rows, flags @ ..] = words else {
+        return Err(USAGE);
     };
+    let (mut defensive, mut colored) = (false, false);
+    for flag in flags {
+        match flag.as_str() {
+            "--defensive" => defensive = true,
+            "--colored" => colored = true,
+            _ => return Err(USAGE),
+        }
+    }
     let command = match command.as_str() {
         "bytes" => Command::Bytes,
         "page" => Command::Page,
@@ -93,6 +100,7 @@ fn parse_args(words: &[String]) -> Result<Request, Fault> {
         columns,
         rows,
         defensive,
+        colored,
     })
 }
 
@@ -125,7 +133,7 @@ fn drawn(alloc: Global, request: &Request, events: &[Event]) -> Result<Vec<u8>, 
             terminal_dimensions: (request.columns, request.rows),
             keep_running_if_progress_is_empty: true,
             output_is_terminal: true,
-            colored: false,
+            colored: request.colored,
             timestamp: false,
             hide_cursor: false,
             defensive: request.defensive,
