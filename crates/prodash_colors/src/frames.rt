@@ -21,6 +21,7 @@ pub fn frames(alloc: Global, colored: bool) -> Result<Vec<u8>, Fault>
             terminal_dimensions: DIMENSIONS,
             colored,
             timestamp: true,
+            defensive: true,
             ..draw::Options::default()
         },
         throughput: true,
