@@ -13,7 +13,7 @@ use Rattle.std.proofs.lemmas.Cmp.{nat_list_cmp_total, tied_itself}
 use Rattle.std.proofs.lemmas.List.Sorted.{searchable_from_sorted}
 use Rattle.prodash_base.specs.Path.{Path, path_cmp}
 use Rattle.prodash_base.specs.Summaries.{Summary}
-use Rattle.prodash_base.specs.plumbing.KeptTables.{summary_of, entry_of, summaries_of, AreSorted}
+use Rattle.prodash_base.specs.plumbing.KeptTables.{summary_of, entry_of, summaries_of, AreSorted, IsCopy}
 use Rattle.prodash_base.specs.declared.throughput.kept.Kept.{Kept}
 use Rattle.prodash_base.proofs.BranchLaws.{turned}
 use Rattle.prodash_base.proofs.PathMaps.{same_path, same_table}
@@ -23,11 +23,11 @@ is_less Less h = refl
 is_less Equal h = absurd h
 is_less Greater h = absurd h
 
-first : (a b : Bool) → T (a && b) → T a
+pub first : (a b : Bool) → T (a && b) → T a
 first true b p = tt
 first false b p = p
 
-second : (a b : Bool) → T (a && b) → T b
+pub second : (a b : Bool) → T (a && b) → T b
 second true b p = p
 second false b p = absurd p
 
@@ -202,8 +202,8 @@ pub sorted-filter : (p : Path → Bool) (kept : List Kept) → AreSorted kept �
 sorted-filter p kept r = subst (λ es. T (is_sorted path_cmp es)) (sym (map-filter p kept)) (is_sorted-where_key path_cmp p (map entry_of kept) r)
 
 -- elements that are seen alike, one by one
-pub entries-cloned : (kept copies : List Kept) → AllZip (λ k l. entry_of l ≡ entry_of k) kept copies → map entry_of copies ≡ map entry_of kept
+pub entries-cloned : (kept copies : List Kept) → AllZip (λ k l. IsCopy k l) kept copies → map entry_of copies ≡ map entry_of kept
 entries-cloned [] [] h = refl
 entries-cloned [] (y ∷ copies) h = absurd h
 entries-cloned (x ∷ kept) [] h = absurd h
-entries-cloned (x ∷ kept) (y ∷ copies) h = cc (h.0, entries-cloned kept copies h.1)
+entries-cloned (x ∷ kept) (y ∷ copies) h = let first = h.0.entry in let rest = entries-cloned kept copies h.1 in cc (first, rest)

@@ -13,7 +13,9 @@ pub mod PathMaps
 pub mod GhostStructs
 pub mod SampleLaws
 pub mod Summarizing
+pub mod KeptSamples
 pub mod KeptTables
+pub mod KeptBefore
 pub mod ListedRows
 pub mod WorkedSamples
 pub mod WorkedTrackers

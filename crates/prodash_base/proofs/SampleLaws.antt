@@ -102,7 +102,7 @@ after_mark-latest (s ∷ older) =
     (parts.0, parts.1 ∙ ap (λ xs. xs ++ parts.0) (sym cut))
 
 -- what is over a span needs no older samples
-latest_over-append : (span : ℕ) (samples older : List Sample) → span < duration samples → latest_over span (samples ++ older) ≡ latest_over span samples
+pub latest_over-append : (span : ℕ) (samples older : List Sample) → span < duration samples → latest_over span (samples ++ older) ≡ latest_over span samples
 latest_over-append span [] older h = absurd (omega arith)
 latest_over-append span (s ∷ samples) older h =
     elim (nat_lt span s.elapsed) as (λ b. nat_lt span s.elapsed ≡ b → cond b (s ∷ []) (s ∷ latest_over (span - s.elapsed) (samples ++ older)) ≡ cond b (s ∷ []) (s ∷ latest_over (span - s.elapsed) samples)) [

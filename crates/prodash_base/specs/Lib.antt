@@ -19,5 +19,6 @@ pub mod ThroughputMessages
 pub mod Moments
 pub mod Samples
 pub mod Trackers
+pub mod FrameTrackers
 pub mod Summaries
 pub mod plumbing

@@ -7,4 +7,5 @@ pub mod SameMessages
 pub mod Branches
 pub mod ObservationCodes
 pub mod Changes
+pub mod KeptSamples
 pub mod KeptTables

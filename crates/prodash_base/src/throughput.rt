@@ -7,19 +7,22 @@ ghost use Rattle.prodash_base.specs.Trackers.{new_tracker, elapsed_since, update
 ghost use Rattle.prodash_base.specs.Summaries.{kept_samples};
 ghost use Rattle.prodash_base.specs.declared.throughput.sample.Sample.{Sample};
 
+mod frames;
 mod history;
 mod kept;
 mod keys;
 mod rate;
 mod sample;
+mod totals;
 
 use crate::progress::{Key, Row, Step};
 use crate::refusal::Refusal;
 use crate::time::Moment;
 use crate::unit::display;
+pub use frames::FrameThroughput;
 use history::{Change, History, Listed};
 use kept::Kept;
-use keys::{add_observation, kept_samples, retain_listed};
+use keys::{add_observation, keep_all, kept_samples, retain_listed};
 use rate::ONE_SECOND;
 use sample::Observation;
 use std::alloc::Global;
@@ -31,8 +34,8 @@ use std::marker::Model;
 ///
 /// The first observation of a key is a mark, and so is each one that comes more than a second after
 /// the previous mark. The throughput changes at marks only: it is the rise over the fewest of the
-/// latest observations that take more than a second together. Of a key no samples are kept but
-/// those after its last mark.
+/// latest observations that take more than a second together. From one moment to the next no
+/// samples of a key are kept but those after its last mark.
 ///
 /// ```rust
 /// let mut tracker = Throughput::new(alloc);
@@ -49,6 +52,8 @@ pub struct Throughput {
     elapsed: Option<u64>,
     /// What is kept of each key, sorted by key.
     kept: Vec<Kept>,
+    /// Where the next key is looked for first.
+    next: usize,
     /// All observations of these keys.
     history: History,
 }
@@ -81,6 +86,7 @@ impl Throughput {
             updated_at: None,
             elapsed: None,
             kept: Vec::new(alloc),
+            next: 0,
             history: History::new(),
         }
     }
@@ -98,6 +104,7 @@ impl Throughput {
             updated_at: self.updated_at,
             elapsed: self.elapsed,
             kept: self.kept.clone()?,
+            next: self.next,
             history: self.history.after(&Change::Nothing),
         })
     }
@@ -107,13 +114,15 @@ impl Throughput {
     pub fn update_elapsed(&mut self, at: Moment)
         ensures { self.new ≡ update_elapsed self.old at }
     {
+        keep_all(&mut self.kept);
         self.elapsed = elapsed_since(self.updated_at, at);
         self.updated_at = Some(at);
+        self.next = 0;
     }
 
     /// Observes the step of a key, and returns its throughput, with a timespan of one second.
     /// Nothing is recorded without an elapsed time or a step, and the call then returns `None`, as
-    /// it does before the second mark of the key. The samples that are then kept of the key take at
+    /// it does before the second mark of the key. The samples that its next throughputs need take at
     /// most a second together.
     ///
     /// # Errors
@@ -135,12 +144,13 @@ impl Throughput {
         let Some(observation) = observation_of(self.elapsed, step) else {
             return Ok(None);
         };
-        let rate = add_observation(&mut self.kept, alloc, *key, observation)?;
+        let rate = add_observation(&mut self.kept, &mut self.next, alloc, *key, observation)?;
         self.history = self.history.after(&Change::Observed(*key, observation));
         Ok(rate.map(|change| display::Throughput::new(change, ONE_SECOND)))
     }
 
-    /// Returns the number of samples of a key that are kept, which are those after its last mark.
+    /// Returns the number of samples that the next throughputs of a key need, which are those after
+    /// its last mark.
     pub fn kept_samples(&self, key: &Key) -> usize
         ensures { result ≡ length (kept_samples self.now.observations key.now) }
     {

@@ -1,5 +1,6 @@
 use crate::fixtures::{ShortRow, assert_same, key_at, rows};
-use prodash_base::progress::Key;
+use prodash_base::progress::{Key, Row};
+use prodash_base::throughput::FrameThroughput;
 use prodash_base::unit::display;
 use prodash_base::{Refusal, Throughput};
 use std::alloc::Global;
@@ -226,6 +227,77 @@ fn copies_are_equal_and_independent(rt: HostRuntime) -> Result<(), Fail> {
     assert_changes(&rt, alloc, &mut copy, LAST, &[(1, Some(70), Some(20))])?;
     assert_changes(&rt, alloc, &mut tracker, LATER, &[(1, Some(30), None)])?;
     assert_changes(&rt, alloc, &mut later, LATER, &[(1, Some(30), Some(10))])?;
+    Ok(())
+}
+
+/// The moment of a frame, the step of a key in it, whether the frame is kept, and the change in one
+/// second that is shown.
+type Frame = (u64, u64, bool, Option<u64>);
+
+/// Only the steps of frames that were kept count, and the time since the latest of these.
+#[rattlefmt::skip]
+const FRAMES: &[Frame] = &[
+    (0, 3, true, None),
+    (300_000_000, 7, false, None),
+    (400_000_000, 10, true, None),
+    (800_000_000, 20, true, None),
+    (1_200_000_000, 30, true, None),
+    (1_600_000_000, 50, false, Some(33)),
+    (1_600_000_000, 90, false, Some(66)),
+    (2_000_000_000, 90, true, Some(58)),
+    (2_400_000_000, 90, false, Some(58)),
+    (2_800_000_000, 90, true, Some(58)),
+];
+
+/// Draws frames of the key of a row.
+fn draw(
+    rt: &impl Abort,
+    alloc: Global,
+    tracker: &mut FrameThroughput,
+    rows: &[Row],
+    frames: &[Frame],
+) -> Result<(), Refusal> {
+    let key = key_at(&[3]);
+    for (at, step, is_kept, want) in frames {
+        tracker.begin(*at);
+        let got = tracker.observe(alloc, &key, Some(*step))?;
+        let want = want.map(|change| display::Throughput::new(change, 1_000_000_000));
+        assert_same(rt, got, want, *at);
+        if *is_kept {
+            tracker.keep(rows);
+        }
+    }
+    Ok(())
+}
+
+#[test]
+fn frames_that_are_not_kept_are_taken_back(rt: HostRuntime) -> Result<(), Fail> {
+    let alloc = rt.alloc();
+    let listed = rows(alloc, LISTED)?;
+    let mut tracker = FrameThroughput::new(alloc);
+    draw(&rt, alloc, &mut tracker, listed.as_slice(), FRAMES)?;
+    let mut copy = tracker.copy()?;
+    draw(
+        &rt,
+        alloc,
+        &mut tracker,
+        &[],
+        &[(3_000_000_000, 90, true, Some(58))],
+    )?;
+    draw(
+        &rt,
+        alloc,
+        &mut tracker,
+        &[],
+        &[(9_000_000_000, 90, true, None)],
+    )?;
+    draw(
+        &rt,
+        alloc,
+        &mut copy,
+        &[],
+        &[(9_000_000_000, 90, true, Some(0))],
+    )?;
     Ok(())
 }
 

@@ -1,69 +1,83 @@
 //! What a tracker keeps of each key: enough for its next rates.
-ghost use Rattle.std.specs.Prelude.{◌≡◌, ◌≤◌, length, OnOk, OnErr};
-ghost use Rattle.prodash_base.specs.Samples.{duration, one_second};
+ghost use Rattle.std.specs.Prelude.{◌≡◌, ◌≤◌, length};
+ghost use Rattle.prodash_base.specs.plumbing.KeptSamples.{Sums, SumsBefore, earliest};
 
-use crate::progress::{Key, Step};
-use crate::throughput::rate::{is_mark, rate_over};
+use crate::progress::Key;
 use crate::throughput::sample::{Observation, Sample};
+use crate::throughput::totals::Totals;
 use std::alloc::{AllocError, Global};
 use std::collections::VecDeque;
 
-/// What is kept of a key.
+/// What is kept of a key. The observations of a frame can be taken back until they are kept.
 #[derive(Debug, Drop)]
 pub(crate) struct Kept {
     /// The key.
     pub(crate) key: Key,
-    /// The latest value.
-    pub(crate) value: Step,
-    /// The samples after the last mark, the latest first.
-    pub(crate) recent: VecDeque<Sample>,
-    /// The nanoseconds that these samples take together.
-    pub(crate) taken: u64,
-    /// The rate at the last mark.
-    pub(crate) rate: Option<u64>,
-    ghost sum: { taken ≡ duration recent.items },
-    ghost short: { taken ≤ one_second },
+    /// The samples, the latest first.
+    pub(crate) samples: VecDeque<Sample>,
+    /// What is kept beside all of them.
+    pub(crate) latest: Totals,
+    /// How many there were when observations were kept last.
+    pub(crate) settled: usize,
+    /// What was kept beside those; `None` of a key that was new since.
+    pub(crate) before: Option<Totals>,
+    ghost sums: { Sums latest samples.items },
+    ghost sums_before: { SumsBefore settled before samples.items },
 }
 
 impl Clone for Kept {
-    ghost use Rattle.prodash_base.specs.plumbing.KeptTables.{entry_of};
+    ghost use Rattle.prodash_base.specs.plumbing.KeptTables.{IsCopy};
 
-    ghost is_clone = { λ kept copy. entry_of copy ≡ entry_of kept };
+    ghost is_clone = { λ kept copy. IsCopy kept copy };
 
     fn clone(&self) -> Result<Kept, AllocError> {
         Ok(Kept {
             key: self.key,
-            value: self.value,
-            recent: self.recent.clone()?,
-            taken: self.taken,
-            rate: self.rate,
+            samples: self.samples.clone()?,
+            latest: self.latest,
+            settled: self.settled,
+            before: self.before,
         })
     }
 }
 
 impl Kept {
+    ghost use Rattle.std.specs.Prelude.{None, Some, IfSome, OnOk, OnErr, is_some};
     ghost use Rattle.prodash_base.specs.Summaries.{first_summary, next_summary};
-    ghost use Rattle.prodash_base.specs.plumbing.KeptTables.{summary_of};
+    ghost use Rattle.prodash_base.specs.plumbing.KeptTables.{summary_of, before_of};
 
     /// Returns what is kept after a first observation, a mark. It takes no memory.
     pub(crate) fn first(alloc: Global, key: Key, observation: Observation) -> Kept
         ensures key { result.key ≡ key }
         ensures summary { summary_of result ≡ first_summary observation }
+        ensures before { before_of result ≡ None }
     {
         Kept {
             key,
-            value: observation.value,
-            recent: VecDeque::new(alloc),
-            taken: 0,
-            rate: None,
+            samples: VecDeque::new(alloc),
+            latest: Totals {
+                value: observation.value,
+                older: 0,
+                taken: 0,
+                rate: None,
+            },
+            settled: 0,
+            before: None,
         }
     }
 
-    /// Returns the number of samples that are kept.
+    /// Returns the number of samples that are needed.
     pub(crate) fn samples(&self) -> usize
-        ensures { result ≡ length self.now.recent.items }
+        ensures { result ≡ length (summary_of self.now).recent }
     {
-        self.recent.len()
+        self.samples.len() - self.latest.older
+    }
+
+    /// Whether observations of the key have been kept.
+    pub(crate) fn was_kept(&self) -> bool
+        ensures { result ≡ is_some (before_of self.now) }
+    {
+        self.before.is_some()
     }
 
     /// Adds an observation. Returns an `AllocError` if out of memory, and then changes nothing that
@@ -73,20 +87,44 @@ impl Kept {
         ensures ok { OnOk result
             (summary_of self.new ≡ next_summary (summary_of self.old) observation) }
         ensures err { OnErr result (summary_of self.new ≡ summary_of self.old) }
+        ensures before { before_of self.new ≡ before_of self.old }
     {
-        let elapsed = observation.elapsed;
-        self.recent.push_front(Sample {
-            elapsed,
-            change: observation.value.saturating_sub(self.value),
-        })?;
-        self.value = observation.value;
-        if is_mark(self.taken, elapsed) {
-            self.rate = Some(rate_over(&self.recent));
-            self.recent.clear();
-            self.taken = 0;
-        } else {
-            self.taken += elapsed;
-        }
+        self.samples.push_front(self.latest.sample(observation))?;
+        self.latest = self.latest.after(observation, &self.samples);
         Ok(())
     }
+
+    /// Keeps the observations, and forgets the samples that aren't needed.
+    pub(crate) fn keep(&mut self)
+        ensures key { self.new.key ≡ self.old.key }
+        ensures summary { summary_of self.new ≡ summary_of self.old }
+        ensures before { before_of self.new ≡ Some (summary_of self.old) }
+    {
+        self.samples
+            .truncate(self.samples.len() - self.latest.older);
+        self.latest.older = 0;
+        self.settled = self.samples.len();
+        self.before = Some(self.latest);
+    }
+
+    /// Takes back the observations since those that were kept, if there were any.
+    pub(crate) fn take_back(&mut self)
+        ensures key { self.new.key ≡ self.old.key }
+        ensures summary { IfSome (before_of self.old) (λ s. summary_of self.new ≡ s) }
+        ensures before { before_of self.new ≡ before_of self.old }
+    {
+        if let Some(before) = self.before {
+            keep_earliest(&mut self.samples, self.settled);
+            self.latest = before;
+        }
+    }
+}
+
+/// Keeps so many of the earliest samples.
+fn keep_earliest(samples: &mut VecDeque<Sample>, count: usize)
+    requires { count ≤ length samples.old.items }
+    ensures { samples.new.items ≡ earliest count samples.old.items }
+{
+    let more = samples.len() - count;
+    samples.drain(..more);
 }

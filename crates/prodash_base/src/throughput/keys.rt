@@ -1,11 +1,11 @@
 //! What is kept of all keys: a list sorted by key, searched by halving.
-ghost use Rattle.std.specs.Prelude.{◌≡◌, ◌<◌, length, IfOk, OnOk, OnErr, slice_set, slice_index_or};
+ghost use Rattle.std.specs.Prelude.{◌≡◌, ◌<◌, true, length, is_some, IfOk, IfErr, OnOk, OnErr, slice_set, slice_index_or};
 ghost use Rattle.std.specs.FinMap as finite;
-ghost use Rattle.std.specs.List.{filter};
+ghost use Rattle.std.specs.List.{AllZip, filter};
 ghost use Rattle.prodash_base.specs.Rows.{rows_of};
 ghost use Rattle.prodash_base.specs.Trackers.{is_listed};
 ghost use Rattle.prodash_base.specs.Summaries.{next_summary, summary_after, recent_in};
-ghost use Rattle.prodash_base.specs.plumbing.KeptTables.{summary_of, summaries_of, AreSorted, NeverDescends};
+ghost use Rattle.prodash_base.specs.plumbing.KeptTables.{summary_of, summaries_of, before_of, entries_before, AreSorted, IsKept, IsTakenBack, IsAt, IsNewAt, NeverDescends};
 ghost use Rattle.prodash_base.specs.declared.throughput.kept.Kept.{Kept};
 
 use crate::progress::{Key, Row};
@@ -13,10 +13,12 @@ use crate::throughput::kept::Kept;
 use crate::throughput::sample::Observation;
 use std::alloc::{AllocError, Global};
 
-/// Adds an observation of a key, and returns the rate. Returns an `AllocError` if out of memory,
-/// and then changes nothing that is kept.
+/// Adds an observation of a key, which is looked for first at the index `next`. Returns the rate,
+/// and sets `next` to the index after the key. Returns an `AllocError` if out of memory, and then
+/// changes nothing that is kept.
 pub(crate) fn add_observation(
     kept: &mut Vec<Kept>,
+    next: &mut usize,
     alloc: Global,
     key: Key,
     observation: Observation,
@@ -29,13 +31,31 @@ pub(crate) fn add_observation(
         ≡ finite.insert (summaries_of kept.old.items) key
         (summary_after (finite.get (summaries_of kept.old.items) key) observation)) }
     ensures err { OnErr result (summaries_of kept.new.items ≡ summaries_of kept.old.items) }
+    ensures before { entries_before kept.new.items ≡ entries_before kept.old.items }
 {
-    match kept.binary_search_by_key(&key, |known| known.key) {
-        Ok(index) => add_to_known(kept, index, observation),
+    match position(kept, &key, *next) {
+        Ok(index) => {
+            *next = index.wrapping_add(1);
+            add_to_known(kept, index, observation)
+        }
         Err(index) => {
+            *next = index.wrapping_add(1);
             kept.insert(index, Kept::first(alloc, key, observation))?;
             Ok(None)
         }
+    }
+}
+
+/// Returns the index of a key, or else the one at which it belongs. It is looked for first at
+/// `likely`, and then by halving.
+fn position(kept: &[Kept], key: &Key, likely: usize) -> Result<usize, usize>
+    requires { AreSorted kept.now }
+    ensures found { IfOk result (λ index. IsAt kept.now key.now index) }
+    ensures place { IfErr result (λ index. IsNewAt kept.now key.now index) }
+{
+    match kept.get(likely) {
+        Some(known) if known.key == *key => Ok(likely),
+        _ => kept.binary_search_by_key(key, |known| known.key),
     }
 }
 
@@ -59,10 +79,39 @@ fn add_to_known(
     ensures err { OnErr result
         ((d : Kept) → summary_of (slice_index_or kept.new.items index d)
         ≡ summary_of (slice_index_or kept.old.items index d)) }
+    ensures before { (d : Kept) → before_of (slice_index_or kept.new.items index d)
+        ≡ before_of (slice_index_or kept.old.items index d) }
 {
     let known = &mut kept[index];
     known.add(observation)?;
-    Ok(known.rate)
+    Ok(known.latest.rate)
+}
+
+/// Keeps the observations of all keys.
+pub(crate) fn keep_all(kept: &mut [Kept])
+    ensures { AllZip (λ old new. IsKept old new) kept.old kept.new }
+{
+    for known in kept.iter_mut() {
+        known.keep();
+    }
+}
+
+/// Takes back the observations since those that were kept last.
+pub(crate) fn take_back_all(kept: &mut Vec<Kept>)
+    ensures { AllZip (λ old new. IsTakenBack old new)
+        (filter (λ k. is_some (before_of k)) kept.old.items) kept.new.items }
+{
+    kept.retain(|known| known.was_kept());
+    take_back_each(kept);
+}
+
+/// Takes back the observations of these keys since those that were kept last.
+fn take_back_each(kept: &mut [Kept])
+    ensures { AllZip (λ old new. IsTakenBack old new) kept.old kept.new }
+{
+    for known in kept.iter_mut() {
+        known.take_back();
+    }
 }
 
 /// Returns the number of samples that are kept of a key.
@@ -76,16 +125,34 @@ pub(crate) fn kept_samples(kept: &[Kept], key: &Key) -> usize
     }
 }
 
-/// Keeps the keys of the rows, and no others. If the rows ascend by key, halving finds each; else
-/// they are searched one by one.
+/// Keeps the keys of the rows, and no others. If some key isn't found by `are_listed`, and the rows
+/// ascend by key, halving finds each key; else they are searched one by one.
 pub(crate) fn retain_listed(kept: &mut Vec<Kept>, rows: &[Row])
     ensures { kept.new.items ≡ filter (λ k. is_listed (rows_of rows.now) k.key) kept.old.items }
 {
+    if are_listed(kept, rows) {
+        return;
+    }
     if rows.is_sorted_by_key(|row| row.key) {
         kept.retain(|known| is_found(rows, &known.key));
     } else {
         kept.retain(|known| is_listed(rows, &known.key));
     }
+}
+
+/// Returns true only if the rows have all these keys. It looks through the rows once, and finds all
+/// if both ascend by key.
+fn are_listed(kept: &[Kept], rows: &[Row]) -> bool
+    ensures { result ≡ true
+        → filter (λ k. is_listed (rows_of rows.now) k.key) kept.now ≡ kept.now }
+{
+    let mut found = 0;
+    for row in rows {
+        if found < kept.len() && kept[found].key == row.key {
+            found += 1;
+        }
+    }
+    found == kept.len()
 }
 
 /// Returns whether halving finds the key in rows that ascend by key.

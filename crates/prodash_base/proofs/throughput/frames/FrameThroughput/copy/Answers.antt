@@ -1,0 +1,13 @@
+use Rattle.std.proofs.Common.{sym, subst}
+use Rattle.prodash_base.specs.Trackers.{Observations}
+use Rattle.prodash_base.specs.plumbing.KeptTables.{KeepsBoth}
+use Rattle.prodash_base.proofs.KeptBefore.{both-cloned}
+use Rattle.prodash_base.proofs.throughput.frames.FrameThroughput.copy.Goals as goal
+
+pub invariant_of-result : goal.invariant_of-result
+invariant_of-result c =
+    let inside = c.self.inside in
+    let copied = c.in_ok-clone.field-0.items in
+    subst (λ (m : Observations). KeepsBoth m c.after-2.result.observations inside.is_pending copied) (sym c.after.ensures)
+    (subst (λ (m : Observations). KeepsBoth inside.history_before.observations m inside.is_pending copied) (sym c.after-2.ensures)
+    (both-cloned inside.history_before.observations inside.history.observations inside.is_pending inside.kept.items copied c.self.invariant c.in_ok-clone.ensures.cases.0))
