@@ -22,7 +22,6 @@ pub mod ClearedPages
 pub mod ClearedRenderings
 pub mod ClearedPrefixes
 pub mod FittingFrames
-pub mod GhostLists
 pub mod Lists
 pub mod OrderlyFrames
 pub mod OneSpelling

@@ -1,7 +1,7 @@
 -- Rows that a tracker observes: one after another they give what they give as a list.
 use Rattle.std.proofs.Common.{◌≡◌, ℕ, suc, List, [], ◌∷◌, ◌++◌, length, Option, Some, None, refl, ap, map}
 use Rattle.std.specs.Prelude.{zip}
-use Rattle.std.specs.Option.{option_map, option_or}
+use Rattle.std.specs.Option.{option_map}
 use Rattle.prodash_base.specs.Rows.{PathRow}
 use Rattle.prodash_base.specs.Trackers.{Tracker, observe, observe_rows, throughput_of, throughputs_of, step_of, update_elapsed, reconcile, after_frame}
 use Rattle.prodash_line.specs.ProgressRows.{with_throughputs}
@@ -45,8 +45,3 @@ pub observed_at : (tracker : Option Tracker) (at : ℕ) (drawn rows : List PathR
     → option_map (λ t. reconcile t rows) (observe_all (tracker_at at tracker) drawn) ≡ option_map (λ t. after_frame t at drawn rows) tracker
 observed_at None at drawn rows = ap (λ o. option_map (λ t. reconcile t rows) o) (nothing_observed drawn)
 observed_at (Some t) at drawn rows = ap (λ o. option_map (λ t. reconcile t rows) o) (all_observed (update_elapsed t at) drawn)
-
--- a tracker that is there after a frame replaces the one before
-pub replaces : {A : Type 0} (f : A → A) (o : Option A) → option_or (option_map f o) o ≡ option_map f o
-replaces f None = refl
-replaces f (Some a) = refl

@@ -1,7 +1,8 @@
 -- What composing a frame writes, and what it leaves to the next frame.
 use Rattle.std.specs.Prelude.{◌≡◌, ℕ, List, [], ◌∷◌, ◌++◌, ◌+◌, ◌-◌, length, Option, Some, max}
-use Rattle.std.specs.Option.{option_or}
+use Rattle.prodash_base.specs.FrameTrackers.{FrameTracker}
 use Rattle.prodash_base.specs.Rows.{PathRow, rows_of}
+use Rattle.prodash_base.specs.Trackers.{Tracker}
 use Rattle.prodash_base.specs.declared.progress.Row.{Row}
 use Rattle.prodash_line.specs.declared.render.line.draw.input.Input.{Input}
 use Rattle.prodash_line.specs.declared.render.line.draw.input.Options.{Options}
@@ -20,9 +21,10 @@ use Rattle.prodash_line.specs.Lines.{Line}
 use Rattle.prodash_line.specs.DrawnLines.{layout_of}
 use Rattle.prodash_line.specs.Frames.{Body, covered, erased_rows, left_over, cursor_up, redraw, body_signs, widths_of}
 use Rattle.prodash_line.specs.ProgressRows.{DrawnRow, filtered, fitting_count, fitting, more_lines, row_lines, greatest_midpoint}
-use Rattle.prodash_line.specs.Renderer.{Renderer, Drawing, FrameState, drawing_of, body_of, ending_of, state_after, state_at, action_at, remember, frame_bytes, ended_after}
+use Rattle.prodash_line.specs.Renderer.{Renderer, Drawing, FrameState, drawing_of, body_of, ending_of, state_after, state_at, action_at, remember, latest_rows, frame_bytes, ended_after}
 use Rattle.prodash_line.specs.OverwriteBytes.{lines_bytes}
-use Rattle.prodash_line.specs.Observing.{shown_by, observe_all}
+use Rattle.prodash_line.specs.Observing.{shown_by}
+use Rattle.prodash_line.specs.Tracking.{tracker_by}
 
 -- the buffer holds the frame of an input
 abbrev pub HoldsFrame : Renderer → Input → LineWriter → Type 0
@@ -54,15 +56,14 @@ FinishesRedraw layout old widths count new =
     (before : List ℕ) (lines : List Line) → length lines ≡ count → old.bytes.items ≡ before ++ lines_bytes layout (covered layout widths) lines
     → new.bytes.items ≡ before ++ spelling (redraw layout widths lines)
 
--- what a body has left; one that draws no rows leaves the renderer's tracker
-abbrev pub state_by : Renderer → Drawn → FrameState
-state_by r drawn =
-    record { widths = drawn.widths.items; midpoint = drawn.midpoint; tracker = option_or drawn.tracker r.tracker; rows_erased = drawn.rows_erased }
+-- what a frame leaves: what its body has left, and the tracker that is kept then
+abbrev pub state_by : Drawn → Option FrameTracker → List PathRow → FrameState
+state_by drawn tracker rows =
+    record { widths = drawn.widths.items; midpoint = drawn.midpoint; tracker = tracker_by drawn.action tracker rows; rows_erased = drawn.rows_erased }
 
 -- the renderer that keeps what a body has left
 abbrev pub keeping : Drawn → Renderer → Renderer
-keeping drawn r =
-    record r { widths = drawn.widths.items; midpoint = drawn.midpoint; tracker = option_or drawn.tracker r.tracker; rows_erased = drawn.rows_erased }
+keeping drawn r = record r { widths = drawn.widths.items; midpoint = drawn.midpoint; rows_erased = drawn.rows_erased }
 
 -- the renderer that keeps what the frame of a tick has left, and the rows and how many messages had been pushed
 abbrev pub remembering : Composed → List PathRow → ℕ → Renderer → Renderer
@@ -70,66 +71,71 @@ remembering frame rows pushed r = record (keeping frame.drawn r) {
   last_rows = Some rows;
   origin_widths = frame.origin_widths.items;
   seen = Some pushed;
-  ended = ended_after frame.action r.ended;
+  ended = ended_after frame.drawn.action r.ended;
 }
 
--- it is what the frame of an input leaves
-abbrev pub Leaves : Renderer → Input → Drawn → Type 0
-Leaves r input drawn = state_by r drawn ≡ state_at r input
+-- it is what the frame of an input leaves, and does
+pub record Leaves (r : Renderer) (input : Input) (drawn : Drawn) (tracker : Option FrameTracker) : Type 0 where
+  pub state : state_by drawn tracker (latest_rows (remember r input).last_rows) ≡ state_at r input
+  pub action : drawn.action ≡ action_at r input
 
--- what the frame of a tick leaves, with the widths of the latest origins, and what it does after its messages
-pub record LeavesTick (r : Renderer) (input : Input) (frame : Composed) : Type 0 where
-  pub state : Leaves r input frame.drawn
+-- what the frame of a tick leaves, with the widths of the latest origins
+pub record LeavesTick (r : Renderer) (input : Input) (frame : Composed) (tracker : Option FrameTracker) : Type 0 where
+  pub drawn : Leaves r input frame.drawn tracker
   pub origin_widths : frame.origin_widths.items ≡ (remember r input).origin_widths
-  pub action : frame.action ≡ action_at r input
 
--- the rows of a scene, drawn with its options at its moment
-abbrev pub drawing_in : Scene → Drawing
-drawing_in scene = drawing_of (record scene.past.now { options = scene.options }) scene.at (rows_of scene.rows.now)
+-- the renderer of a scene, with its options and this tracker
+abbrev pub renderer_in : Scene → Option Tracker → Renderer
+renderer_in scene tracker = record scene.past.now { options = scene.options; tracker = tracker }
+
+-- the rows of a scene, drawn at its moment
+abbrev pub drawing_in : Scene → Option Tracker → Drawing
+drawing_in scene tracker = drawing_of (renderer_in scene tracker) scene.at (rows_of scene.rows.now)
 
 -- the body of a frame that does this in a scene
-abbrev pub body_in : Action → Scene → Body
-body_in action scene = body_of action (drawing_in scene) (ending_of scene.past.now)
+abbrev pub body_in : Action → Scene → Option Tracker → Body
+body_in action scene tracker = body_of action (drawing_in scene tracker) (ending_of scene.past.now)
 
 -- its signs, over the lines that are left on screen
-abbrev pub body_signs_in : Action → Scene → List ℕ → List Sign
-body_signs_in action scene left = body_signs (layout_of scene.options) left (body_in action scene)
+abbrev pub body_signs_in : Action → Scene → Option Tracker → List ℕ → List Sign
+body_signs_in action scene tracker left = body_signs (layout_of scene.options) left (body_in action scene tracker)
 
--- it is what an action in a scene leaves, over lines on screen of these widths
-abbrev pub LeavesInScene : Action → Scene → List ℕ → Drawn → Type 0
-LeavesInScene action scene widths drawn = state_by scene.past.now drawn ≡ state_after action scene.past.now (drawing_in scene) widths
+-- it is what an action in a scene leaves, over lines on screen of these widths, and `tracker` is what is kept then
+pub record LeavesInScene (does : Action) (scene : Scene) (before : Option Tracker) (widths : List ℕ) (drawn : Drawn) (tracker : Option FrameTracker) : Type 0 where
+  pub state : state_by drawn tracker (rows_of scene.rows.now) ≡ state_after does (record scene.past.now { tracker = before }) (drawing_in scene before) widths
+  pub action : drawn.action ≡ does
 
 -- rows that are drawn by a tracker, if there is one, each with the throughput that it gives
-abbrev pub shown_rows : Options → Drawn → List Row → List DrawnRow
-shown_rows options drawn rows = shown_by drawn.tracker (filtered options.level_filter (rows_of rows))
+abbrev pub shown_rows : Options → Option Tracker → List Row → List DrawnRow
+shown_rows options tracker rows = shown_by tracker (filtered options.level_filter (rows_of rows))
 
 -- and their lines
-abbrev pub shown_lines : Options → ℕ → Drawn → List Row → List Line
-shown_lines options midpoint drawn rows = row_lines options midpoint (shown_rows options drawn rows)
+abbrev pub shown_lines : Options → ℕ → Option Tracker → List Row → List Line
+shown_lines options midpoint tracker rows = row_lines options midpoint (shown_rows options tracker rows)
 
 -- these rows have been drawn besides those of old, aligned to this midpoint
-pub record AddsRows (options : Options) (aligned : ℕ) (rows : List Row) (old new : Drawn) : Type 0 where
-  pub widths : new.widths.items ≡ old.widths.items ++ widths_of (shown_lines options aligned old rows)
-  pub midpoint : new.midpoint ≡ max old.midpoint (greatest_midpoint (shown_rows options old rows))
-  pub tracker : new.tracker ≡ observe_all old.tracker (filtered options.level_filter (rows_of rows))
+pub record AddsRows (options : Options) (aligned : ℕ) (tracker : Option Tracker) (rows : List Row) (old new : Drawn) : Type 0 where
+  pub widths : new.widths.items ≡ old.widths.items ++ widths_of (shown_lines options aligned tracker rows)
+  pub midpoint : new.midpoint ≡ max old.midpoint (greatest_midpoint (shown_rows options tracker rows))
   pub rows_erased : new.rows_erased ≡ old.rows_erased
+  pub action : new.action ≡ old.action
 
 -- the rows of these that fit
-abbrev pub fitting_shown : Options → Drawn → List Row → List DrawnRow
-fitting_shown options drawn rows = fitting (layout_of options) (shown_rows options drawn rows)
+abbrev pub fitting_shown : Options → Option Tracker → List Row → List DrawnRow
+fitting_shown options tracker rows = fitting (layout_of options) (shown_rows options tracker rows)
 
 -- their lines, and the line that counts the others
-abbrev pub fitting_lines : Options → ℕ → Drawn → List Row → List Line
-fitting_lines options midpoint drawn rows =
-    row_lines options midpoint (fitting_shown options drawn rows)
-    ++ more_lines options (length (shown_rows options drawn rows) - length (fitting_shown options drawn rows))
+abbrev pub fitting_lines : Options → ℕ → Option Tracker → List Row → List Line
+fitting_lines options midpoint tracker rows =
+    row_lines options midpoint (fitting_shown options tracker rows)
+    ++ more_lines options (length (shown_rows options tracker rows) - length (fitting_shown options tracker rows))
 
--- the rows that fit have been drawn besides those of old, aligned to this midpoint, and all have been observed
-pub record AddsFitting (options : Options) (aligned : ℕ) (rows : List Row) (old new : Drawn) : Type 0 where
-  pub widths : new.widths.items ≡ old.widths.items ++ widths_of (fitting_lines options aligned old rows)
-  pub midpoint : new.midpoint ≡ max old.midpoint (greatest_midpoint (fitting_shown options old rows))
-  pub tracker : new.tracker ≡ observe_all old.tracker (filtered options.level_filter (rows_of rows))
+-- the rows that fit have been drawn besides those of old, aligned to this midpoint
+pub record AddsFitting (options : Options) (aligned : ℕ) (tracker : Option Tracker) (rows : List Row) (old new : Drawn) : Type 0 where
+  pub widths : new.widths.items ≡ old.widths.items ++ widths_of (fitting_lines options aligned tracker rows)
+  pub midpoint : new.midpoint ≡ max old.midpoint (greatest_midpoint (fitting_shown options tracker rows))
   pub rows_erased : new.rows_erased ≡ old.rows_erased
+  pub action : new.action ≡ old.action
 
 -- how many of the rows are drawn if all that pass the filter are
 abbrev pub count_of : Option (ℕ × ℕ) → List Row → ℕ
@@ -144,9 +150,9 @@ pub record SplitsFitting (layout : Layout) (levels : Option (ℕ × ℕ)) (rows 
 abbrev pub more_of : Options → List Row → List Line
 more_of options rows = more_lines options (count_of options.level_filter rows)
 
--- these rows have been counted besides those of old, and observed
+-- these rows have been counted besides those of old
 pub record CountsRows (options : Options) (rows : List Row) (old new : Drawn) : Type 0 where
   pub widths : new.widths.items ≡ old.widths.items ++ widths_of (more_of options rows)
   pub midpoint : new.midpoint ≡ old.midpoint
-  pub tracker : new.tracker ≡ observe_all old.tracker (filtered options.level_filter (rows_of rows))
   pub rows_erased : new.rows_erased ≡ old.rows_erased
+  pub action : new.action ≡ old.action

@@ -11,6 +11,7 @@ pub mod Writing
 pub mod Padding
 pub mod OverwriteBytes
 pub mod Observing
+pub mod Tracking
 pub mod FrameWriting
 pub mod Screens
 pub mod Writers

@@ -22,6 +22,7 @@ mod screen;
 mod state;
 mod styles;
 mod text;
+mod tracker;
 
 use frame::{compose, compose_closing, compose_resized};
 pub use input::{Answer, Input, Options};
@@ -36,6 +37,7 @@ use screen::write_frame;
 use state::Past;
 pub use state::State;
 use std::alloc::Global;
+use tracker::keep;
 
 /// Draws the frame of an input: composes it, writes all its bytes to the screen and flushes them.
 /// A frame without bytes does nothing to the screen.
@@ -122,9 +124,19 @@ fn tick<S: Screen>(
     ensures { Renders state.old (Input.Tick at show (Some seen)) (S.state screen.old) result
         state.new (S.state screen.new) }
 {
-    let frame = compose(alloc, &mut state.frame, &state.past, at, show, &seen)?;
+    let tracker = &mut state.tracker;
+    let frame = compose(
+        alloc,
+        &mut state.frame,
+        &state.past,
+        tracker,
+        at,
+        show,
+        &seen,
+    )?;
     send(screen, &mut state.past, state.frame.bytes())?;
     let (rows, _, copy_state) = seen;
+    keep(&mut state.tracker, frame.drawn.action, rows.as_slice());
     Ok(state.past.remember(frame, rows, copy_state))
 }
 
@@ -141,8 +153,10 @@ fn resize<S: Screen>(
     ensures { let input = Input.Resize at show dimensions.0 dimensions.1 in
         Renders state.old input (S.state screen.old) result state.new (S.state screen.new) }
 {
-    let drawn = compose_resized(alloc, &mut state.frame, &state.past, at, dimensions, show)?;
+    let (past, tracker) = (&state.past, &mut state.tracker);
+    let drawn = compose_resized(alloc, &mut state.frame, past, tracker, at, dimensions, show)?;
     send(screen, &mut state.past, state.frame.bytes())?;
+    keep(&mut state.tracker, drawn.action, state.past.latest_rows());
     state.past.resize(dimensions, drawn);
     Ok(Answer::Drawn)
 }

@@ -1,7 +1,5 @@
 //! What a frame does after its messages, and what it leaves to the next one.
 
-use prodash_base::throughput::Throughput;
-
 /// What a frame does after its messages.
 #[derive(Clone, Copy, Debug, PartialEq, Eq)]
 pub(crate) enum Action {
@@ -22,11 +20,10 @@ pub(crate) struct Drawn {
     pub(crate) widths: Vec<u16>,
     /// The greatest midpoint of the frame drawn last.
     pub(crate) midpoint: u16,
-    /// The tracker, if there is one, after a frame that draws rows. A frame that draws none leaves
-    /// the tracker as it was.
-    pub(crate) tracker: Option<Throughput>,
     /// Whether the rows of tasks have been erased since they were last drawn.
     pub(crate) rows_erased: bool,
+    /// What the frame does after its messages.
+    pub(crate) action: Action,
 }
 
 /// What the composed frame of a tick leaves to the next one.
@@ -36,6 +33,4 @@ pub(crate) struct Composed {
     pub(crate) drawn: Drawn,
     /// The widths of the latest origins.
     pub(crate) origin_widths: Vec<u16>,
-    /// What it does after its messages.
-    pub(crate) action: Action,
 }

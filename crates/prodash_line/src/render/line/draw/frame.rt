@@ -1,15 +1,15 @@
 //! Frames: the lines of messages and rows, written over the lines on screen.
 ghost use Rattle.std.specs.Prelude.{◌≡◌, [], ◌++◌, Some, drop, OnOk, IfOk, IsOkUnless};
-ghost use Rattle.std.specs.Option.{option_map};
-ghost use Rattle.prodash_base.specs.Rows.{row_of, rows_of};
-ghost use Rattle.prodash_base.specs.Trackers as trackers;
+ghost use Rattle.prodash_base.specs.Rows.{rows_of};
 ghost use Rattle.prodash_line.specs.declared.render.line.draw.input.Input.TheVariants as inputs;
 ghost use Rattle.prodash_line.specs.declared.render.line.draw.action.Action.TheVariants as actions;
 ghost use Rattle.prodash_line.specs.Signs.{spelling};
 ghost use Rattle.prodash_line.specs.Frames.{first_width, covered, redraw, cursor_up};
 ghost use Rattle.prodash_line.specs.MessageLines.{message_lines, widths_of_origins};
 ghost use Rattle.prodash_line.specs.Renderer.{opening_of, ending_of, closing_signs, closing_bytes};
-ghost use Rattle.prodash_line.specs.Observing.{throughput_by, observe_by};
+ghost use Rattle.prodash_line.specs.Observing.{observe_all};
+ghost use Rattle.prodash_line.specs.Tracking.{kept_of, ahead_of, tracked};
+ghost use Rattle.prodash_line.specs.ProgressRows.{filtered};
 ghost use Rattle.prodash_line.specs.OverwriteBytes.{blank_bytes};
 ghost use Rattle.prodash_line.specs.DrawnLines.{layout_of};
 ghost use Rattle.prodash_line.specs.FrameWriting.{HoldsFrame, action_start, AppendsSigns, AppendsOver, Leaves, LeavesTick, LeavesInScene, FinishesRedraw, AddsRows, AddsFitting, body_signs_in, drawing_in, shown_lines, fitting_lines};
@@ -24,13 +24,13 @@ use crate::render::line::draw::more::{split_fitting, write_more};
 use crate::render::line::draw::row::{is_row_drawn, push_row};
 use crate::render::line::draw::state::{Past, keep_latest};
 use crate::render::line::draw::text::text_width;
+use crate::render::line::draw::tracker::{begin, observe};
 use crate::render::line::page::Sign;
 use prodash_base::Refusal;
 use prodash_base::messages::{Message, MessageCopyState, Messages};
 use prodash_base::progress::{Row, Rows};
-use prodash_base::throughput::Throughput;
+use prodash_base::throughput::FrameThroughput;
 use prodash_base::time::Moment;
-use prodash_base::unit::display;
 use std::alloc::{AllocError, Global};
 
 /// What the body of a frame is drawn from.
@@ -52,13 +52,16 @@ pub(crate) fn compose(
     alloc: Global,
     out: &mut LineWriter,
     past: &Past,
+    tracker: &mut Option<FrameThroughput>,
     at: Moment,
     show: bool,
     seen: &(Rows, Messages, MessageCopyState),
 ) -> Result<Composed, Refusal>
-    ensures bytes { OnOk result
-        (HoldsFrame past.now (inputs.Tick at show (Some seen.now)) out.new) }
-    ensures state { IfOk result (LeavesTick past.now (inputs.Tick at show (Some seen.now))) }
+    ensures bytes { OnOk result (let input = inputs.Tick at show (Some seen.now) in
+        HoldsFrame (tracked past.now tracker.old) input out.new) }
+    ensures state { IfOk result (λ frame. let input = inputs.Tick at show (Some seen.now) in
+        LeavesTick (tracked past.now tracker.old) input frame tracker.new) }
+    ensures kept { kept_of tracker.new ≡ kept_of tracker.old }
     ensures reason { IsOkUnless result Refusal.Memory }
 {
     let (_, height) = past.options.terminal_dimensions;
@@ -83,11 +86,10 @@ pub(crate) fn compose(
         at,
         rows: seen.0.as_slice(),
     };
-    let drawn = write_body(alloc, out, &scene, action, left)?;
+    let drawn = write_body(alloc, out, tracker, &scene, action, left)?;
     Ok(Composed {
         drawn,
         origin_widths,
-        action,
     })
 }
 
@@ -107,14 +109,17 @@ pub(crate) fn compose_resized(
     alloc: Global,
     out: &mut LineWriter,
     past: &Past,
+    tracker: &mut Option<FrameThroughput>,
     at: Moment,
     dimensions: (u16, u16),
     show: bool,
 ) -> Result<Drawn, Refusal>
-    ensures bytes { OnOk result
-        (HoldsFrame past.now (inputs.Resize at show dimensions.0 dimensions.1) out.new) }
+    ensures bytes { OnOk result (let input = inputs.Resize at show dimensions.0 dimensions.1 in
+        HoldsFrame (tracked past.now tracker.old) input out.new) }
     ensures state { IfOk result
-        (Leaves past.now (inputs.Resize at show dimensions.0 dimensions.1)) }
+        (λ drawn. let input = inputs.Resize at show dimensions.0 dimensions.1 in
+        Leaves (tracked past.now tracker.old) input drawn tracker.new) }
+    ensures kept { kept_of tracker.new ≡ kept_of tracker.old }
     ensures reason { IsOkUnless result Refusal.Memory }
 {
     let options = Options {
@@ -129,7 +134,7 @@ pub(crate) fn compose_resized(
         at,
         rows: past.latest_rows(),
     };
-    let drawn = write_body(alloc, out, &scene, action, &past.widths)?;
+    let drawn = write_body(alloc, out, tracker, &scene, action, &past.widths)?;
     Ok(drawn)
 }
 
@@ -156,13 +161,16 @@ fn begin_frame(
 fn write_body(
     alloc: Global,
     out: &mut LineWriter,
+    tracker: &mut Option<FrameThroughput>,
     scene: &Scene<'_>,
     action: Action,
     left: &[u16],
 ) -> Result<Drawn, Refusal>
-    ensures bytes { OnOk result
-        (AppendsSigns out.old (body_signs_in action scene.now left.now) out.new) }
-    ensures state { IfOk result (LeavesInScene action scene.now left.now) }
+    ensures bytes { OnOk result (let before = kept_of tracker.old in
+        AppendsSigns out.old (body_signs_in action scene.now before left.now) out.new) }
+    ensures state { IfOk result (λ drawn. let before = kept_of tracker.old in
+        LeavesInScene action scene.now before left.now drawn tracker.new) }
+    ensures kept { kept_of tracker.new ≡ kept_of tracker.old }
     ensures reason { IsOkUnless result Refusal.Memory }
 {
     let midpoint = scene.past.midpoint();
@@ -170,17 +178,17 @@ fn write_body(
         Action::Leave => Ok(Drawn {
             widths: Vec::from_slice(alloc, left)?,
             midpoint,
-            tracker: None,
             rows_erased: scene.past.rows_erased(),
+            action,
         }),
-        Action::Redraw => redraw_rows(alloc, out, scene, left),
+        Action::Redraw => redraw_rows(alloc, out, tracker, scene, left),
         Action::Erase => {
             write_no_rows(out, scene.options.layout(), left)?;
             Ok(Drawn {
                 widths: Vec::new(alloc),
                 midpoint,
-                tracker: None,
                 rows_erased: true,
+                action,
             })
         }
         Action::Close => {
@@ -188,8 +196,8 @@ fn write_body(
             Ok(Drawn {
                 widths: Vec::new(alloc),
                 midpoint,
-                tracker: None,
                 rows_erased: scene.past.rows_erased(),
+                action,
             })
         }
     }
@@ -271,13 +279,17 @@ fn write_messages(
 fn redraw_rows(
     alloc: Global,
     out: &mut LineWriter,
+    tracker: &mut Option<FrameThroughput>,
     scene: &Scene<'_>,
     widths: &[u16],
 ) -> Result<Drawn, Refusal>
     ensures bytes { OnOk result
         (let layout = layout_of scene.now.options in
-        AppendsSigns out.old (redraw layout widths.now (drawing_in scene.now).lines) out.new) }
-    ensures state { IfOk result (LeavesInScene actions.Redraw scene.now widths.now) }
+        let lines = (drawing_in scene.now (kept_of tracker.old)).lines in
+        AppendsSigns out.old (redraw layout widths.now lines) out.new) }
+    ensures state { IfOk result (λ drawn. let before = kept_of tracker.old in
+        LeavesInScene actions.Redraw scene.now before widths.now drawn tracker.new) }
+    ensures kept { kept_of tracker.new ≡ kept_of tracker.old }
     ensures reason { IsOkUnless result Refusal.Memory }
 {
     let midpoint = scene.past.midpoint();
@@ -287,11 +299,13 @@ fn redraw_rows(
     let mut drawn = Drawn {
         widths: Vec::new(alloc),
         midpoint: 0,
-        tracker: scene.past.tracker_at(alloc, scene.at, rows)?,
         rows_erased: false,
+        action: Action::Redraw,
     };
-    write_fitting(alloc, out, &mut drawn, options, midpoint, widths, rows)?;
-    reconcile(&mut drawn.tracker, rows);
+    begin(tracker, scene.at);
+    write_fitting(
+        alloc, out, tracker, &mut drawn, options, midpoint, widths, rows,
+    )?;
     finish_redraw(out, layout, widths, drawn.widths.len())?;
     Ok(drawn)
 }
@@ -301,6 +315,7 @@ fn redraw_rows(
 fn write_fitting(
     alloc: Global,
     out: &mut LineWriter,
+    tracker: &mut Option<FrameThroughput>,
     drawn: &mut Drawn,
     options: &Options,
     midpoint: u16,
@@ -309,17 +324,22 @@ fn write_fitting(
 ) -> Result<(), Refusal>
     ensures bytes { OnOk result
         (let layout = layout_of options.now in
-        let lines = fitting_lines options.now midpoint drawn.old rows.now in
+        let lines = fitting_lines options.now midpoint (ahead_of tracker.old) rows.now in
         AppendsOver layout out.old (covered layout widths.now) lines out.new) }
-    ensures drawn { OnOk result
-        (AddsFitting options.now midpoint rows.now drawn.old drawn.new) }
+    ensures drawn { OnOk result (let ahead = ahead_of tracker.old in
+        AddsFitting options.now midpoint ahead rows.now drawn.old drawn.new) }
+    ensures ahead { OnOk result (ahead_of tracker.new ≡ observe_all (ahead_of tracker.old)
+        (filtered options.now.level_filter (rows_of rows.now))) }
+    ensures kept { kept_of tracker.new ≡ kept_of tracker.old }
     ensures reason { IsOkUnless result Refusal.Memory }
 {
     let layout = options.layout();
     let (shown, others) = split_fitting(layout, options.level_filter, rows);
     let covered = layout.covered(widths);
-    write_rows(alloc, out, drawn, options, midpoint, covered, shown)?;
-    write_more(alloc, out, drawn, options, others)?;
+    write_rows(
+        alloc, out, tracker, drawn, options, midpoint, covered, shown,
+    )?;
+    write_more(alloc, out, tracker, drawn, options, others)?;
     Ok(())
 }
 
@@ -328,6 +348,7 @@ fn write_fitting(
 fn write_rows(
     alloc: Global,
     out: &mut LineWriter,
+    tracker: &mut Option<FrameThroughput>,
     drawn: &mut Drawn,
     options: &Options,
     midpoint: u16,
@@ -335,10 +356,13 @@ fn write_rows(
     rows: &[Row],
 ) -> Result<(), Refusal>
     ensures bytes { OnOk result
-        (let lines = shown_lines options.now midpoint drawn.old rows.now in
+        (let lines = shown_lines options.now midpoint (ahead_of tracker.old) rows.now in
         AppendsOver (layout_of options.now) out.old widths.now lines out.new) }
-    ensures drawn { OnOk result
-        (AddsRows options.now midpoint rows.now drawn.old drawn.new) }
+    ensures drawn { OnOk result (let ahead = ahead_of tracker.old in
+        AddsRows options.now midpoint ahead rows.now drawn.old drawn.new) }
+    ensures ahead { OnOk result (ahead_of tracker.new ≡ observe_all (ahead_of tracker.old)
+        (filtered options.now.level_filter (rows_of rows.now))) }
+    ensures kept { kept_of tracker.new ≡ kept_of tracker.old }
     ensures reason { IsOkUnless result Refusal.Memory }
 {
     let layout = options.layout();
@@ -348,7 +372,7 @@ fn write_rows(
             continue;
         }
         let (old_width, others) = split_row(left);
-        let throughput = observe(alloc, &mut drawn.tracker, row)?;
+        let throughput = observe(alloc, tracker, row)?;
         start_row(out, layout)?;
         let own_midpoint = push_row(alloc, out, options, midpoint, row, throughput)?;
         drawn.midpoint = drawn.midpoint.max(own_midpoint);
@@ -356,33 +380,6 @@ fn write_rows(
         left = others;
     }
     Ok(())
-}
-
-/// Removes from a tracker, if there is one, what it has observed of other rows than these.
-fn reconcile(tracker: &mut Option<Throughput>, rows: &[Row])
-    ensures { tracker.new ≡ option_map (λ t. trackers.reconcile t (rows_of rows.now)) tracker.old }
-{
-    if let Some(tracker) = tracker {
-        tracker.reconcile(rows);
-    }
-}
-
-/// Observes a row, and returns the throughput that it gives, if there is a tracker.
-pub(super) fn observe(
-    alloc: Global,
-    tracker: &mut Option<Throughput>,
-    row: &Row,
-) -> Result<Option<display::Throughput>, Refusal>
-    ensures value { IfOk result
-        (λ throughput. throughput ≡ throughput_by tracker.old (row_of row.now)) }
-    ensures after { OnOk result (tracker.new ≡ observe_by tracker.old (row_of row.now)) }
-    ensures reason { IsOkUnless result Refusal.Memory }
-{
-    let Some(tracker) = tracker else {
-        return Ok(None);
-    };
-    let step = row.progress.as_ref().map(|value| value.step);
-    tracker.update_and_get(alloc, &row.key, step)
 }
 
 /// Blanks the lines on screen below the first `drawn` rows, and moves the cursor up to the first

@@ -8,19 +8,20 @@ ghost use Rattle.prodash_line.specs.Lines.{columns_of};
 ghost use Rattle.prodash_line.specs.DrawnLines.{as_drawn};
 ghost use Rattle.prodash_line.specs.Writing.{DrawsLine};
 ghost use Rattle.prodash_line.specs.Observing.{observe_all};
+ghost use Rattle.prodash_line.specs.Tracking.{kept_of, ahead_of};
 ghost use Rattle.prodash_line.specs.FrameWriting.{AppendsOver, SplitsFitting, CountsRows, count_of, more_of};
 
 use crate::render::line::draw::action::Drawn;
 use crate::render::line::draw::clearing::start_row;
-use crate::render::line::draw::frame::observe;
 use crate::render::line::draw::input::Options;
 use crate::render::line::draw::layout::Layout;
 use crate::render::line::draw::line_writer::LineWriter;
 use crate::render::line::draw::row::is_row_drawn;
+use crate::render::line::draw::tracker::observe_rows;
 use itoa::Buffer;
 use prodash_base::Refusal;
 use prodash_base::progress::{Level, Row};
-use prodash_base::throughput::Throughput;
+use prodash_base::throughput::FrameThroughput;
 use std::alloc::{AllocError, Global};
 
 /// Returns the rows up to the last one that is drawn and fits the window, and the others.
@@ -79,6 +80,7 @@ fn end_of(levels: Option<(Level, Level)>, rows: &[Row], most: usize) -> usize
 pub(crate) fn write_more(
     alloc: Global,
     out: &mut LineWriter,
+    tracker: &mut Option<FrameThroughput>,
     drawn: &mut Drawn,
     options: &Options,
     others: &[Row],
@@ -87,6 +89,9 @@ pub(crate) fn write_more(
         (let lines = more_of options.now others.now in
         AppendsOver (layout_of options.now) out.old [] lines out.new) }
     ensures drawn { OnOk result (CountsRows options.now others.now drawn.old drawn.new) }
+    ensures ahead { OnOk result (ahead_of tracker.new ≡ observe_all (ahead_of tracker.old)
+        (filtered options.now.level_filter (rows_of others.now))) }
+    ensures kept { kept_of tracker.new ≡ kept_of tracker.old }
     ensures reason { IsOkUnless result Refusal.Memory }
 {
     let hidden = count_drawn(options.level_filter, others);
@@ -94,7 +99,7 @@ pub(crate) fn write_more(
     if hidden > 0 && height >= 2 {
         drawn.widths.push(write_count(out, options, hidden)?)?;
     }
-    observe_rows(alloc, &mut drawn.tracker, options.level_filter, others)
+    observe_rows(alloc, tracker, options.level_filter, others)
 }
 
 /// Writes the line that counts so many rows. Returns its width as it is cut.
@@ -119,24 +124,5 @@ fn push_count(out: &mut LineWriter, options: &Options, count: usize) -> Result<(
     out.push(None, " … and ")?;
     out.push_printable(digits.format(count).as_bytes())?;
     out.push_printable(b" more")?;
-    Ok(())
-}
-
-/// Observes the rows that the filter of levels lets through, if there is a tracker.
-fn observe_rows(
-    alloc: Global,
-    tracker: &mut Option<Throughput>,
-    levels: Option<(Level, Level)>,
-    rows: &[Row],
-) -> Result<(), Refusal>
-    ensures after { OnOk result
-        (tracker.new ≡ observe_all tracker.old (filtered levels (rows_of rows.now))) }
-    ensures reason { IsOkUnless result Refusal.Memory }
-{
-    for row in rows {
-        if is_row_drawn(levels, row) {
-            observe(alloc, tracker, row)?;
-        }
-    }
     Ok(())
 }

@@ -1,10 +1,10 @@
 //! What the renderer keeps from frame to frame.
-ghost use Rattle.std.specs.Prelude.{◌≡◌, [], Some, IfSome, IfOk, IsOkUnless};
+ghost use Rattle.std.specs.Prelude.{◌≡◌, [], false, Some, IfSome, IfOk, IsOkUnless};
 ghost use Rattle.prodash_base.specs.Rows.{rows_of};
 ghost use Rattle.prodash_line.specs.Renderer.{IsEndRefusal, new_renderer, rows_changed, draws_again, is_drawn, erases_at_end, closes_at, hides_cursor, is_cursor_hidden, latest_rows, resized, tick_action, resize_action, answer_of};
 ghost use Rattle.prodash_line.specs.FrameWriting.{keeping, remembering};
+ghost use Rattle.prodash_line.specs.Tracking.{kept_of};
 ghost use Rattle.prodash_base.specs.Rings.{keep_last};
-ghost use Rattle.prodash_line.specs.Observing.{tracker_at};
 
 use crate::render::line::draw::action::{Action, Composed, Drawn};
 use crate::render::line::draw::input::{Answer, Options};
@@ -12,8 +12,7 @@ use crate::render::line::draw::line_writer::LineWriter;
 use prodash_base::Refusal;
 use prodash_base::messages::MessageCopyState;
 use prodash_base::progress::{Row, Rows};
-use prodash_base::throughput::Throughput;
-use prodash_base::time::Moment;
+use prodash_base::throughput::FrameThroughput;
 use std::alloc::Global;
 use std::marker::Model;
 
@@ -31,9 +30,11 @@ pub struct State {
     pub(crate) past: Past,
     /// The bytes of a frame while it is composed. Each frame reuses its memory.
     pub(crate) frame: LineWriter,
+    /// Measures throughput, if it is shown.
+    pub(crate) tracker: Option<FrameThroughput>,
 }
 
-/// What the next frame is composed from. Contracts see a `Renderer`.
+/// What the next frame is composed from. Contracts see a `Renderer` without a tracker.
 #[derive(Drop)]
 pub(crate) struct Past {
     pub(crate) options: Options,
@@ -47,8 +48,6 @@ pub(crate) struct Past {
     pub(crate) origin_widths: Vec<u16>,
     /// What the latest accepted tick with a root saw of the messages.
     seen: Option<MessageCopyState>,
-    /// Measures throughput, if it is shown.
-    tracker: Option<Throughput>,
     /// Whether a frame that clears its rows has erased those of tasks since they were last drawn.
     rows_erased: bool,
     /// Whether a frame has hidden the cursor.
@@ -81,6 +80,7 @@ impl Ending {
 }
 
 impl Model for Past {
+    ghost use Rattle.std.specs.Prelude.{None};
     ghost use Rattle.std.specs.Option.{option_map};
     ghost use Rattle.prodash_line.specs.Renderer.{Renderer};
     ghost use Rattle.prodash_line.specs.plumbing.Endings.{refusal_of};
@@ -98,7 +98,7 @@ impl Model for Past {
       last_rows = p.last_rows;
       origin_widths = p.origin_widths.items;
       seen = p.seen;
-      tracker = p.tracker;
+      tracker = None;
       rows_erased = p.rows_erased;
       cursor_hidden = p.cursor_hidden;
       ended = option_map refusal_of p.ending;
@@ -107,6 +107,7 @@ impl Model for Past {
 
 impl Model for State {
     ghost use Rattle.prodash_line.specs.Renderer.{Renderer};
+    ghost use Rattle.prodash_line.specs.Tracking.{tracked};
     ghost use Rattle.std.specs.Coded.{codes};
     ghost use Rattle.std.specs.FinMap as finite;
 
@@ -114,7 +115,7 @@ impl Model for State {
 
     ghost coded = { Prim.hlevel (codes, finite.code) };
 
-    ghost view = { λ s. s.past };
+    ghost view = { λ s. tracked s.past s.tracker };
 }
 
 impl State {
@@ -124,8 +125,13 @@ impl State {
         ensures { result ≡ new_renderer options throughput }
     {
         State {
-            past: Past::new(alloc, options, throughput),
+            past: Past::new(alloc, options),
             frame: LineWriter::new(alloc),
+            tracker: if throughput {
+                Some(FrameThroughput::new(alloc))
+            } else {
+                None
+            },
         }
     }
 
@@ -139,8 +145,9 @@ impl State {
         ensures reason { IsOkUnless result Refusal.Memory }
     {
         Ok(State {
-            past: self.past.deep_clone(alloc)?,
+            past: self.past.deep_clone()?,
             frame: LineWriter::new(alloc),
+            tracker: self.copied_tracker()?,
         })
     }
 
@@ -160,12 +167,23 @@ impl State {
     {
         self.past.ended()
     }
+
+    /// Returns an equal tracker, if there is one.
+    fn copied_tracker(&self) -> Result<Option<FrameThroughput>, Refusal>
+        ensures ok { IfOk result (λ tracker. kept_of tracker ≡ self.now.tracker) }
+        ensures reason { IsOkUnless result Refusal.Memory }
+    {
+        match &self.tracker {
+            None => Ok(None),
+            Some(tracker) => Ok(Some(tracker.copy()?)),
+        }
+    }
 }
 
 impl Past {
     /// Returns the renderer before its first frame.
-    fn new(alloc: Global, options: Options, throughput: bool) -> Past
-        ensures { result ≡ new_renderer options throughput }
+    fn new(alloc: Global, options: Options) -> Past
+        ensures { result ≡ new_renderer options false }
     {
         Past {
             options,
@@ -174,11 +192,6 @@ impl Past {
             last_rows: None,
             origin_widths: Vec::new(alloc),
             seen: None,
-            tracker: if throughput {
-                Some(Throughput::new(alloc))
-            } else {
-                None
-            },
             rows_erased: false,
             cursor_hidden: false,
             ending: None,
@@ -186,7 +199,7 @@ impl Past {
     }
 
     /// Returns an equal copy.
-    fn deep_clone(&self, alloc: Global) -> Result<Past, Refusal>
+    fn deep_clone(&self) -> Result<Past, Refusal>
         ensures ok { IfOk result (λ copy. copy ≡ self.now) }
         ensures reason { IsOkUnless result Refusal.Memory }
     {
@@ -197,7 +210,6 @@ impl Past {
             last_rows: self.last_rows.clone()?,
             origin_widths: self.origin_widths.clone()?,
             seen: self.seen,
-            tracker: self.copied_tracker(alloc, self.latest_rows())?,
             rows_erased: self.rows_erased,
             cursor_hidden: self.cursor_hidden,
             ending: self.ending,
@@ -321,34 +333,6 @@ impl Past {
         }
     }
 
-    /// Returns a copy of the tracker, if there is one. It will observe these rows.
-    fn copied_tracker(&self, alloc: Global, rows: &[Row]) -> Result<Option<Throughput>, Refusal>
-        ensures ok { IfOk result (λ tracker. tracker ≡ self.now.tracker) }
-        ensures reason { IsOkUnless result Refusal.Memory }
-    {
-        match &self.tracker {
-            None => Ok(None),
-            Some(tracker) => Ok(Some(tracker.copy(alloc, rows)?)),
-        }
-    }
-
-    /// Returns a copy of the tracker, if there is one, at a moment. It will observe these rows.
-    pub(crate) fn tracker_at(
-        &self,
-        alloc: Global,
-        at: Moment,
-        rows: &[Row],
-    ) -> Result<Option<Throughput>, Refusal>
-        ensures ok { IfOk result (λ tracker. tracker ≡ tracker_at at self.now.tracker) }
-        ensures reason { IsOkUnless result Refusal.Memory }
-    {
-        let mut tracker = self.copied_tracker(alloc, rows)?;
-        if let Some(tracker) = &mut tracker {
-            tracker.update_elapsed(at);
-        }
-        Ok(tracker)
-    }
-
     /// Records whether the cursor is hidden once a frame is written.
     pub(crate) fn keep_cursor(&mut self)
         ensures { self.new ≡ record self.old { cursor_hidden = is_cursor_hidden self.old } }
@@ -360,13 +344,14 @@ impl Past {
     /// frame ends the renderer. Returns the answer to the tick.
     pub(crate) fn remember(&mut self, frame: Composed, rows: Rows, seen: MessageCopyState) -> Answer
         ensures state { self.new ≡ remembering frame rows seen self.old }
-        ensures answer { result ≡ answer_of frame.action }
+        ensures answer { result ≡ answer_of frame.drawn.action }
     {
+        let action = frame.drawn.action;
         self.keep(frame.drawn);
         self.last_rows = Some(rows);
         self.origin_widths = frame.origin_widths;
         self.seen = Some(seen);
-        match frame.action {
+        match action {
             Action::Close => {
                 self.ending = Some(Ending::Closed);
                 Answer::Ended
@@ -382,9 +367,6 @@ impl Past {
         self.widths = drawn.widths;
         self.last_progress_midpoint = drawn.midpoint;
         self.rows_erased = drawn.rows_erased;
-        if drawn.tracker.is_some() {
-            self.tracker = drawn.tracker;
-        }
     }
 
     /// Sets the size of the terminal, and records what the written frame left.

@@ -1,23 +1,25 @@
 use Rattle.std.proofs.Common.{Some, subst, ap, ◌∙◌}
 use Rattle.prodash_line.specs.declared.render.line.draw.input.Input.TheVariants.{Tick}
 use Rattle.prodash_line.specs.Screens.{WritesFrame}
-use Rattle.prodash_line.specs.Renderer.{Renderer, is_cursor_hidden, frame_bytes, answer_of}
-use Rattle.prodash_line.specs.FrameWriting.{LeavesTick}
+use Rattle.prodash_line.specs.Renderer.{Renderer, action_at, frame_bytes, answer_of, next}
+use Rattle.prodash_line.specs.Tracking.{tracked, tracker_by}
 use Rattle.prodash_line.proofs.Ticks.{remembers}
 use Rattle.prodash_line.proofs.render.line.draw.tick.Goals as goal
 
 pub returns : goal.returns
 returns g c =
     let input = Tick c.args.at c.args.show (Some c.args.seen) in
-    let r = c.args.state.now in
     let frame = c.in_ok-frame.frame in
-    let leaves : LeavesTick r input frame = subst (λ (x : Renderer). LeavesTick x input frame) c.state.view_is c.in_ok-frame.ensures.state in
+    let composed = c.compose.new.tracker in
+    let kept = c.keep.new.tracker in
+    let leaves = c.in_ok-frame.ensures.state in
     record {
       running = c.requires;
-      returned = c.remember.ensures.answer ∙ ap answer_of leaves.action;
-      renderer = c.remember.ensures.state
-          ∙ remembers r c.send.new.past c.args.at c.args.show c.args.seen frame
-          (c.in_ok-send.ensures.begun ∙ ap (λ (x : Renderer). record x { cursor_hidden = is_cursor_hidden x }) c.state.view_is) leaves;
+      returned = c.remember.ensures.answer ∙ ap answer_of leaves.drawn.action ∙ ap (λ (x : Renderer). answer_of (action_at x input)) c.state.view_is;
+      renderer = ap (λ (x : Renderer). tracked x kept) c.remember.ensures.state
+          ∙ remembers c.state.inside.past c.send.new.past c.state.inside.tracker composed kept c.args.at c.args.show c.args.seen frame c.in_ok-send.ensures.begun leaves
+          (c.keep.ensures ∙ ap (λ rows. tracker_by frame.drawn.action composed rows) c.as_slice.ensures)
+          ∙ ap (λ (x : Renderer). next x input) c.state.view_is;
       screen = subst (λ bytes. WritesFrame bytes (g.S.Screen.state c.args.screen.now) (g.S.Screen.state c.send.new.screen))
           (c.bytes.ensures ∙ c.in_ok-frame.ensures.bytes ∙ ap (λ (x : Renderer). frame_bytes x input) c.state.view_is) c.in_ok-send.ensures.written;
     }

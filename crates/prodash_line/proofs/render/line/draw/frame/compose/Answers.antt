@@ -9,7 +9,8 @@ use Rattle.prodash_line.specs.declared.render.line.draw.input.Input.TheVariants.
 use Rattle.prodash_line.specs.Signs.{spelling}
 use Rattle.prodash_line.specs.Frames.{covered, body_signs}
 use Rattle.prodash_line.specs.OverwriteBytes.{lines_bytes}
-use Rattle.prodash_line.specs.FrameWriting.{action_start}
+use Rattle.prodash_line.specs.FrameWriting.{action_start, state_by}
+use Rattle.prodash_line.specs.Tracking.{tracked}
 use Rattle.prodash_line.specs.MessageLines.{message_lines}
 use Rattle.prodash_line.specs.Renderer.{Renderer, Drawing, frame_at, drawing_of, drawing_at, tick_action, action_at, printed_at, body_of, ending_of, state_after}
 use Rattle.prodash_line.proofs.OverwriteBytes.{action_starts, frame_bytes_of, length-message_lines}
@@ -24,13 +25,17 @@ left_is c = search rules
 abbrev input : goal.In_ok-drawn → Input
 input c = Tick c.args.at c.args.show (Some c.args.seen.now)
 
-abbrev drawing : goal.In_ok-drawn → Drawing
-drawing c = drawing_of (record c.args.past.now { options = c.past.inside.options }) c.args.at (rows_of c.as_slice.result.now)
+-- the renderer
+abbrev whole : goal.In_ok-drawn → Renderer
+whole c = tracked c.args.past.now c.args.tracker.now
 
-drawing_is : (c : goal.In_ok-drawn) → drawing c ≡ drawing_at c.args.past.now (input c)
+abbrev drawing : goal.In_ok-drawn → Drawing
+drawing c = drawing_of (record (whole c) { options = c.past.inside.options }) c.args.at (rows_of c.as_slice.result.now)
+
+drawing_is : (c : goal.In_ok-drawn) → drawing c ≡ drawing_at (whole c) (input c)
 drawing_is c =
-    ap (λ (x : Renderer). drawing_of (record c.args.past.now { options = x.options }) c.args.at (rows_of c.as_slice.result.now)) c.past.view_is
-    ∙ ap (λ rows. drawing_of c.args.past.now c.args.at rows) c.as_slice.ensures
+    ap (λ (x : Renderer). drawing_of (record (whole c) { options = x.options }) c.args.at (rows_of c.as_slice.result.now)) c.past.view_is
+    ∙ ap (λ rows. drawing_of (whole c) c.args.at rows) c.as_slice.ensures
 
 action_is : (c : goal.In_ok-drawn) → c.tick_action-action.result ≡ action_at c.args.past.now (input c)
 action_is c =
@@ -64,7 +69,7 @@ over c =
 
 pub returns-clause-bytes : goal.returns-clause-bytes
 returns-clause-bytes c =
-    let r = c.args.past.now in
+    let r = whole c in
     let before = c.write_messages.new.out.bytes.items in
     let left = c.below-left.result.now in
     let layout = layout_of r.options in
@@ -80,12 +85,15 @@ returns-clause-bytes c =
 
 pub returns-clause-state : goal.returns-clause-state
 returns-clause-state c =
-    let r = c.args.past.now in
+    let r = whole c in
     record {
-      state = c.in_ok-drawn.ensures.state
-          ∙ ap (λ action. state_after action r (drawing c) c.below-left.result.now) (action_is c)
-          ∙ ap (λ d. state_after (action_at r (input c)) r d c.below-left.result.now) (drawing_is c)
-          ∙ ap (λ left. state_after (action_at r (input c)) r (drawing_at r (input c)) left) (left_is c ∙ ap (λ n. drop n r.widths) (printed c));
+      drawn = record {
+        state = ap (λ rows. state_by c.in_ok-drawn.drawn c.write_body.new.tracker rows) (sym c.as_slice.ensures)
+            ∙ c.in_ok-drawn.ensures.state.state
+            ∙ ap (λ action. state_after action r (drawing c) c.below-left.result.now) (action_is c)
+            ∙ ap (λ d. state_after (action_at r (input c)) r d c.below-left.result.now) (drawing_is c)
+            ∙ ap (λ left. state_after (action_at r (input c)) r (drawing_at r (input c)) left) (left_is c ∙ ap (λ n. drop n r.widths) (printed c));
+        action = c.in_ok-drawn.ensures.state.action ∙ action_is c;
+      };
       origin_widths = search rules;
-      action = action_is c;
     }

@@ -8,13 +8,18 @@ use Rattle.prodash_line.specs.declared.render.line.draw.layout.Layout.{Layout}
 use Rattle.prodash_line.specs.Signs.{spelling}
 use Rattle.prodash_line.specs.DrawnLines.{layout_of}
 use Rattle.prodash_line.specs.Frames.{body_signs}
-use Rattle.prodash_line.specs.FrameWriting.{action_start}
+use Rattle.prodash_line.specs.FrameWriting.{action_start, state_by}
+use Rattle.prodash_line.specs.Tracking.{tracked}
 use Rattle.prodash_line.specs.Renderer.{Renderer, Drawing, frame_at, remember, drawing_of, drawing_at, action_at, body_of, ending_of, state_after}
 use Rattle.prodash_line.proofs.OverwriteBytes.{action_starts, frame_bytes_of}
 use Rattle.prodash_line.proofs.render.line.draw.frame.compose_resized.Goals as goal
 
 abbrev input : goal.In_ok-drawn → Input
 input c = Resize c.args.at c.args.show c.args.dimensions.0 c.args.dimensions.1
+
+-- the renderer
+abbrev whole : goal.In_ok-drawn → Renderer
+whole c = tracked c.args.past.now c.args.tracker.now
 
 -- the options that the frame is drawn with
 abbrev sized : goal.In_ok-drawn → Options
@@ -24,19 +29,19 @@ sized_is : (c : goal.In_ok-drawn) → sized c ≡ (remember c.args.past.now (inp
 sized_is c = ap (λ (x : Renderer). record x.options { terminal_dimensions = c.args.dimensions }) c.past.view_is
 
 abbrev drawing : goal.In_ok-drawn → Drawing
-drawing c = drawing_of (record c.args.past.now { options = sized c }) c.args.at (rows_of c.latest_rows.result.now)
+drawing c = drawing_of (record (whole c) { options = sized c }) c.args.at (rows_of c.latest_rows.result.now)
 
-drawing_is : (c : goal.In_ok-drawn) → drawing c ≡ drawing_at c.args.past.now (input c)
+drawing_is : (c : goal.In_ok-drawn) → drawing c ≡ drawing_at (whole c) (input c)
 drawing_is c =
-    ap (λ (o : Options). drawing_of (record c.args.past.now { options = o }) c.args.at (rows_of c.latest_rows.result.now)) (sized_is c)
-    ∙ ap (λ rows. drawing_of (remember c.args.past.now (input c)) c.args.at rows) c.latest_rows.ensures
+    ap (λ (o : Options). drawing_of (record (whole c) { options = o }) c.args.at (rows_of c.latest_rows.result.now)) (sized_is c)
+    ∙ ap (λ rows. drawing_of (remember (whole c) (input c)) c.args.at rows) c.latest_rows.ensures
 
 left_is : (c : goal.In_ok-drawn) → c.deref.result.now ≡ c.args.past.now.widths
 left_is c = c.deref.ensures.value ∙ ap (λ (x : Renderer). x.widths) c.past.view_is
 
 pub returns-clause-bytes : goal.returns-clause-bytes
 returns-clause-bytes c =
-    let r = c.args.past.now in
+    let r = whole c in
     let before = c.begin_frame.new.out.bytes.items in
     let left = c.deref.result.now in
     let layout = layout_of (remember r (input c)).options in
@@ -54,9 +59,13 @@ returns-clause-bytes c =
 
 pub returns-clause-state : goal.returns-clause-state
 returns-clause-state c =
-    let r = c.args.past.now in
+    let r = whole c in
     let action = action_at r (input c) in
-    c.in_ok-drawn.ensures.state
-    ∙ ap (λ (a : Action). state_after a r (drawing c) c.deref.result.now) c.resize_action-action.ensures
-    ∙ ap (λ (d : Drawing). state_after action r d c.deref.result.now) (drawing_is c)
-    ∙ ap (λ (left : List ℕ). state_after action r (drawing_at r (input c)) left) (left_is c)
+    record {
+      state = ap (λ rows. state_by c.in_ok-drawn.drawn c.write_body.new.tracker rows) (sym c.latest_rows.ensures)
+          ∙ c.in_ok-drawn.ensures.state.state
+          ∙ ap (λ (a : Action). state_after a r (drawing c) c.deref.result.now) c.resize_action-action.ensures
+          ∙ ap (λ (d : Drawing). state_after action r d c.deref.result.now) (drawing_is c)
+          ∙ ap (λ (left : List ℕ). state_after action r (drawing_at r (input c)) left) (left_is c);
+      action = c.in_ok-drawn.ensures.state.action ∙ c.resize_action-action.ensures;
+    }

@@ -1,9 +1,9 @@
-use Rattle.std.proofs.Common.{rules, ◌≡◌, ℕ, ◌-◌, ◌++◌, false, List, length, ap, subst, ◌∙◌, arith}
+use Rattle.std.proofs.Common.{rules, ◌≡◌, ℕ, ◌-◌, ◌++◌, List, length, ap, subst, ◌∙◌, arith, Option}
 use Rattle.std.proofs.lemmas.List.{length-map}
-use Rattle.std.specs.Option.{option_map, option_or}
+use Rattle.std.specs.Option.{option_map}
 use Rattle.prodash_base.specs.Rows.{PathRow, rows_of}
-use Rattle.prodash_base.specs.Trackers.{reconcile, after_frame}
-use Rattle.prodash_line.specs.declared.render.line.draw.action.Drawn.{Drawn}
+use Rattle.prodash_base.specs.Trackers.{Tracker, reconcile}
+use Rattle.prodash_line.specs.declared.render.line.draw.action.Action.{Action}
 use Rattle.prodash_line.specs.declared.render.line.draw.layout.Layout.{Layout}
 use Rattle.prodash_line.specs.Lines.{Line, columns_of}
 use Rattle.prodash_line.specs.DrawnLines.{layout_of}
@@ -11,29 +11,31 @@ use Rattle.prodash_line.specs.Frames.{covered, widths_of}
 use Rattle.prodash_line.specs.ProgressRows.{DrawnRow, filtered, fitting, more_lines, row_lines, greatest_midpoint}
 use Rattle.prodash_line.specs.Renderer.{Renderer, drawn_rows, fitting_rows}
 use Rattle.prodash_line.specs.Observing.{shown_by, observe_all}
+use Rattle.prodash_line.specs.Tracking.{kept_of, ahead_of, tracker_by}
 use Rattle.prodash_line.specs.OverwriteBytes.{lines_bytes}
-use Rattle.prodash_line.specs.FrameWriting.{drawing_in, fitting_lines, FinishesRedraw}
-use Rattle.prodash_line.proofs.Observing.{shown_at, observed_at, replaces}
+use Rattle.prodash_line.specs.FrameWriting.{renderer_in, drawing_in, fitting_lines, FinishesRedraw}
+use Rattle.prodash_line.proofs.Observing.{shown_at, observed_at}
 use Rattle.prodash_line.proofs.render.line.draw.frame.redraw_rows.Goals as goal
 
+-- the tracker before the frame, and at its beginning
+abbrev before : goal.In_ok-finish_redraw → Option Tracker
+before c = kept_of c.args.tracker.now
+
+abbrev begun : goal.In_ok-finish_redraw → Option Tracker
+begun c = ahead_of c.begin.new.tracker
+
 abbrev renderer : goal.In_ok-finish_redraw → Renderer
-renderer c = record c.args.scene.now.past.now { options = c.args.scene.now.options }
+renderer c = renderer_in c.args.scene.now (before c)
 
 abbrev filtered_rows : goal.In_ok-finish_redraw → List PathRow
 filtered_rows c = filtered c.args.scene.now.options.level_filter (rows_of c.args.scene.now.rows.now)
 
--- what is drawn before the first row
-abbrev begun : goal.In_ok-finish_redraw → Drawn
-begun c = record { widths = c.new.result; midpoint = 0; tracker = c.in_ok-tracker_at.field-0; rows_erased = false }
-
 shown : (c : goal.In_ok-finish_redraw)
-    → shown_by c.in_ok-tracker_at.field-0 (filtered_rows c) ≡ drawn_rows (renderer c) c.args.scene.now.at (rows_of c.args.scene.now.rows.now)
-shown c =
-    ap (λ t. shown_by t (filtered_rows c)) c.in_ok-tracker_at.ensures.ok
-    ∙ shown_at c.args.scene.now.past.now.tracker c.args.scene.now.at (filtered_rows c)
+    → shown_by (begun c) (filtered_rows c) ≡ drawn_rows (renderer c) c.args.scene.now.at (rows_of c.args.scene.now.rows.now)
+shown c = ap (λ t. shown_by t (filtered_rows c)) c.begin.ensures.ahead ∙ shown_at (before c) c.args.scene.now.at (filtered_rows c)
 
 lines : (c : goal.In_ok-finish_redraw)
-    → fitting_lines c.args.scene.now.options c.midpoint-midpoint.result (begun c) c.args.scene.now.rows.now ≡ (drawing_in c.args.scene.now).lines
+    → fitting_lines c.args.scene.now.options c.midpoint-midpoint.result (begun c) c.args.scene.now.rows.now ≡ (drawing_in c.args.scene.now (before c)).lines
 lines c =
     let options = c.args.scene.now.options in
     let layout = layout_of options in
@@ -41,7 +43,7 @@ lines c =
     ap (λ (rows : List DrawnRow). row_lines options c.midpoint-midpoint.result (fitting layout rows) ++ more_lines options (length rows - length (fitting layout rows))) (shown c)
     ∙ ap (λ (n : ℕ). row_lines options n (fitting layout all) ++ more_lines options (length all - length (fitting layout all))) c.midpoint-midpoint.ensures
 
-widths_are : (c : goal.In_ok-finish_redraw) → c.write_fitting.new.drawn.widths.items ≡ widths_of (drawing_in c.args.scene.now).lines
+widths_are : (c : goal.In_ok-finish_redraw) → c.write_fitting.new.drawn.widths.items ≡ widths_of (drawing_in c.args.scene.now (before c)).lines
 widths_are c =
     c.in_ok-write_fitting.ensures.drawn.widths
     ∙ ap (λ (old : List ℕ). old ++ widths_of (fitting_lines c.args.scene.now.options c.midpoint-midpoint.result (begun c) c.args.scene.now.rows.now)) c.new.ensures.items
@@ -49,7 +51,7 @@ widths_are c =
 
 pub returns-clause-bytes : goal.returns-clause-bytes
 returns-clause-bytes c =
-    let drawn = (drawing_in c.args.scene.now).lines in
+    let drawn = (drawing_in c.args.scene.now (before c)).lines in
     let layout = layout_of c.args.scene.now.options in
     let finishes = subst (λ (l : Layout). FinishesRedraw l c.write_fitting.new.out c.args.widths.now c.len.result c.finish_redraw.new.out) c.layout-layout.ensures c.in_ok-finish_redraw.ensures in
     finishes c.args.out.now.bytes.items drawn
@@ -58,17 +60,20 @@ returns-clause-bytes c =
 
 pub returns-clause-state : goal.returns-clause-state
 returns-clause-state c =
-    let before = c.args.scene.now.past.now.tracker in
+    let at = c.args.scene.now.at in
     let rows = rows_of c.args.scene.now.rows.now in
     let layout = layout_of c.args.scene.now.options in
     let widths = widths_are c in
-    let midpoint : c.write_fitting.new.drawn.midpoint ≡ greatest_midpoint (fitting_rows (renderer c) c.args.scene.now.at rows) =
+    let action = c.in_ok-write_fitting.ensures.drawn.action in
+    let midpoint : c.write_fitting.new.drawn.midpoint ≡ greatest_midpoint (fitting_rows (renderer c) at rows) =
     omega (arith, c.in_ok-write_fitting.ensures.drawn.midpoint, ap (λ (rs : List DrawnRow). greatest_midpoint (fitting layout rs)) (shown c)) in
     let tracker =
-    ap (λ t. option_or t before) (c.reconcile.ensures
-    ∙ ap (λ t. option_map (λ t. reconcile t rows) t) (c.in_ok-write_fitting.ensures.drawn.tracker
-    ∙ ap (λ t. observe_all t (filtered_rows c)) c.in_ok-tracker_at.ensures.ok)
-    ∙ observed_at before c.args.scene.now.at (filtered_rows c) rows)
-    ∙ replaces (λ t. after_frame t c.args.scene.now.at (filtered_rows c) rows) before in
+    ap (λ (a : Action). tracker_by a c.write_fitting.new.tracker rows) action
+    ∙ ap (λ t. option_map (λ t. reconcile t rows) t) (c.in_ok-write_fitting.ensures.ahead
+    ∙ ap (λ t. observe_all t (filtered_rows c)) c.begin.ensures.ahead)
+    ∙ observed_at (before c) at (filtered_rows c) rows in
     let erased = c.in_ok-write_fitting.ensures.drawn.rows_erased in
-    λ i. record { widths = widths i; midpoint = midpoint i; tracker = tracker i; rows_erased = erased i }
+    record {
+      state = λ i. record { widths = widths i; midpoint = midpoint i; tracker = tracker i; rows_erased = erased i };
+      action = action;
+    }

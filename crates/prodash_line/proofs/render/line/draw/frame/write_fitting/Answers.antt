@@ -9,6 +9,7 @@ use Rattle.prodash_line.specs.Frames.{covered, widths_of}
 use Rattle.prodash_line.specs.ProgressRows.{DrawnRow, filtered, row_lines, more_lines, greatest_midpoint}
 use Rattle.prodash_line.specs.OverwriteBytes.{lines_bytes}
 use Rattle.prodash_line.specs.Observing.{observe_all}
+use Rattle.prodash_line.specs.Tracking.{ahead_of}
 use Rattle.prodash_line.specs.FrameWriting.{SplitsFitting, more_of, shown_rows, shown_lines, fitting_shown, fitting_lines}
 use Rattle.prodash_line.proofs.FittingRows.{fits_first, others_are, observes_both, both_written}
 use Rattle.prodash_line.proofs.render.line.draw.frame.write_fitting.Goals as goal
@@ -18,24 +19,24 @@ splits : (c : goal.In_ok-write_more)
 splits c = subst (λ (l : Layout). SplitsFitting l c.args.options.now.level_filter c.args.rows.now c.split_fitting.result.0.now c.split_fitting.result.1.now) c.layout-layout.ensures c.split_fitting.ensures
 
 -- the rows that fit are those that are written
-fit : (c : goal.In_ok-write_more) → fitting_shown c.args.options.now c.args.drawn.now c.args.rows.now ≡ shown_rows c.args.options.now c.args.drawn.now c.split_fitting.result.0.now
-fit c = fits_first (layout_of c.args.options.now) c.args.options.now.level_filter c.args.drawn.now.tracker c.args.rows.now c.split_fitting.result.0.now c.split_fitting.result.1.now (splits c)
+fit : (c : goal.In_ok-write_more) → fitting_shown c.args.options.now (ahead_of c.args.tracker.now) c.args.rows.now ≡ shown_rows c.args.options.now (ahead_of c.args.tracker.now) c.split_fitting.result.0.now
+fit c = fits_first (layout_of c.args.options.now) c.args.options.now.level_filter (ahead_of c.args.tracker.now) c.args.rows.now c.split_fitting.result.0.now c.split_fitting.result.1.now (splits c)
 
-lines : (c : goal.In_ok-write_more) → fitting_lines c.args.options.now c.args.midpoint c.args.drawn.now c.args.rows.now
-    ≡ shown_lines c.args.options.now c.args.midpoint c.args.drawn.now c.split_fitting.result.0.now ++ more_of c.args.options.now c.split_fitting.result.1.now
+lines : (c : goal.In_ok-write_more) → fitting_lines c.args.options.now c.args.midpoint (ahead_of c.args.tracker.now) c.args.rows.now
+    ≡ shown_lines c.args.options.now c.args.midpoint (ahead_of c.args.tracker.now) c.split_fitting.result.0.now ++ more_of c.args.options.now c.split_fitting.result.1.now
 lines c =
     let options = c.args.options.now in
-    let all = shown_rows options c.args.drawn.now c.args.rows.now in
-    let own = fitting_shown options c.args.drawn.now c.args.rows.now in
+    let all = shown_rows options (ahead_of c.args.tracker.now) c.args.rows.now in
+    let own = fitting_shown options (ahead_of c.args.tracker.now) c.args.rows.now in
     ap (λ (rs : List DrawnRow). row_lines options c.args.midpoint rs ++ more_lines options (length all - length own)) (fit c)
-    ∙ ap (λ (n : ℕ). shown_lines options c.args.midpoint c.args.drawn.now c.split_fitting.result.0.now ++ more_lines options n)
-    (others_are (layout_of options) options.level_filter c.args.drawn.now.tracker c.args.rows.now c.split_fitting.result.0.now c.split_fitting.result.1.now (splits c))
+    ∙ ap (λ (n : ℕ). shown_lines options c.args.midpoint (ahead_of c.args.tracker.now) c.split_fitting.result.0.now ++ more_lines options n)
+    (others_are (layout_of options) options.level_filter (ahead_of c.args.tracker.now) c.args.rows.now c.split_fitting.result.0.now c.split_fitting.result.1.now (splits c))
 
 pub returns-clause-bytes : goal.returns-clause-bytes
 returns-clause-bytes c =
     let options = c.args.options.now in
     let layout = layout_of options in
-    let shown = shown_lines options c.args.midpoint c.args.drawn.now c.split_fitting.result.0.now in
+    let shown = shown_lines options c.args.midpoint (ahead_of c.args.tracker.now) c.split_fitting.result.0.now in
     let before = c.args.out.now.bytes.items in
     both_written layout options options.level_filter c.args.widths.now c.args.rows.now c.split_fitting.result.0.now c.split_fitting.result.1.now shown before _ _ (splits c)
     (c.in_ok-write_rows.ensures.bytes ∙ ap (λ (ws : List ℕ). before ++ lines_bytes layout ws shown)
@@ -47,9 +48,8 @@ pub returns-clause-drawn : goal.returns-clause-drawn
 returns-clause-drawn c =
     let options = c.args.options.now in
     let old = c.args.drawn.now in
-    let shown = shown_lines options c.args.midpoint old c.split_fitting.result.0.now in
+    let shown = shown_lines options c.args.midpoint (ahead_of c.args.tracker.now) c.split_fitting.result.0.now in
     let more = more_of options c.split_fitting.result.1.now in
-    let rest = filtered options.level_filter (rows_of c.split_fitting.result.1.now) in
     record {
       widths = c.in_ok-write_more.ensures.drawn.widths
           ∙ ap (λ (ws : List ℕ). ws ++ widths_of more) c.in_ok-write_rows.ensures.drawn.widths
@@ -57,8 +57,13 @@ returns-clause-drawn c =
           ∙ ap (λ (ws : List ℕ). old.widths.items ++ ws) (sym (map-append columns_of shown more) ∙ ap widths_of (sym (lines c)));
       midpoint = c.in_ok-write_more.ensures.drawn.midpoint ∙ c.in_ok-write_rows.ensures.drawn.midpoint
           ∙ ap (λ (rs : List DrawnRow). max old.midpoint (greatest_midpoint rs)) (sym (fit c));
-      tracker = c.in_ok-write_more.ensures.drawn.tracker
-          ∙ ap (λ t. observe_all t rest) c.in_ok-write_rows.ensures.drawn.tracker
-          ∙ observes_both options.level_filter old.tracker c.args.rows.now c.split_fitting.result.0.now c.split_fitting.result.1.now (splits c).whole;
       rows_erased = c.in_ok-write_more.ensures.drawn.rows_erased ∙ c.in_ok-write_rows.ensures.drawn.rows_erased;
+      action = c.in_ok-write_more.ensures.drawn.action ∙ c.in_ok-write_rows.ensures.drawn.action;
     }
+
+pub returns-clause-ahead : goal.returns-clause-ahead
+returns-clause-ahead c =
+    let levels = c.args.options.now.level_filter in
+    c.in_ok-write_more.ensures.ahead
+    ∙ ap (λ t. observe_all t (filtered levels (rows_of c.split_fitting.result.1.now))) c.in_ok-write_rows.ensures.ahead
+    ∙ observes_both levels (ahead_of c.args.tracker.now) c.args.rows.now c.split_fitting.result.0.now c.split_fitting.result.1.now (splits c).whole

@@ -3,6 +3,7 @@ use Rattle.prodash_base.specs.Rows.{rows_of}
 use Rattle.prodash_line.specs.Frames.{widths_of}
 use Rattle.prodash_line.specs.ProgressRows.{filtered, row_lines, greatest_midpoint}
 use Rattle.prodash_line.specs.Observing.{shown_by, observe_all}
+use Rattle.prodash_line.specs.Tracking.{kept_of, ahead_of}
 use Rattle.prodash_line.specs.OverwriteBytes.{lines_bytes}
 use Rattle.prodash_line.specs.DrawnLines.{layout_of}
 use Rattle.prodash_line.proofs.render.line.draw.frame.write_rows.Given as goal
@@ -11,14 +12,16 @@ abbrev pub invariant-loop-row : goal.invariant-loop-row
 invariant-loop-row l =
     let left = filtered l.options.level_filter (rows_of (drop l.row-index l.rows)) in
     let all = filtered l.options.level_filter (rows_of l.rows) in
-    let shown_left = shown_by l.drawn.tracker left in
-    let shown_all = shown_by l.fn.drawn.tracker all in
+    let shown_left = shown_by (ahead_of l.tracker) left in
+    let shown_all = shown_by (ahead_of l.fn.tracker) all in
     record {
       bytes : l.out.bytes.items ++ lines_bytes (layout_of l.options) l.left (row_lines l.options l.midpoint shown_left)
           ≡ l.fn.out.bytes.items ++ lines_bytes (layout_of l.options) l.widths (row_lines l.options l.midpoint shown_all);
       widths : l.drawn.widths.items ++ widths_of (row_lines l.options l.midpoint shown_left)
           ≡ l.fn.drawn.widths.items ++ widths_of (row_lines l.options l.midpoint shown_all);
       midpoint : max l.drawn.midpoint (greatest_midpoint shown_left) ≡ max l.fn.drawn.midpoint (greatest_midpoint shown_all);
-      tracker : observe_all l.drawn.tracker left ≡ observe_all l.fn.drawn.tracker all;
+      ahead : observe_all (ahead_of l.tracker) left ≡ observe_all (ahead_of l.fn.tracker) all;
+      kept : kept_of l.tracker ≡ kept_of l.fn.tracker;
       rows_erased : l.drawn.rows_erased ≡ l.fn.drawn.rows_erased;
+      action : l.drawn.action ≡ l.fn.drawn.action;
     }

@@ -25,7 +25,7 @@ use denote.Triple.Entry.{alive}
 use denote.Triple.Spec.{Meets, triple_of}
 use denote.Triple.Table.{entered}
 use denote.Triple.Walked.{says, Stays, stay_dropped, walk_of, ends_at, walk_Meets, Goes-dropped}
-use Rattle.prodash_line.proofs.GhostLists.{none, none_made}
+use Rattle.prodash_base.proofs.GhostStructs.{none, none_made}
 use Rattle.prodash_line.specs.contracts.render.line.draw.over_write.calls.Calls as Made
 use Rattle.prodash_line.specs.contracts.render.line.draw.over_write.calls.Call as Call
 use Rattle.prodash_line.specs.plumbing.Calls.{call_of}

@@ -1,9 +1,0 @@
-use Rattle.std.proofs.Common.{◌≡◌, drop}
-use Rattle.prodash_base.specs.Rows.{rows_of}
-use Rattle.prodash_line.specs.ProgressRows.{filtered}
-use Rattle.prodash_line.specs.Observing.{observe_all}
-use Rattle.prodash_line.proofs.render.line.draw.more.observe_rows.Given as goal
-
-abbrev pub invariant-loop-row : goal.invariant-loop-row
-invariant-loop-row l =
-    observe_all l.tracker (filtered l.levels (rows_of (drop l.row-index l.rows))) ≡ observe_all l.fn.tracker (filtered l.levels (rows_of l.rows))
