@@ -364,6 +364,18 @@ In colour. Both options may be given, in any order. A page shows no styles.
   $ printf 'add 0 a\ntick 0\n' | prodash-replay page 40 2 --defensive --colored
    a
   
+In defensive frames names and messages have U+FFFD in place of control characters. In other frames
+each byte is as it is.
+
+  $ printf 'add 0 \033[2J\ttab\ntick 0\ninfo 1 1 \007bell\ntick 1\n' >controls
+  $ prodash-replay bytes 40 4 --defensive <controls | tr '\r\033' RE
+  RE[2K \xef\xbf\xbd[2J\xef\xbf\xbdtab (esc)
+  E[JE[1ARE[2K \xef\xbf\xbd[2J\xef\xbf\xbdtab \xef\xbf\xbdbell (esc)
+  E[2K \xef\xbf\xbd[2J\xef\xbf\xbdtab (esc)
+  E[JE[1A (no-eol)
+  $ prodash-replay bytes 40 4 <controls | tr '\033\t\007' ETB
+   E[2JTtab
+  E[1A E[2JTtab Bbell
 
 Arguments that are not a command and two dimensions. They are checked before the input is read.
 

@@ -150,7 +150,7 @@ pub after_quit : page_of 3 renderings ≡ shows (cells (codes " a x") 36 ∷ bla
 after_quit = ap (page_of 3) is_rendered ∙ closed
 
 one_char : (c : ℕ) → IsProper (Char c) → char_width false c ≡ Some 1 → width_of (piece (c ∷ [])) ≡ 1 → IsPlainPiece (piece (c ∷ []))
-one_char c proper width columns = record { each = (record { proper = proper; width = width }, tt); width = columns }
+one_char c proper width columns = record { each = (record { scalar = proper.0; width = width }, tt); width = columns }
 
 rendered_fits : FitsPage renderer rendered false [] (blank_page 40 4)
 unfolding chars str_width char_width step past_emoji

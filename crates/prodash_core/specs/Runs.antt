@@ -11,6 +11,7 @@ use Rattle.prodash_line.specs.declared.render.line.draw.input.Answer.TheVariants
 use Rattle.prodash_line.specs.Renderings.{Rendering, after_result, RendersEach, BreaksExactly, FlushesFrame, WritesAttempts, attempts_of, drawn_frames, FitsPage, ShowsFrames}
 use Rattle.prodash_line.specs.Screens.{ScreenState}
 use Rattle.prodash_line.specs.ClearedPages.{ClearsPagesOf, FitsTerminal, ShowsClearing}
+use Rattle.prodash_line.specs.ControlCharacters.{DrawsNoControlsOf}
 use Rattle.prodash_line.specs.Page.{Canvas}
 use Rattle.prodash_core.specs.declared.tree.slot.Slot.{Slot}
 use Rattle.prodash_core.specs.Trees.{Tree, Effect, OnTree, OnRenderer, play, item_at, message_by}
@@ -180,6 +181,12 @@ ClearsOnPages options es rs s s' =
     → ShowsClearing s.bytes s'.bytes
     (drawn_frames (new_session options).renderer (renderings_of options es rs)) page
 
+-- no line of a defensive renderer's frames has a control character
+abbrev pub EachWithoutControls : SessionOptions → List Event → List Reply → ScreenState → ScreenState
+    → Type 0
+EachWithoutControls options es rs s s' =
+    RendersEach DrawsNoControlsOf (new_session options).renderer s (renderings_of options es rs) s'
+
 -- a screen that isn't broken has flushed all that it took, if it had before
 abbrev pub StaysFlushed : ScreenState → ScreenState → Type 0
 StaysFlushed s s' = s.flushed ≡ s.bytes → s'.broken ≡ false → s'.flushed ≡ s'.bytes
@@ -210,6 +217,8 @@ pub record Ran (options : SessionOptions) (es : List Event) (rs : List Reply) (s
   -- and such a page, whatever it shows at first, shows after each frame the rows above as they
   -- were, then the messages printed so far, then the lines drawn last, then blank rows
   pub cleared : ClearsOnPages options es rs s s'
+  -- no line of a defensive renderer's frames has a control character
+  pub controls : EachWithoutControls options es rs s s'
   -- a screen that isn't broken afterwards has flushed all that it took, if it had before
   pub flushed : StaysFlushed s s'
 

@@ -34,7 +34,7 @@ printable-append (c ∷ cs) ys h i = let parts = and_parts (is_in_range 0x20 0x7
 in_range : (c : ℕ) → 32 ≤ c → c ≤ 126 → is_in_range 0x20 0x7E c ≡ true
 in_range c low high = grind (arith, nat_tests)
 
-printable-one : (c : ℕ) → 32 ≤ c → c ≤ 126 → is_printable (c ∷ []) ≡ true
+pub printable-one : (c : ℕ) → 32 ≤ c → c ≤ 126 → is_printable (c ∷ []) ≡ true
 printable-one c low high = ap (λ b. b && true) (in_range c low high)
 
 pub printable-repeated : (n c : ℕ) → 32 ≤ c → c ≤ 126 → is_printable (replicate n c) ≡ true

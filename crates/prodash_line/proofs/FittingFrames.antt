@@ -61,7 +61,7 @@ drawn_within cut columns options line h =
 rows_within : (cut : Bool) (columns : ℕ) (options : Options) (midpoint : ℕ) (rows : List DrawnRow) → HasWidth cut columns options → AreWithin cut columns (row_lines options midpoint rows)
 rows_within cut columns options midpoint [] h = tt
 rows_within cut columns options midpoint (row ∷ rows) h =
-    (drawn_within cut columns options (row_line options.terminal_dimensions.0 midpoint row) h, rows_within cut columns options midpoint rows h)
+    (drawn_within cut columns options (row_line options.defensive options.terminal_dimensions.0 midpoint row) h, rows_within cut columns options midpoint rows h)
 
 none_or_within : (cut : Bool) (columns : ℕ) (b : Bool) (line : Line) → IsWithin cut columns line → AreWithin cut columns (cond b [] (line ∷ []))
 none_or_within cut columns true line h = tt
@@ -80,8 +80,8 @@ drawn_lines_within cut columns r at rows h =
 messages_within : (cut : Bool) (columns : ℕ) (options : Options) (widths : List ℕ) (messages : List Message) → HasWidth cut columns options → AreWithin cut columns (message_lines options widths messages)
 messages_within cut columns options widths [] h = tt
 messages_within cut columns options widths (m ∷ messages) h =
-    let all = widths ++ origin_width m.origin ∷ [] in
-    (drawn_within cut columns options (message_line options.timestamp (greatest_width all) m) h, messages_within cut columns options all messages h)
+    let all = widths ++ origin_width options.defensive m.origin ∷ [] in
+    (drawn_within cut columns options (message_line options (greatest_width all) m) h, messages_within cut columns options all messages h)
 
 printed_within : (cut : Bool) (columns : ℕ) (r : Renderer) (input : Input) → HasWidth cut columns r.options → AreWithin cut columns (printed_at r input)
 printed_within cut columns r (Tick at show (Some seen)) h = messages_within cut columns r.options r.origin_widths seen.1 h

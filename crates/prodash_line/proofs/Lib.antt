@@ -11,6 +11,7 @@ pub mod StyledLines
 pub mod RowLines
 pub mod Observing
 pub mod MessageLines
+pub mod DrawnTexts
 pub mod Chars
 pub mod Overwriting
 pub mod CursorRow
@@ -36,6 +37,7 @@ pub mod SignPrefixes
 pub mod StyleCodes
 pub mod StyleParameters
 pub mod UnseenSigns
+pub mod WithoutControls
 pub mod WorkedCuts
 pub mod WorkedFrames
 pub mod WorkedPages

@@ -33,6 +33,6 @@ unfolding unicode_width
 lines_behind = refl
 
 -- on a terminal of four rows the width that was kept longest goes
-latest_three : latest_origin_widths 4 (3 ∷ 1 ∷ []) three ≡ 1 ∷ 2 ∷ 4 ∷ 1 ∷ []
+latest_three : latest_origin_widths (record plain { terminal_dimensions = (80, 4) }) (3 ∷ 1 ∷ []) three ≡ 1 ∷ 2 ∷ 4 ∷ 1 ∷ []
 unfolding unicode_width
 latest_three = refl

@@ -1,5 +1,5 @@
 -- Lines over those on screen: their bytes are the spelling of a frame's signs.
-use Rattle.std.proofs.Common.{◌≡◌, ℕ, suc, ◌+◌, ◌-◌, ◌<◌, ◌≤◌, List, [], ◌∷◌, ◌++◌, length, drop, replicate, refl, sym, ap, ◌∙◌, append_assoc, append-nil, arith, ⊎_elim, get_or, drop-cons, length-drop}
+use Rattle.std.proofs.Common.{◌≡◌, ℕ, Bool, suc, ◌+◌, ◌-◌, ◌<◌, ◌≤◌, List, [], ◌∷◌, ◌++◌, length, drop, replicate, refl, sym, ap, ◌∙◌, append_assoc, append-nil, arith, ⊎_elim, get_or, drop-cons, length-drop}
 use Rattle.std.specs.Prelude.{min, max}
 use Rattle.std.proofs.lemmas.Bool.{cases_lt}
 use Rattle.std.proofs.lemmas.List.{drop-drop, drop_all}
@@ -141,30 +141,30 @@ left_from messages i m h e = drop-cons messages i m h ∙ ap (λ x. x ∷ drop (
 
 -- one message more, of these that are left
 pub message_more : (layout : Layout) (options : Options) (widths kept new_kept old begun new total : List ℕ) (m : Message) (messages left : List Message) (greatest own width : ℕ) (others : List ℕ)
-    → own ≡ origin_width m.origin → greatest ≡ max (greatest_width kept) own → new_kept ≡ kept ++ own ∷ [] → width ≡ first_width widths → others ≡ drop 1 widths
+    → own ≡ origin_width options.defensive m.origin → greatest ≡ max (greatest_width kept) own → new_kept ≡ kept ++ own ∷ [] → width ≡ first_width widths → others ≡ drop 1 widths
     → begun ≡ old ++ spelling (row_start layout) → new ≡ begun ++ overwrite_line_bytes width (drawn_message_line options greatest m)
     → left ≡ m ∷ messages → old ++ lines_bytes layout widths (message_lines options kept left) ≡ total
     → new ++ lines_bytes layout others (message_lines options new_kept messages) ≡ total
 message_more layout options widths kept new_kept old begun new total m messages left greatest own width others o g k w l b n f e =
-    let all : new_kept ≡ kept ++ origin_width m.origin ∷ [] = k ∙ ap (λ x. kept ++ x ∷ []) o in
-    let size : greatest ≡ greatest_width (kept ++ origin_width m.origin ∷ []) = g ∙ ap (max (greatest_width kept)) o ∙ sym (greatest_width-append kept (origin_width m.origin)) in
-    let here = overwrite_line_bytes (first_width widths) (drawn_message_line options (greatest_width (kept ++ origin_width m.origin ∷ [])) m) in
-    let there = lines_bytes layout (drop 1 widths) (message_lines options (kept ++ origin_width m.origin ∷ []) messages) in
+    let all : new_kept ≡ kept ++ origin_width options.defensive m.origin ∷ [] = k ∙ ap (λ x. kept ++ x ∷ []) o in
+    let size : greatest ≡ greatest_width (kept ++ origin_width options.defensive m.origin ∷ []) = g ∙ ap (max (greatest_width kept)) o ∙ sym (greatest_width-append kept (origin_width options.defensive m.origin)) in
+    let here = overwrite_line_bytes (first_width widths) (drawn_message_line options (greatest_width (kept ++ origin_width options.defensive m.origin ∷ [])) m) in
+    let there = lines_bytes layout (drop 1 widths) (message_lines options (kept ++ origin_width options.defensive m.origin ∷ []) messages) in
     ap (λ t. new ++ lines_bytes layout t (message_lines options new_kept messages)) l ∙ ap (λ t. new ++ lines_bytes layout (drop 1 widths) (message_lines options t messages)) all
     ∙ ap (λ t. t ++ there) (n ∙ ap (λ x. begun ++ overwrite_line_bytes x (drawn_message_line options greatest m)) w ∙ ap (λ x. begun ++ overwrite_line_bytes (first_width widths) (drawn_message_line options x m)) size)
     ∙ line_more layout old begun here there b
     ∙ ap (λ ms. old ++ lines_bytes layout widths (message_lines options kept ms)) (sym f) ∙ e
 
 -- and its origin
-pub origin_more : (kept new_kept total : List ℕ) (m : Message) (messages left : List Message) (own : ℕ) → own ≡ origin_width m.origin → new_kept ≡ kept ++ own ∷ []
-    → left ≡ m ∷ messages → kept ++ widths_of_origins left ≡ total → new_kept ++ widths_of_origins messages ≡ total
-origin_more kept new_kept total m messages left own o k f e =
-    ap (λ t. t ++ widths_of_origins messages) (k ∙ ap (λ n. kept ++ n ∷ []) o) ∙ append_assoc kept (origin_width m.origin ∷ []) (widths_of_origins messages)
-    ∙ ap (λ ms. kept ++ widths_of_origins ms) (sym f) ∙ e
+pub origin_more : (defensive : Bool) (kept new_kept total : List ℕ) (m : Message) (messages left : List Message) (own : ℕ) → own ≡ origin_width defensive m.origin → new_kept ≡ kept ++ own ∷ []
+    → left ≡ m ∷ messages → kept ++ widths_of_origins defensive left ≡ total → new_kept ++ widths_of_origins defensive messages ≡ total
+origin_more defensive kept new_kept total m messages left own o k f e =
+    ap (λ t. t ++ widths_of_origins defensive messages) (k ∙ ap (λ n. kept ++ n ∷ []) o) ∙ append_assoc kept (origin_width defensive m.origin ∷ []) (widths_of_origins defensive messages)
+    ∙ ap (λ ms. kept ++ widths_of_origins defensive ms) (sym f) ∙ e
 
 pub length-message_lines : (options : Options) (widths : List ℕ) (messages : List Message) → length (message_lines options widths messages) ≡ length messages
 length-message_lines options widths [] = refl
-length-message_lines options widths (m ∷ messages) = ap suc (length-message_lines options (widths ++ origin_width m.origin ∷ []) messages)
+length-message_lines options widths (m ∷ messages) = ap suc (length-message_lines options (widths ++ origin_width options.defensive m.origin ∷ []) messages)
 
 -- ---- whole frames
 

@@ -1,7 +1,10 @@
 -- The signs of frames whose lines are plain are proper, so their bytes are read as them.
-use Rattle.std.proofs.Common.{false, ℕ, zero, suc, ◌+◌, ◌-◌, List, [], ◌∷◌, Option, Some, None, length, map, drop, refl, arith}
+use Rattle.std.proofs.Common.{◌≡◌, false, ℕ, zero, suc, ◌+◌, ◌-◌, List, [], ◌∷◌, Option, Some, None, length, map, drop, refl, arith}
 use Rattle.std.specs.Prelude.{max, replicate}
 use Rattle.std.specs.List.{AllByRecursion}
+use Rattle.std.specs.Char.{is_control}
+use Rattle.std.proofs.lemmas.Bool.Decides.{nat_tests}
+use Rattle.unicode_width.specs.Width.{char_width}
 use Rattle.prodash_line.specs.declared.render.line.page.sign.Sign.{Sign}
 use Rattle.prodash_line.specs.declared.render.line.page.sign.Sign.TheVariants.{Char, LineFeed, CarriageReturn, EraseLine, EraseBelow, Reset}
 use Rattle.prodash_line.specs.declared.render.line.draw.layout.Layout.{Layout}
@@ -16,6 +19,14 @@ use Rattle.prodash_line.proofs.Lists.{AllByRecursion-append, AllByRecursion-repl
 use Rattle.prodash_line.proofs.StyledLines.{HasCode, HasCodes, HaveCodes}
 use Rattle.prodash_line.proofs.UnseenSigns.{IsUnseen, unseen_proper}
 use Rattle.prodash_line.proofs.OrderlyFrames.{IsEnding, EndsOrderly, IsOrderly}
+
+-- a character that is one column wide is no control character
+no_control : (c : ℕ) → char_width false c ≡ Some 1 → is_control c ≡ false
+unfolding char_width
+no_control c e = grind (arith, nat_tests, e)
+
+plain_proper : (c : ℕ) → IsPlainChar c → IsProper (Char c)
+plain_proper c h = (h.scalar, no_control c h.width)
 
 -- of proper characters
 chars_proper : (text : List ℕ) → AllByRecursion (λ c. IsProper (Char c)) text → AreProper (map Char text)
@@ -33,7 +44,7 @@ line_proper : (line : Line) → AllByRecursion IsPlainPiece line → HasCodes li
 line_proper [] h codes = tt
 line_proper (p ∷ ps) h codes =
     AllByRecursion-append IsProper (piece_signs p) (line_signs ps)
-    (styled_proper p.style p.text (AllByRecursion-map IsPlainChar (λ c. IsProper (Char c)) p.text (λ c plain. plain.proper) h.0.each) codes.0)
+    (styled_proper p.style p.text (AllByRecursion-map IsPlainChar (λ c. IsProper (Char c)) p.text plain_proper h.0.each) codes.0)
     (line_proper ps h.1 codes.1)
 
 -- of spaces

@@ -62,23 +62,23 @@ padded_appends colored midpoint own pad values o p one two three =
     appends_as (ap (λ n. spaces 1 ∷ spaces n ∷ in_color colored values) (p ∙ ap (λ n. midpoint - n) o)) (appends_then one (appends_then two three))
 
 -- the midpoint of a row, from where its values end behind its head
-pub row_midpoint : {limit : Option ℕ} {old w : LineWriter} (colored : Bool) (row : PathRow) (p : RowProgress) (t : Option Throughput) → Begun limit old (in_color colored (head_of row)) w
-    → end_of_values w.width (values_of p t) ≡ midpoint_with row (Some p) t
-row_midpoint colored row p t h =
-    ap (λ n. end_of_values n (values_of p t)) h.writes.width ∙ sym (columns_of-append (head_of row) (spaces 1 ∷ values_of p t))
+pub row_midpoint : {limit : Option ℕ} {old w : LineWriter} (colored defensive : Bool) (row : PathRow) (p : RowProgress) (t : Option Throughput) → Begun limit old (in_color colored (head_of defensive row)) w
+    → end_of_values w.width (values_of defensive p t) ≡ midpoint_with defensive row (Some p) t
+row_midpoint colored defensive row p t h =
+    ap (λ n. end_of_values n (values_of defensive p t)) h.writes.width ∙ sym (columns_of-append (head_of defensive row) (spaces 1 ∷ values_of defensive p t))
 
 -- the line up to the values
-pub padded_begun : {limit : Option ℕ} {old w1 w2 : LineWriter} (colored : Bool) (row : PathRow) (p : RowProgress) (t : Option Throughput) (midpoint : ℕ) → Begun limit old (in_color colored (head_of row)) w1
-    → Appends w1 (in_color colored (padded_values midpoint w1.width (values_of p t))) w2 → Begun limit old (in_color colored (padded midpoint row p t)) w2
-padded_begun colored row p t midpoint h values =
-    begun_as (ap (λ n. in_color colored (head_of row ++ (spaces 1 ∷ spaces (midpoint - n) ∷ values_of p t))) (row_midpoint colored row p t h)) (begun_then h values)
+pub padded_begun : {limit : Option ℕ} {old w1 w2 : LineWriter} (colored defensive : Bool) (row : PathRow) (p : RowProgress) (t : Option Throughput) (midpoint : ℕ) → Begun limit old (in_color colored (head_of defensive row)) w1
+    → Appends w1 (in_color colored (padded_values midpoint w1.width (values_of defensive p t))) w2 → Begun limit old (in_color colored (padded defensive midpoint row p t)) w2
+padded_begun colored defensive row p t midpoint h values =
+    begun_as (ap (λ n. in_color colored (head_of defensive row ++ (spaces 1 ∷ spaces (midpoint - n) ∷ values_of defensive p t))) (row_midpoint colored defensive row p t h)) (begun_then h values)
 
 -- with the bar
-pub row_begun : {limit : Option ℕ} {old w1 w2 : LineWriter} (colored : Bool) (row : PathRow) (p : RowProgress) (t : Option Throughput) (width midpoint left : ℕ) (style : Style)
-    → Begun limit old (in_color colored (padded midpoint row p t)) w1 → left ≡ width - w1.width → style ≡ row_style p
-    → Appends w1 (in_color colored (bar style left p.counter p.bound)) w2 → Begun limit old (in_color colored (row_line_with width midpoint row (Some p) t)) w2
-row_begun colored row p t width midpoint left style h l s b =
-    let values = padded midpoint row p t in
+pub row_begun : {limit : Option ℕ} {old w1 w2 : LineWriter} (colored defensive : Bool) (row : PathRow) (p : RowProgress) (t : Option Throughput) (width midpoint left : ℕ) (style : Style)
+    → Begun limit old (in_color colored (padded defensive midpoint row p t)) w1 → left ≡ width - w1.width → style ≡ row_style p
+    → Appends w1 (in_color colored (bar style left p.counter p.bound)) w2 → Begun limit old (in_color colored (row_line_with defensive width midpoint row (Some p) t)) w2
+row_begun colored defensive row p t width midpoint left style h l s b =
+    let values = padded defensive midpoint row p t in
     let columns = l ∙ ap (λ n. width - n) (h.writes.width ∙ columns_of-in_color colored values) in
     begun_as (sym (in_color-append colored values (bar (row_style p) (width - columns_of values) p.counter p.bound)))
     (begun_then h (appends_as (ap (λ x. in_color colored (bar x left p.counter p.bound)) s ∙ ap (λ n. in_color colored (bar (row_style p) n p.counter p.bound)) columns) b))

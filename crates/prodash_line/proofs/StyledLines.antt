@@ -72,27 +72,27 @@ name_has : (progress : Option RowProgress) → HasCode (Some (name_style progres
 name_has None = some_code _ _
 name_has (Some p) = some_code _ _
 
-values_has : (unit : Option Measure) (p : RowProgress) (t : Option Throughput) → HasCodes (values_by unit p t)
-values_has None p t = (some_code _ _, tt)
-values_has (Some unit) p t = (some_code _ _, (tt, (tt, tt)))
+values_has : (defensive : Bool) (unit : Option Measure) (p : RowProgress) (t : Option Throughput) → HasCodes (values_by defensive unit p t)
+values_has defensive None p t = (some_code _ _, tt)
+values_has defensive (Some unit) p t = (some_code _ _, (tt, (tt, tt)))
 
 bar_has : (style : Style) (columns step : ℕ) (bound : Option ℕ) → HasCode (Some style) → HasCode (Some (dimmed style)) → HasCodes (bar style columns step bound)
 bar_has style columns step None h d = one_or_other (columns == 0) [] (unbounded_bar style columns step) tt (tt, (h, (tt, tt)))
 bar_has style columns step (Some bound) h d = one_or_other (columns == 0) [] (bounded_bar style columns step bound) tt (tt, (h, (h, (d, (tt, tt)))))
 
-row_has : (width midpoint : ℕ) (row : PathRow) (progress : Option RowProgress) (t : Option Throughput) → HasCodes (row_line_with width midpoint row progress t)
-row_has width midpoint row None t = (tt, (name_has row.1.progress, tt))
-row_has width midpoint row (Some p) t =
-    let values = padded midpoint row p t in
+row_has : (defensive : Bool) (width midpoint : ℕ) (row : PathRow) (progress : Option RowProgress) (t : Option Throughput) → HasCodes (row_line_with defensive width midpoint row progress t)
+row_has defensive width midpoint row None t = (tt, (name_has row.1.progress, tt))
+row_has defensive width midpoint row (Some p) t =
+    let values = padded defensive midpoint row p t in
     let styles = style_in_has p.phase p.counter p.bound in
     AllByRecursion-append (λ q. HasCode q.style) values (bar (row_style p) (width - columns_of values) p.counter p.bound)
-    (tt, (name_has row.1.progress, (tt, (tt, values_has p.unit p t))))
+    (tt, (name_has row.1.progress, (tt, (tt, values_has defensive p.unit p t))))
     (bar_has (row_style p) (width - columns_of values) p.counter p.bound styles.0 styles.1)
 
 pub rows_have : (options : Options) (midpoint : ℕ) (rows : List DrawnRow) → HaveCodes (row_lines options midpoint rows)
 rows_have options midpoint [] = tt
 rows_have options midpoint (row ∷ rows) =
-    (drawn_has options _ (row_has options.terminal_dimensions.0 midpoint row.0 row.0.1.progress row.1), rows_have options midpoint rows)
+    (drawn_has options _ (row_has options.defensive options.terminal_dimensions.0 midpoint row.0 row.0.1.progress row.1), rows_have options midpoint rows)
 
 -- the line that counts the other rows, if it is drawn
 none_or_one : (b : Bool) (line : Line) → HasCodes line → HaveCodes (cond b [] (line ∷ []))
@@ -109,15 +109,15 @@ time_has : (timestamp : Bool) (m : Message) → HasCodes (time_of timestamp m)
 time_has true m = (some_code _ _, (tt, tt))
 time_has false m = tt
 
-text_has : (width : ℕ) (m : Message) → HasCodes (text_of width m)
-text_has width m = (some_code _ _, (tt, (some_code _ _, tt)))
+text_has : (defensive : Bool) (width : ℕ) (m : Message) → HasCodes (text_of defensive width m)
+text_has defensive width m = (some_code _ _, (tt, (some_code _ _, tt)))
 
 message_has : (options : Options) (width : ℕ) (m : Message) → HasCodes (drawn_message_line options width m)
 message_has options width m =
-    drawn_has options (message_line options.timestamp width m) (tt, AllByRecursion-append (λ q. HasCode q.style) (time_of options.timestamp m) (text_of width m) (time_has options.timestamp m) (text_has width m))
+    drawn_has options (message_line options width m) (tt, AllByRecursion-append (λ q. HasCode q.style) (time_of options.timestamp m) (text_of options.defensive width m) (time_has options.timestamp m) (text_has options.defensive width m))
 
 pub messages_have : (options : Options) (widths : List ℕ) (messages : List Message) → HaveCodes (message_lines options widths messages)
 messages_have options widths [] = tt
 messages_have options widths (m ∷ messages) =
-    let all = widths ++ origin_width m.origin ∷ [] in
+    let all = widths ++ origin_width options.defensive m.origin ∷ [] in
     (message_has options (greatest_width all) m, messages_have options all messages)

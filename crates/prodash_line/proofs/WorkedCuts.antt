@@ -42,7 +42,7 @@ unfolding chars str_width step past_emoji digits longest_prefix
 five_columns = refl
 
 -- the midpoint is that of the whole row
-whole_midpoint : midpoint_of (three_of_ten, None) ≡ 7
+whole_midpoint : midpoint_of false (three_of_ten, None) ≡ 7
 unfolding chars str_width step past_emoji digits
 whole_midpoint = refl
 

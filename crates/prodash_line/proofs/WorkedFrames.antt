@@ -155,8 +155,8 @@ fits = record {
       record {
         plain = record {
           pieces = (
-            record { each = (record { proper = (refl, refl); width = refl }, tt); width = refl },
-            (record { each = (record { proper = (refl, refl); width = refl }, tt); width = refl }, tt),
+            record { each = (record { scalar = refl; width = refl }, tt); width = refl },
+            (record { each = (record { scalar = refl; width = refl }, tt); width = refl }, tt),
           );
           columns = refl;
         };

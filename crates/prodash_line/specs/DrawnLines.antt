@@ -1,10 +1,20 @@
--- Lines as they are drawn: in colour or not, and cut at the width of a terminal; and how frames are laid out.
-use Rattle.std.specs.Prelude.{ℕ, Bool, ◌&&◌, Option, if◌then◌else◌}
+-- Texts and lines as they are drawn: without control characters if the renderer is defensive, in colour or not, and cut at the width of a
+-- terminal; and how frames are laid out.
+use Rattle.std.specs.Prelude.{ℕ, Bool, ◌&&◌, List, map, chars, Option, if◌then◌else◌}
+use Rattle.std.specs.Char.{is_control}
 use Rattle.std.specs.Bool.{then_some}
 use Rattle.prodash_line.specs.declared.render.line.draw.input.Options.{Options}
 use Rattle.prodash_line.specs.Lines.{Line, cut, in_color}
 use Rattle.prodash_line.specs.declared.render.line.draw.layout.Layout.{Layout}
 use Rattle.prodash_line.specs.declared.render.line.draw.layout.Layout.TheVariants.{Overwriting, Clearing}
+
+-- a character of a text in a defensive frame: U+FFFD in place of a control character
+abbrev pub without_control : ℕ → ℕ
+without_control c = if is_control c then 0xFFFD else c
+
+-- the characters of a text as they are drawn: by a defensive renderer without control characters
+abbrev pub drawn_chars : Bool → List ℕ → List ℕ
+drawn_chars defensive text = if defensive then map without_control (chars text) else chars text
 
 -- the columns to which lines are cut: those of the terminal; on an output that is none, lines are whole
 abbrev pub limit_of : Options → Option ℕ

@@ -1,16 +1,15 @@
 -- Lines and frames that fit a page: of characters that are one column wide each, no wider than the page, and lower than its window.
 use Rattle.std.specs.Prelude.{ℕ, ◌≡◌, ◌<◌, ◌≤◌, Bool, false, MatchBool, ⊤, Some, List, [], length}
 use Rattle.std.specs.List.{AllByRecursion}
+use Rattle.std.specs.Char.{IsScalar}
 use Rattle.unicode_width.specs.Width.{char_width}
-use Rattle.prodash_line.specs.Signs.{IsProper}
 use Rattle.prodash_line.specs.Lines.{Piece, Line, width_of, columns_of, line_text}
 use Rattle.prodash_line.specs.Frames.{Body, Unchanged, Draws, Closes, Frame, body_lines}
 use Rattle.prodash_line.specs.declared.render.line.draw.layout.Layout.TheVariants.{Overwriting}
-use Rattle.prodash_line.specs.declared.render.line.page.sign.Sign.TheVariants.{Char}
 
--- no control character, and one column wide
+-- one column wide, as no control character is
 pub record IsPlainChar (c : ℕ) : Type 0 where
-  pub proper : IsProper (Char c)
+  pub scalar : IsScalar c
   pub width : char_width false c ≡ Some 1
 
 -- plain characters, and as many columns as characters

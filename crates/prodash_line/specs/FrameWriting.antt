@@ -116,7 +116,7 @@ shown_lines options midpoint tracker rows = row_lines options midpoint (shown_ro
 -- these rows have been drawn besides those of old, aligned to this midpoint
 pub record AddsRows (options : Options) (aligned : ℕ) (tracker : Option Tracker) (rows : List Row) (old new : Drawn) : Type 0 where
   pub widths : new.widths.items ≡ old.widths.items ++ widths_of (shown_lines options aligned tracker rows)
-  pub midpoint : new.midpoint ≡ max old.midpoint (greatest_midpoint (shown_rows options tracker rows))
+  pub midpoint : new.midpoint ≡ max old.midpoint (greatest_midpoint options.defensive (shown_rows options tracker rows))
   pub rows_erased : new.rows_erased ≡ old.rows_erased
   pub action : new.action ≡ old.action
 
@@ -133,7 +133,7 @@ fitting_lines options midpoint tracker rows =
 -- the rows that fit have been drawn besides those of old, aligned to this midpoint
 pub record AddsFitting (options : Options) (aligned : ℕ) (tracker : Option Tracker) (rows : List Row) (old new : Drawn) : Type 0 where
   pub widths : new.widths.items ≡ old.widths.items ++ widths_of (fitting_lines options aligned tracker rows)
-  pub midpoint : new.midpoint ≡ max old.midpoint (greatest_midpoint (fitting_shown options tracker rows))
+  pub midpoint : new.midpoint ≡ max old.midpoint (greatest_midpoint options.defensive (fitting_shown options tracker rows))
   pub rows_erased : new.rows_erased ≡ old.rows_erased
   pub action : new.action ≡ old.action
 

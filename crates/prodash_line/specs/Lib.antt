@@ -22,4 +22,5 @@ pub mod Shows
 pub mod Fits
 pub mod Renderings
 pub mod ClearedPages
+pub mod ControlCharacters
 pub mod plumbing

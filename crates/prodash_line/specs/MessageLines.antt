@@ -5,28 +5,32 @@ use Rattle.prodash_base.specs.Rings.{keep_last}
 use Rattle.prodash_base.specs.declared.messages.Message.{Message}
 use Rattle.prodash_line.specs.declared.render.line.draw.input.Options.{Options}
 use Rattle.prodash_line.specs.Lines.{Line, piece, styled, spaces, columns_of, in_color}
-use Rattle.prodash_line.specs.DrawnLines.{as_drawn}
+use Rattle.prodash_line.specs.DrawnLines.{drawn_chars, as_drawn}
 use Rattle.prodash_line.specs.TextStyles.{origin_style, message_style, time_style}
 
 -- the width of an origin
-abbrev pub origin_width : List ℕ → ℕ
-origin_width origin = columns_of (piece (chars origin) ∷ [])
+abbrev pub origin_width : Bool → List ℕ → ℕ
+origin_width defensive origin = columns_of (piece (drawn_chars defensive origin) ∷ [])
 
 -- an origin after spaces that bring it to this width
-abbrev pub aligned_origin : ℕ → List ℕ → List ℕ
-aligned_origin width origin = replicate (width - origin_width origin) 32 ++ chars origin
+abbrev pub aligned_origin : Bool → ℕ → List ℕ → List ℕ
+aligned_origin defensive width origin = replicate (width - origin_width defensive origin) 32 ++ drawn_chars defensive origin
 
 -- the time of day of a message and a space, if times are shown
 abbrev pub time_of : Bool → Message → Line
 time_of timestamp m = if timestamp then styled (Some (time_style m.level)) (chars (time_text m.time)) ∷ spaces 1 ∷ [] else []
 
 -- the origin right-aligned to this width, a space, the text
-abbrev pub text_of : ℕ → Message → Line
-text_of width m = styled (Some origin_style) (aligned_origin width m.origin) ∷ spaces 1 ∷ styled (Some (message_style m.level)) (chars m.message) ∷ []
+abbrev pub text_of : Bool → ℕ → Message → Line
+text_of defensive width m =
+    styled (Some origin_style) (aligned_origin defensive width m.origin)
+    ∷ spaces 1
+    ∷ styled (Some (message_style m.level)) (drawn_chars defensive m.message)
+    ∷ []
 
 -- a space, the time if times are shown, the origin right-aligned to this width, a space, the text
-abbrev pub message_line : Bool → ℕ → Message → Line
-message_line timestamp width m = spaces 1 ∷ time_of timestamp m ++ text_of width m
+abbrev pub message_line : Options → ℕ → Message → Line
+message_line options width m = spaces 1 ∷ time_of options.timestamp m ++ text_of options.defensive width m
 
 -- its time as it is drawn
 abbrev pub drawn_time : Options → Message → Line
@@ -34,7 +38,7 @@ drawn_time options m = in_color options.colored (time_of options.timestamp m)
 
 -- the line of a message as it is drawn
 abbrev pub drawn_message_line : Options → ℕ → Message → Line
-drawn_message_line options width m = as_drawn options (message_line options.timestamp width m)
+drawn_message_line options width m = as_drawn options (message_line options width m)
 
 -- the greatest of some widths, 0 if there are none
 abbrev pub greatest_width : List ℕ → ℕ
@@ -45,12 +49,13 @@ greatest_width (width ∷ widths) = max width (greatest_width widths)
 abbrev pub message_lines : Options → List ℕ → List Message → List Line
 message_lines options widths [] = []
 message_lines options widths (m ∷ messages) =
-    let all = widths ++ origin_width m.origin ∷ [] in drawn_message_line options (greatest_width all) m ∷ message_lines options all messages
+    let all = widths ++ origin_width options.defensive m.origin ∷ [] in
+    drawn_message_line options (greatest_width all) m ∷ message_lines options all messages
 
 -- the width of each message's origin
-abbrev pub widths_of_origins : List Message → List ℕ
-widths_of_origins messages = map (λ m. origin_width m.origin) messages
+abbrev pub widths_of_origins : Bool → List Message → List ℕ
+widths_of_origins defensive messages = map (λ m. origin_width defensive m.origin) messages
 
 -- the origin widths that are kept after a frame's messages: the latest, as many as the terminal has rows
-abbrev pub latest_origin_widths : ℕ → List ℕ → List Message → List ℕ
-latest_origin_widths height widths messages = keep_last height (widths ++ widths_of_origins messages)
+abbrev pub latest_origin_widths : Options → List ℕ → List Message → List ℕ
+latest_origin_widths options widths messages = keep_last options.terminal_dimensions.1 (widths ++ widths_of_origins options.defensive messages)

@@ -1,5 +1,5 @@
 -- The line of a row: its name, and with progress its values and a bar.
-use Rattle.std.specs.Prelude.{◌≡◌, ℕ, ◌-◌, ◌*◌, ◌/◌, ◌%◌, ◌^◌, min, max, List, [], ◌∷◌, ◌++◌, length, map, take, zip, replicate, reverse, codes, chars, if◌then◌else◌, ◌==◌, nat_eq, nat_lt, nat_le, Bool, true, ◌&&◌, ◌||◌, Option, Some, None}
+use Rattle.std.specs.Prelude.{◌≡◌, ℕ, ◌-◌, ◌*◌, ◌/◌, ◌%◌, ◌^◌, min, max, List, [], ◌∷◌, ◌++◌, length, map, take, zip, replicate, reverse, codes, if◌then◌else◌, ◌==◌, nat_eq, nat_lt, nat_le, Bool, true, ◌&&◌, ◌||◌, Option, Some, None}
 use Rattle.std.specs.List.{range_with_len, filter}
 use Rattle.std.specs.Fmt.{decimal}
 use Rattle.prodash_base.specs.Kinds.{quantity_shown}
@@ -13,7 +13,7 @@ use Rattle.prodash_line.specs.declared.render.line.page.style.Style.{Style}
 use Rattle.prodash_line.specs.Lines.{Line, piece, styled, spaces, columns_of}
 use Rattle.prodash_line.specs.declared.render.line.draw.layout.Layout.{Layout}
 use Rattle.prodash_line.specs.declared.render.line.draw.layout.Layout.TheVariants.{Overwriting, Clearing}
-use Rattle.prodash_line.specs.DrawnLines.{as_drawn}
+use Rattle.prodash_line.specs.DrawnLines.{drawn_chars, as_drawn}
 use Rattle.prodash_line.specs.TextStyles.{dimmed, name_style, values_style, row_style}
 
 -- `step/bound`, or the step alone if there is no bound
@@ -30,25 +30,25 @@ abbrev pub DrawnRow : Type 0
 DrawnRow = PathRow × Option Throughput
 
 -- the values of a progress in a unit, a space and the unit
-abbrev pub values_in : Measure → RowProgress → Option Throughput → Line
-values_in unit p throughput =
+abbrev pub values_in : Bool → Measure → RowProgress → Option Throughput → Line
+values_in defensive unit p throughput =
     let shown = quantity_shown unit.quantity in
-    styled (Some values_style) (chars (values_text shown unit.mode (amount p.counter p.bound throughput)))
+    styled (Some values_style) (drawn_chars defensive (values_text shown unit.mode (amount p.counter p.bound throughput)))
     ∷ spaces 1
-    ∷ piece (chars (unit_text shown unit.mode (amount p.counter p.bound throughput)))
+    ∷ piece (drawn_chars defensive (unit_text shown unit.mode (amount p.counter p.bound throughput)))
     ∷ []
 
 -- the values of a progress without a unit
 abbrev pub fraction_values : ℕ → Option ℕ → Line
 fraction_values step bound = styled (Some values_style) (fraction_of step bound) ∷ []
 
-abbrev pub values_by : Option Measure → RowProgress → Option Throughput → Line
-values_by None p throughput = fraction_values p.counter p.bound
-values_by (Some unit) p throughput = values_in unit p throughput
+abbrev pub values_by : Bool → Option Measure → RowProgress → Option Throughput → Line
+values_by defensive None p throughput = fraction_values p.counter p.bound
+values_by defensive (Some unit) p throughput = values_in defensive unit p throughput
 
 -- the values of a progress, in its unit if it has one
-abbrev pub values_of : RowProgress → Option Throughput → Line
-values_of p throughput = values_by p.unit p throughput
+abbrev pub values_of : Bool → RowProgress → Option Throughput → Line
+values_of defensive p throughput = values_by defensive p.unit p throughput
 
 -- how many of a bar's cells are filled
 abbrev pub filled_cells : ℕ → ℕ → ℕ → ℕ
@@ -89,46 +89,46 @@ bar style columns step None = if columns == 0 then [] else unbounded_bar style c
 bar style columns step (Some bound) = if columns == 0 then [] else bounded_bar style columns step bound
 
 -- as many spaces as the path is long, and the name
-abbrev pub head_of : PathRow → Line
-head_of row = spaces (length row.0) ∷ styled (Some (name_style row.1.progress)) (chars row.1.name) ∷ []
+abbrev pub head_of : Bool → PathRow → Line
+head_of defensive row = spaces (length row.0) ∷ styled (Some (name_style row.1.progress)) (drawn_chars defensive row.1.name) ∷ []
 
 -- a row up to its values, without padding
-abbrev pub unpadded : PathRow → RowProgress → Option Throughput → Line
-unpadded row p throughput = head_of row ++ (spaces 1 ∷ values_of p throughput)
+abbrev pub unpadded : Bool → PathRow → RowProgress → Option Throughput → Line
+unpadded defensive row p throughput = head_of defensive row ++ (spaces 1 ∷ values_of defensive p throughput)
 
-abbrev pub midpoint_with : PathRow → Option RowProgress → Option Throughput → ℕ
-midpoint_with row None throughput = 0
-midpoint_with row (Some p) throughput = columns_of (unpadded row p throughput)
+abbrev pub midpoint_with : Bool → PathRow → Option RowProgress → Option Throughput → ℕ
+midpoint_with defensive row None throughput = 0
+midpoint_with defensive row (Some p) throughput = columns_of (unpadded defensive row p throughput)
 
 -- the column at which a row's values end, without padding; 0 for a row without progress
-abbrev pub midpoint_of : DrawnRow → ℕ
-midpoint_of drawn = midpoint_with drawn.0 drawn.0.1.progress drawn.1
+abbrev pub midpoint_of : Bool → DrawnRow → ℕ
+midpoint_of defensive drawn = midpoint_with defensive drawn.0 drawn.0.1.progress drawn.1
 
 -- the greatest midpoint of some rows
-abbrev pub greatest_midpoint : List DrawnRow → ℕ
-greatest_midpoint [] = 0
-greatest_midpoint (drawn ∷ others) = max (midpoint_of drawn) (greatest_midpoint others)
+abbrev pub greatest_midpoint : Bool → List DrawnRow → ℕ
+greatest_midpoint defensive [] = 0
+greatest_midpoint defensive (drawn ∷ others) = max (midpoint_of defensive drawn) (greatest_midpoint defensive others)
 
 -- a row up to its values, with spaces before them that bring their end to this midpoint
-abbrev pub padded : ℕ → PathRow → RowProgress → Option Throughput → Line
-padded midpoint row p throughput =
-    head_of row
-    ++ (spaces 1 ∷ spaces (midpoint - columns_of (unpadded row p throughput)) ∷ values_of p throughput)
+abbrev pub padded : Bool → ℕ → PathRow → RowProgress → Option Throughput → Line
+padded defensive midpoint row p throughput =
+    head_of defensive row
+    ++ (spaces 1 ∷ spaces (midpoint - columns_of (unpadded defensive row p throughput)) ∷ values_of defensive p throughput)
 
-abbrev pub row_line_with : ℕ → ℕ → PathRow → Option RowProgress → Option Throughput → Line
-row_line_with width midpoint row None throughput = head_of row
-row_line_with width midpoint row (Some p) throughput =
-    let values = padded midpoint row p throughput in
+abbrev pub row_line_with : Bool → ℕ → ℕ → PathRow → Option RowProgress → Option Throughput → Line
+row_line_with defensive width midpoint row None throughput = head_of defensive row
+row_line_with defensive width midpoint row (Some p) throughput =
+    let values = padded defensive midpoint row p throughput in
     values ++ bar (row_style p) (width - columns_of values) p.counter p.bound
 
 -- the line of a row on a terminal of this width: without progress its head alone, else its values, brought to this midpoint, and a bar on the
 -- columns that are left
-abbrev pub row_line : ℕ → ℕ → DrawnRow → Line
-row_line width midpoint drawn = row_line_with width midpoint drawn.0 drawn.0.1.progress drawn.1
+abbrev pub row_line : Bool → ℕ → ℕ → DrawnRow → Line
+row_line defensive width midpoint drawn = row_line_with defensive width midpoint drawn.0 drawn.0.1.progress drawn.1
 
 -- the line of a row as it is drawn
 abbrev pub drawn_row_line : Options → ℕ → DrawnRow → Line
-drawn_row_line options midpoint drawn = as_drawn options (row_line options.terminal_dimensions.0 midpoint drawn)
+drawn_row_line options midpoint drawn = as_drawn options (row_line options.defensive options.terminal_dimensions.0 midpoint drawn)
 
 abbrev pub row_lines : Options → ℕ → List DrawnRow → List Line
 row_lines options midpoint rows = map (drawn_row_line options midpoint) rows

@@ -160,7 +160,11 @@ pub record Drawing : Type 0 where
 -- the drawing of rows at a moment
 abbrev pub drawing_of : Renderer → ℕ → List PathRow → Drawing
 drawing_of r at rows =
-    record { lines = drawn_lines r at rows; midpoint = greatest_midpoint (fitting_rows r at rows); tracker = tracker_after r at rows }
+    record {
+      lines = drawn_lines r at rows;
+      midpoint = greatest_midpoint r.options.defensive (fitting_rows r at rows);
+      tracker = tracker_after r at rows;
+    }
 
 -- the renderer on a terminal of this size
 abbrev pub resized : Renderer → ℕ → ℕ → Renderer
@@ -174,7 +178,7 @@ resized r columns height = record r {
 abbrev pub remember : Renderer → Input → Renderer
 remember r (Tick at show (Some seen)) = record r {
   last_rows = Some seen.0;
-  origin_widths = latest_origin_widths r.options.terminal_dimensions.1 r.origin_widths seen.1;
+  origin_widths = latest_origin_widths r.options r.origin_widths seen.1;
   seen = Some seen.2;
 }
 remember r (Tick at show None) = r

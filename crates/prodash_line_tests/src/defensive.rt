@@ -1,6 +1,7 @@
 //! Frames that erase the rows that they write on.
-use crate::fixtures::Ask::{Hide, Print, PrintHidden, Quit, Resize, Show};
-use crate::fixtures::{Drawing, Progress, TERMINAL, Task, assert_draws_with};
+use crate::fixtures::Ask::{Hide, Measure, Print, PrintHidden, Quit, Resize, Show};
+use crate::fixtures::{Drawing, Progress, TERMINAL, Task, assert_draws, assert_draws_with};
+use prodash_base::unit::Kind;
 use prodash_line::render::line::draw::Options;
 use std::test::Fail;
 
@@ -90,8 +91,50 @@ const PLAIN: &[Drawing] = &[
     Drawing((40, 20), &[
         (Show(&[TASK]), Ok("")),
         (Print(&[("task", "one")], &[TASK]), Ok(" task one\n")),
+        (Print(&[("\ttask", "\x1b[2J\u{85}")], &[TASK]), Ok(" \u{FFFD}task \u{FFFD}[2J\u{FFFD}\n")),
         (Quit, Ok("")),
     ]),
+];
+
+/// A task whose name clears a terminal.
+const CLEARING: Task = ("a\x1b[2J", None);
+
+/// Frames of texts that have control characters.
+#[rattlefmt::skip]
+const CONTROLS: &[Drawing] = &[
+    // names, origins, messages and units
+    Drawing((40, 20), &[
+        (Show(&[CLEARING]), Ok("\r\x1b[2K a\u{FFFD}[2J\n\x1b[J\x1b[1A")),
+        (Show(&[CLEARING]), Ok("")),
+        (Show(&[("\t\u{7f}\u{85}", None)]), Ok("\r\x1b[2K \u{FFFD}\u{FFFD}\u{FFFD}\n\x1b[J\x1b[1A")),
+        (PrintHidden(&[("\ta", "\x1b[2J\u{85}")], &[]), Ok("\r\x1b[2K \u{FFFD}a \u{FFFD}[2J\u{FFFD}\n\x1b[J")),
+    ]),
+    Drawing((20, 20), &[
+        (Measure(Kind::Label("i\x1bt"), 2, None), Ok("\r\x1b[2K t 2 i\u{FFFD}t [  ===   =]\n\x1b[J\x1b[1A")),
+    ]),
+    // a row has changed if only its control characters have
+    Drawing((40, 20), &[
+        (Show(&[("a\t", None)]), Ok("\r\x1b[2K a\u{FFFD}\n\x1b[J\x1b[1A")),
+        (Show(&[("a\n", None)]), Ok("\r\x1b[2K a\u{FFFD}\n\x1b[J\x1b[1A")),
+    ]),
+    // cut and aligned by the widths of what is written: as they are, CR and LF are one column
+    Drawing((20, 20), &[
+        (Show(&[("\r\n", THREE_OF_TEN)]), Ok("\r\x1b[2K \u{FFFD}\u{FFFD} 3/10 [==>------]\n\x1b[J\x1b[1A")),
+        (PrintHidden(&[("abc", "x"), ("\r\n", "y")], &[]), Ok("\r\x1b[2K abc x\n\x1b[2K  \u{FFFD}\u{FFFD} y\n\x1b[J")),
+    ]),
+    Drawing((2, 20), &[(Show(&[("\r\n", None)]), Ok("\r\x1b[2K \u{FFFD}\n\x1b[J\x1b[1A"))]),
+];
+
+/// Such frames without the option: each byte is as it is.
+#[rattlefmt::skip]
+const KEPT: &[Drawing] = &[
+    Drawing((20, 20), &[
+        (Show(&[("a\x1b[2J\t\u{85}", None)]), Ok(" a\x1b[2J\t\u{85}\n\x1b[1A")),
+        (Show(&[]), Ok("        \n\x1b[1A")),
+        (PrintHidden(&[("\ta", "\x1b[2J\u{85}")], &[]), Ok(" \ta \x1b[2J\u{85}\n")),
+    ]),
+    Drawing((20, 20), &[(Measure(Kind::Label("i\x1bt"), 2, None), Ok(" t 2 i\x1bt [  ===   =]\n\x1b[1A"))]),
+    Drawing((20, 20), &[(Show(&[("\r\n", THREE_OF_TEN)]), Ok(" \r\n 3/10 [==>-------]\n\x1b[1A"))]),
 ];
 
 #[test]
@@ -115,4 +158,14 @@ fn only_terminals_have_defensive_frames(rt: HostRuntime) -> Result<(), Fail> {
         ..DEFENSIVE
     };
     assert_draws_with(&rt, rt.alloc(), plain, PLAIN)
+}
+
+#[test]
+fn defensive_frames_have_no_control_characters_of_texts(rt: HostRuntime) -> Result<(), Fail> {
+    assert_draws_with(&rt, rt.alloc(), DEFENSIVE, CONTROLS)
+}
+
+#[test]
+fn other_frames_keep_control_characters(rt: HostRuntime) -> Result<(), Fail> {
+    assert_draws(&rt, rt.alloc(), KEPT)
 }

@@ -3,10 +3,12 @@ ghost use Rattle.std.specs.Prelude.{◌≡◌, ℕ, Bool, Some, None, IsOkUnless
 ghost use Rattle.prodash_line.specs.Screens.{WritesFrame, BreaksDuring};
 ghost use Rattle.prodash_line.specs.Renderer.{Renders, begun, broken};
 ghost use Rattle.prodash_line.specs.ClearedPages.{ClearsPages};
+ghost use Rattle.prodash_line.specs.ControlCharacters.{DrawsNoControls};
 
 mod action;
 mod bar;
 mod clearing;
+mod drawn_text;
 mod fitting;
 mod frame;
 mod input;
@@ -89,6 +91,9 @@ pub fn all<S: Screen>(
 
     // Every page shows a frame that erases the rows that it writes on.
     ensures page { ClearsPages state.old input }
+
+    // No line of a defensive frame has a control character.
+    ensures controls { DrawsNoControls state.old input }
 {
     if let Some(refusal) = state.ended() {
         return Err(refusal);

@@ -16,6 +16,7 @@ ghost use Rattle.prodash_line.specs.FrameWriting.{HoldsFrame, action_start, Appe
 
 use crate::render::line::draw::action::{Action, Composed, Drawn};
 use crate::render::line::draw::clearing::{finish_clearing, start_frame, start_row};
+use crate::render::line::draw::drawn_text::drawn_text;
 use crate::render::line::draw::input::Options;
 use crate::render::line::draw::layout::Layout;
 use crate::render::line::draw::line_writer::LineWriter;
@@ -203,7 +204,8 @@ fn write_body(
     }
 }
 
-/// Writes a redraw of no rows: the lines on screen are blanked, and the cursor is back at the first.
+/// Writes a redraw of no rows: the lines on screen are blanked, and the cursor is back at the
+/// first.
 fn write_no_rows(out: &mut LineWriter, layout: Layout, widths: &[u16]) -> Result<(), AllocError>
     ensures { OnOk result (AppendsSigns out.old (redraw layout widths.now []) out.new) }
 {
@@ -255,7 +257,8 @@ fn write_messages(
         (let lines = message_lines options.now origin_widths.old.items messages.now in
         AppendsOver (layout_of options.now) out.old widths.now lines out.new) }
     ensures origins { OnOk result
-        (origin_widths.new.items ≡ origin_widths.old.items ++ widths_of_origins messages.now) }
+        (let widths = widths_of_origins options.now.defensive messages.now in
+        origin_widths.new.items ≡ origin_widths.old.items ++ widths) }
     ensures reason { IsOkUnless result Refusal.Memory }
 {
     let layout = options.layout();
@@ -263,10 +266,12 @@ fn write_messages(
     let mut greatest = greatest_of(origin_widths);
     for message in messages {
         let (width, others) = split_row(left);
-        let own_width = text_width(message.origin.as_str());
+        let mut replaced = String::new(alloc);
+        let origin = drawn_text(options.defensive, message.origin.as_str(), &mut replaced)?;
+        let own_width = text_width(origin);
         greatest = greatest.max(own_width);
         start_row(out, layout)?;
-        push_message(alloc, out, options, greatest, own_width, message)?;
+        push_message(alloc, out, options, greatest, origin, own_width, message)?;
         out.end_over(width)?;
         origin_widths.push(own_width)?;
         left = others;

@@ -37,6 +37,9 @@ pub struct Options {
     /// Whether each frame erases the rows of a terminal that it writes on, and all rows below
     /// them, and draws no more rows than the terminal has. Then nothing is left on screen of what
     /// other programs print between two frames, or of a terminal whose size has changed.
+    ///
+    /// Also whether U+FFFD is written in place of each control character of a name, an origin, a
+    /// message or a text of a unit, on a terminal or not.
     pub defensive: bool,
 }
 

@@ -1,9 +1,11 @@
 //! The line of a message: its origin, aligned with those of other messages, and its text.
-ghost use Rattle.std.specs.Prelude.{◌≡◌, OnOk, IsOkUnless};
+ghost use Rattle.std.specs.Prelude.{◌≡◌, chars, OnOk, IsOkUnless};
 ghost use Rattle.prodash_line.specs.Lines.{in_color};
+ghost use Rattle.prodash_line.specs.DrawnLines.{drawn_chars};
 ghost use Rattle.prodash_line.specs.MessageLines.{origin_width, drawn_time, text_of, message_line, greatest_width};
 ghost use Rattle.prodash_line.specs.Writing.{Appends, DrawsLine};
 
+use crate::render::line::draw::drawn_text::drawn_text;
 use crate::render::line::draw::input::Options;
 use crate::render::line::draw::line_writer::LineWriter;
 use crate::render::line::draw::styles::{message_style, origin_style, time_style};
@@ -12,26 +14,27 @@ use prodash_base::messages::Message;
 use prodash_base::time::format_time_for_messages;
 use std::alloc::{AllocError, Global};
 
-/// Writes the line of a message whose origin has this width, right-aligned to `width`. Fails if out
-/// of memory.
+/// Writes the line of a message whose origin is drawn as `origin`, of this width, and right-aligned
+/// to `width`. Fails if out of memory.
 pub(crate) fn push_message(
     alloc: Global,
     out: &mut LineWriter,
     options: &Options,
     width: u16,
+    origin: &str,
     own_width: u16,
     message: &Message,
 ) -> Result<(), Refusal>
-    requires { own_width ≡ origin_width message.now.origin }
+    requires drawn { chars origin.now ≡ drawn_chars options.now.defensive message.now.origin }
+    requires width { own_width ≡ origin_width options.now.defensive message.now.origin }
     ensures line { OnOk result
-        (DrawsLine options.now out.old
-        (message_line options.now.timestamp width message.now) out.new) }
+        (DrawsLine options.now out.old (message_line options.now width message.now) out.new) }
     ensures reason { IsOkUnless result Refusal.Memory }
 {
     out.begin(options.width_limit());
     out.push_spaces(1)?;
     push_time(alloc, out, options, message)?;
-    push_text(out, options.colored, width, own_width, message)?;
+    push_text(alloc, out, options, width, origin, own_width, message)?;
     Ok(())
 }
 
@@ -56,24 +59,31 @@ fn push_time(
     Ok(())
 }
 
-/// Appends the origin of a message, right-aligned to `width`, a space and its text.
+/// Appends the origin of a message, which is drawn as `origin`, right-aligned to `width`, a space
+/// and its text.
 fn push_text(
+    alloc: Global,
     out: &mut LineWriter,
-    colored: bool,
+    options: &Options,
     width: u16,
+    origin: &str,
     own_width: u16,
     message: &Message,
 ) -> Result<(), AllocError>
-    requires { own_width ≡ origin_width message.now.origin }
+    requires drawn { chars origin.now ≡ drawn_chars options.now.defensive message.now.origin }
+    requires width { own_width ≡ origin_width options.now.defensive message.now.origin }
     ensures { OnOk result
-        (Appends out.old (in_color colored (text_of width message.now)) out.new) }
+        (let text = text_of options.now.defensive width message.now in
+        Appends out.old (in_color options.now.colored text) out.new) }
 {
+    let mut replaced = String::new(alloc);
+    let text = drawn_text(options.defensive, message.message.as_str(), &mut replaced)?;
     let padding = width.saturating_sub(own_width);
-    let origin = colored.then_some(origin_style());
-    let text = colored.then_some(message_style(message.level));
-    out.push_indented(origin, padding, message.origin.as_str(), own_width)?;
+    let of_origin = options.colored.then_some(origin_style());
+    let of_text = options.colored.then_some(message_style(message.level));
+    out.push_indented(of_origin, padding, origin, own_width)?;
     out.push_spaces(1)?;
-    out.push(text, message.message.as_str())?;
+    out.push(of_text, text)?;
     Ok(())
 }
 

@@ -8,6 +8,7 @@ ghost use Rattle.prodash_line.specs.Padding.{end_of_values, Pads};
 ghost use Rattle.prodash_line.specs.Writing.{is_printable, AppendsIn, DrawsLine};
 
 use crate::render::line::draw::bar::push_bar;
+use crate::render::line::draw::drawn_text::drawn_text;
 use crate::render::line::draw::input::Options;
 use crate::render::line::draw::line_writer::{LineWriter, style_of_length};
 use crate::render::line::draw::styles::{name_style, row_style, values_style};
@@ -33,21 +34,21 @@ pub(crate) fn push_row(
     ensures line { OnOk result
         (let width = options.now.terminal_dimensions.0 in
         DrawsLine options.now out.old
-        (rows.row_line width midpoint (row_of row.now, throughput)) out.new) }
-    ensures midpoint { IfOk result (λ n. n ≡ rows.midpoint_of (row_of row.now, throughput)) }
+        (rows.row_line options.now.defensive width midpoint (row_of row.now, throughput)) out.new) }
+    ensures midpoint { IfOk result
+        (λ n. n ≡ rows.midpoint_of options.now.defensive (row_of row.now, throughput)) }
     ensures reason { IsOkUnless result Refusal.Memory }
 {
     let (width, _) = options.terminal_dimensions;
-    let colored = options.colored;
     out.begin(options.width_limit());
-    push_head(out, colored, row)?;
+    push_head(alloc, out, options, row)?;
     let Some(value) = &row.progress else {
         return Ok(0);
     };
-    let own = push_values(alloc, out, colored, midpoint, value, throughput)?;
+    let own = push_values(alloc, out, options, midpoint, value, throughput)?;
     push_bar(
         out,
-        colored,
+        options.colored,
         row_style(value),
         width.saturating_sub(out.width()),
         value.step,
@@ -61,22 +62,22 @@ pub(crate) fn push_row(
 fn push_values(
     alloc: Global,
     out: &mut LineWriter,
-    colored: bool,
+    options: &Options,
     midpoint: u16,
     value: &Value,
     throughput: Option<Throughput>,
 ) -> Result<u16, Refusal>
     ensures line { OnOk result
-        (let values = rows.values_of (progress_of value.now) throughput in
-        Pads colored midpoint out.old values out.new) }
-    ensures end { IfOk result
-        (λ n. let values = rows.values_of (progress_of value.now) throughput in
+        (let values = rows.values_of options.now.defensive (progress_of value.now) throughput in
+        Pads options.now.colored midpoint out.old values out.new) }
+    ensures end { IfOk result (λ n.
+        let values = rows.values_of options.now.defensive (progress_of value.now) throughput in
         n ≡ end_of_values out.old.width values) }
     ensures reason { IsOkUnless result Refusal.Memory }
 {
     match value.unit {
-        None => Ok(push_fraction(out, colored, midpoint, value.step, value.done_at)?),
-        Some(unit) => push_in_unit(alloc, out, colored, midpoint, unit, value, throughput),
+        None => Ok(push_fraction(out, options.colored, midpoint, value.step, value.done_at)?),
+        Some(unit) => push_in_unit(alloc, out, options, midpoint, unit, value, throughput),
     }
 }
 
@@ -116,17 +117,19 @@ fn push_fraction(
 fn push_in_unit(
     alloc: Global,
     out: &mut LineWriter,
-    colored: bool,
+    options: &Options,
     midpoint: u16,
     unit: Unit,
     value: &Value,
     throughput: Option<Throughput>,
 ) -> Result<u16, Refusal>
     ensures line { OnOk result
-        (let values = rows.values_in (measure_of unit) (progress_of value.now) throughput in
-        Pads colored midpoint out.old values out.new) }
-    ensures end { IfOk result
-        (λ n. let values = rows.values_in (measure_of unit) (progress_of value.now) throughput in
+        (let p = progress_of value.now in
+        let values = rows.values_in options.now.defensive (measure_of unit) p throughput in
+        Pads options.now.colored midpoint out.old values out.new) }
+    ensures end { IfOk result (λ n.
+        let p = progress_of value.now in
+        let values = rows.values_in options.now.defensive (measure_of unit) p throughput in
         n ≡ end_of_values out.old.width values) }
     ensures reason { IsOkUnless result Refusal.Memory }
 {
@@ -138,8 +141,12 @@ fn push_in_unit(
     unit.display(alloc, value.step, value.done_at, throughput)
         .unit()
         .append_to(&mut name)?;
-    let values_width = text_width(values.as_str());
-    let name_width = text_width(name.as_str());
+    let mut replaced_values = String::new(alloc);
+    let mut replaced_name = String::new(alloc);
+    let values = drawn_text(options.defensive, values.as_str(), &mut replaced_values)?;
+    let name = drawn_text(options.defensive, name.as_str(), &mut replaced_name)?;
+    let values_width = text_width(values);
+    let name_width = text_width(name);
     let own = out
         .width()
         .saturating_add(1)
@@ -148,14 +155,10 @@ fn push_in_unit(
         .saturating_add(name_width);
     out.push_spaces(1)?;
     out.push_spaces(midpoint.saturating_sub(own))?;
-    out.push_indented(
-        colored.then_some(values_style()),
-        0,
-        values.as_str(),
-        values_width,
-    )?;
+    let style = options.colored.then_some(values_style());
+    out.push_indented(style, 0, values, values_width)?;
     out.push_spaces(1)?;
-    out.push_indented(None, 0, name.as_str(), name_width)?;
+    out.push_indented(None, 0, name, name_width)?;
     Ok(own)
 }
 
@@ -184,12 +187,20 @@ fn format_bound(digits: &mut Buffer, done_at: Option<Step>) -> (&'static str, &s
 }
 
 /// Appends as many spaces as the level of a row, then its name.
-fn push_head(out: &mut LineWriter, colored: bool, row: &Row) -> Result<(), AllocError>
+fn push_head(
+    alloc: Global,
+    out: &mut LineWriter,
+    options: &Options,
+    row: &Row,
+) -> Result<(), AllocError>
     ensures { OnOk result
-        (AppendsIn colored out.old (rows.head_of (row_of row.now)) out.new) }
+        (let head = rows.head_of options.now.defensive (row_of row.now) in
+        AppendsIn options.now.colored out.old head out.new) }
 {
-    let style = colored.then_some(name_style(&row.progress));
+    let mut replaced = String::new(alloc);
+    let name = drawn_text(options.defensive, row.name.as_str(), &mut replaced)?;
+    let style = options.colored.then_some(name_style(&row.progress));
     out.push_spaces(u16::from(row.key.level()))?;
-    out.push(style, row.name.as_str())?;
+    out.push(style, name)?;
     Ok(())
 }

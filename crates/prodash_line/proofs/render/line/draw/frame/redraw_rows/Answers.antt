@@ -65,8 +65,8 @@ returns-clause-state c =
     let layout = layout_of c.args.scene.now.options in
     let widths = widths_are c in
     let action = c.in_ok-write_fitting.ensures.drawn.action in
-    let midpoint : c.write_fitting.new.drawn.midpoint ≡ greatest_midpoint (fitting_rows (renderer c) at rows) =
-    omega (arith, c.in_ok-write_fitting.ensures.drawn.midpoint, ap (λ (rs : List DrawnRow). greatest_midpoint (fitting layout rs)) (shown c)) in
+    let midpoint : c.write_fitting.new.drawn.midpoint ≡ greatest_midpoint c.args.scene.now.options.defensive (fitting_rows (renderer c) at rows) =
+    omega (arith, c.in_ok-write_fitting.ensures.drawn.midpoint, ap (λ (rs : List DrawnRow). greatest_midpoint c.args.scene.now.options.defensive (fitting layout rs)) (shown c)) in
     let tracker =
     ap (λ (a : Action). tracker_by a c.write_fitting.new.tracker rows) action
     ∙ ap (λ t. option_map (λ t. reconcile t rows) t) (c.in_ok-write_fitting.ensures.ahead

@@ -56,7 +56,7 @@ returns-clause-drawn c =
           ∙ append_assoc old.widths.items (widths_of shown) (widths_of more)
           ∙ ap (λ (ws : List ℕ). old.widths.items ++ ws) (sym (map-append columns_of shown more) ∙ ap widths_of (sym (lines c)));
       midpoint = c.in_ok-write_more.ensures.drawn.midpoint ∙ c.in_ok-write_rows.ensures.drawn.midpoint
-          ∙ ap (λ (rs : List DrawnRow). max old.midpoint (greatest_midpoint rs)) (sym (fit c));
+          ∙ ap (λ (rs : List DrawnRow). max old.midpoint (greatest_midpoint options.defensive rs)) (sym (fit c));
       rows_erased = c.in_ok-write_more.ensures.drawn.rows_erased ∙ c.in_ok-write_rows.ensures.drawn.rows_erased;
       action = c.in_ok-write_more.ensures.drawn.action ∙ c.in_ok-write_rows.ensures.drawn.action;
     }

@@ -1,21 +1,24 @@
-use Rattle.std.proofs.Common.{◌≡◌, ◌∷◌, ◌++◌, ◌+◌, drop, ap, sym, ◌∙◌, arith}
+use Rattle.std.proofs.Common.{◌≡◌, ℕ, List, [], ◌∷◌, ◌++◌, ◌+◌, chars, drop, ap, sym, ◌∙◌, arith}
 use Rattle.std.specs.Prelude.{max}
-use Rattle.prodash_line.specs.Lines.{in_color}
+use Rattle.prodash_line.specs.Lines.{piece, columns_of, in_color}
 use Rattle.prodash_line.specs.Signs.{spelling}
 use Rattle.prodash_line.specs.Frames.{row_start}
-use Rattle.prodash_line.specs.DrawnLines.{limit_of, layout_of}
+use Rattle.prodash_line.specs.DrawnLines.{drawn_chars, limit_of, layout_of}
 use Rattle.prodash_line.specs.MessageLines.{message_line, origin_width, greatest_width}
 use Rattle.prodash_line.proofs.MessageLines.{greatest_width-append}
 use Rattle.prodash_line.proofs.OverwriteBytes.{left_from, message_more, origin_more}
 use Rattle.prodash_line.proofs.render.line.draw.frame.write_messages.Goals as goal
 
-own_is : (c : goal.In_ok-push) → c.text_width-own_width.result ≡ origin_width c.message-item.result.origin
-own_is c = c.text_width-own_width.ensures ∙ ap origin_width c.as_str.ensures
+drawn_is : (c : goal.After-drop-replaced-in-loop-message) → chars c.in_ok-origin.origin.now ≡ drawn_chars c.args.options.now.defensive c.message-item.result.origin
+drawn_is c = c.in_ok-origin.ensures ∙ ap (drawn_chars c.args.options.now.defensive) c.as_str.ensures
 
-greatest_is : (c : goal.In_ok-push) → c.max-greatest.result ≡ max (greatest_width c.loop-message.origin_widths.items) c.text_width-own_width.result
+own_is : (c : goal.After-drop-replaced-in-loop-message) → c.text_width-own_width.result ≡ origin_width c.args.options.now.defensive c.message-item.result.origin
+own_is c = c.text_width-own_width.ensures ∙ ap (λ (text : List ℕ). columns_of (piece text ∷ [])) (drawn_is c)
+
+greatest_is : (c : goal.After-drop-replaced-in-loop-message) → c.max-greatest.result ≡ max (greatest_width c.loop-message.origin_widths.items) c.text_width-own_width.result
 greatest_is c = c.max-greatest.ensures ∙ ap (λ n. max n c.text_width-own_width.result) c.loop-message.invariant.greatest
 
-left_is : (c : goal.In_ok-push) → drop c.loop-message.message-index c.args.messages.now ≡ c.message-item.result ∷ drop (c.loop-message.message-index + 1) c.args.messages.now
+left_is : (c : goal.After-drop-replaced-in-loop-message) → drop c.loop-message.message-index c.args.messages.now ≡ c.message-item.result ∷ drop (c.loop-message.message-index + 1) c.args.messages.now
 left_is c = left_from c.args.messages.now c.loop-message.message-index c.message-item.result (omega arith) c.message-item.is
 
 pub loop-message-preserved : goal.loop-message-preserved
@@ -27,7 +30,7 @@ loop-message-preserved c =
       bytes = message_more (layout_of c.args.options.now) c.args.options.now c.loop-message.left.now c.loop-message.origin_widths.items c.push.new.self.items c.loop-message.out.bytes.items _ _ _ m others left
           c.max-greatest.result c.text_width-own_width.result _ _ (own_is c) (greatest_is c) c.in_ok-push.ensures.items c.split_row-width.ensures.first c.split_row-width.ensures.others
           (c.in_ok-start_row.ensures ∙ ap (λ layout. c.loop-message.out.bytes.items ++ spelling (row_start layout)) c.layout-layout.ensures)
-          (c.in_ok-end_over.ensures.bytes (limit_of c.args.options.now) c.start_row.new.out (in_color c.args.options.now.colored (message_line c.args.options.now.timestamp c.max-greatest.result m)) c.in_ok-push_message.ensures.line).bytes (left_is c) c.loop-message.invariant.bytes;
-      origins = origin_more c.loop-message.origin_widths.items c.push.new.self.items _ m others left c.text_width-own_width.result (own_is c) c.in_ok-push.ensures.items (left_is c) c.loop-message.invariant.origins;
+          (c.in_ok-end_over.ensures.bytes (limit_of c.args.options.now) c.start_row.new.out (in_color c.args.options.now.colored (message_line c.args.options.now c.max-greatest.result m)) c.in_ok-push_message.ensures.line).bytes (left_is c) c.loop-message.invariant.bytes;
+      origins = origin_more c.args.options.now.defensive c.loop-message.origin_widths.items c.push.new.self.items _ m others left c.text_width-own_width.result (own_is c) c.in_ok-push.ensures.items (left_is c) c.loop-message.invariant.origins;
       greatest = greatest_is c ∙ sym (greatest_width-append c.loop-message.origin_widths.items c.text_width-own_width.result) ∙ ap greatest_width (sym c.in_ok-push.ensures.items);
     }

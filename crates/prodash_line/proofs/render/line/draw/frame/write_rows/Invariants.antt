@@ -19,7 +19,7 @@ invariant-loop-row l =
           ≡ l.fn.out.bytes.items ++ lines_bytes (layout_of l.options) l.widths (row_lines l.options l.midpoint shown_all);
       widths : l.drawn.widths.items ++ widths_of (row_lines l.options l.midpoint shown_left)
           ≡ l.fn.drawn.widths.items ++ widths_of (row_lines l.options l.midpoint shown_all);
-      midpoint : max l.drawn.midpoint (greatest_midpoint shown_left) ≡ max l.fn.drawn.midpoint (greatest_midpoint shown_all);
+      midpoint : max l.drawn.midpoint (greatest_midpoint l.options.defensive shown_left) ≡ max l.fn.drawn.midpoint (greatest_midpoint l.options.defensive shown_all);
       ahead : observe_all (ahead_of l.tracker) left ≡ observe_all (ahead_of l.fn.tracker) all;
       kept : kept_of l.tracker ≡ kept_of l.fn.tracker;
       rows_erased : l.drawn.rows_erased ≡ l.fn.drawn.rows_erased;

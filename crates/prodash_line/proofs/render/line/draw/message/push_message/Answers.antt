@@ -8,5 +8,5 @@ pub returns-clause-line : goal.returns-clause-line
 returns-clause-line c =
     let o = c.args.options.now in
     begun_then (begun_then (begun_to _ _ c.width_limit.ensures c.begin.ensures) c.in_ok-push_spaces.ensures)
-    (appends_as (sym (in_color-append o.colored (time_of o.timestamp c.args.message.now) (text_of c.args.width c.args.message.now)))
+    (appends_as (sym (in_color-append o.colored (time_of o.timestamp c.args.message.now) (text_of o.defensive c.args.width c.args.message.now)))
     (appends_then c.in_ok-push_time.ensures.pieces c.in_ok-push_text.ensures))

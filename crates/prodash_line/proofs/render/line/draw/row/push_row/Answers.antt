@@ -14,20 +14,20 @@ returns-clause-line c =
     let head = begun_then (begun_to _ _ c.width_limit.ensures c.begin.ensures) c.in_ok-push_head.ensures in
     let colored = c.args.options.now.colored in
     let width = c.args.options.now.terminal_dimensions.0 in
-    begun_as (ap (λ o. in_color colored (row_line_with width c.args.midpoint row (option_map progress_of o) c.args.throughput)) (sym c.in-Some.is))
-    (row_begun colored row p c.args.throughput width c.args.midpoint c.saturating_sub.result c.row_style.result
-    (padded_begun colored row p c.args.throughput c.args.midpoint head c.in_ok-own.ensures.line)
+    begun_as (ap (λ o. in_color colored (row_line_with c.args.options.now.defensive width c.args.midpoint row (option_map progress_of o) c.args.throughput)) (sym c.in-Some.is))
+    (row_begun colored c.args.options.now.defensive row p c.args.throughput width c.args.midpoint c.saturating_sub.result c.row_style.result
+    (padded_begun colored c.args.options.now.defensive row p c.args.throughput c.args.midpoint head c.in_ok-own.ensures.line)
     (c.saturating_sub.ensures ∙ ap (λ n. width - n) c.width.ensures) c.row_style.ensures c.in_ok-push_bar.ensures)
 
 pub returns-clause-midpoint : goal.returns-clause-midpoint
 returns-clause-midpoint c =
     let row = row_of c.args.row.now in
     let p = progress_of c.in-Some.value in
-    c.in_ok-own.ensures.end ∙ row_midpoint c.args.options.now.colored row p c.args.throughput (begun_then (begun_to _ _ c.width_limit.ensures c.begin.ensures) c.in_ok-push_head.ensures)
-    ∙ ap (λ o. midpoint_with row (option_map progress_of o) c.args.throughput) (sym c.in-Some.is)
+    c.in_ok-own.ensures.end ∙ row_midpoint c.args.options.now.colored c.args.options.now.defensive row p c.args.throughput (begun_then (begun_to _ _ c.width_limit.ensures c.begin.ensures) c.in_ok-push_head.ensures)
+    ∙ ap (λ o. midpoint_with c.args.options.now.defensive row (option_map progress_of o) c.args.throughput) (sym c.in-Some.is)
 
 pub returns-in_default-clause-line : goal.returns-in_default-clause-line
 returns-in_default-clause-line c =
     let o = c.args.options.now in
-    begun_as (ap (λ v. in_color o.colored (row_line_with o.terminal_dimensions.0 c.args.midpoint (row_of c.args.row.now) (option_map progress_of v) c.args.throughput)) (sym c.in_default.is))
+    begun_as (ap (λ v. in_color o.colored (row_line_with o.defensive o.terminal_dimensions.0 c.args.midpoint (row_of c.args.row.now) (option_map progress_of v) c.args.throughput)) (sym c.in_default.is))
     (begun_then (begun_to _ _ c.width_limit.ensures c.begin.ensures) c.in_ok-push_head.ensures)

@@ -1,0 +1,40 @@
+//! Texts as they are drawn: by a defensive renderer without control characters.
+ghost use Rattle.std.specs.Prelude.{◌≡◌, chars, IfOk};
+ghost use Rattle.std.specs.List.{list_any};
+ghost use Rattle.std.specs.Char.{is_control};
+ghost use Rattle.prodash_line.specs.DrawnLines.{without_control, drawn_chars};
+
+use std::alloc::AllocError;
+
+/// Whether a text has a control character.
+fn has_control(text: &str) -> bool
+    ensures { result ≡ list_any is_control (chars text.now) }
+{
+    text.chars().any(|c| c.is_control())
+}
+
+/// Returns U+FFFD in place of a control character, and any other character itself.
+fn without_control(c: char) -> char
+    ensures { result ≡ without_control c }
+{
+    if c.is_control() { '\u{FFFD}' } else { c }
+}
+
+/// Returns a text as it is drawn: by a defensive renderer with U+FFFD in place of each control
+/// character, which is then written to `replaced`. Fails if out of memory.
+pub(crate) fn drawn_text<'a>(
+    defensive: bool,
+    text: &'a str,
+    replaced: &'a mut String,
+) -> Result<&'a str, AllocError>
+    ensures { IfOk result (λ drawn. chars drawn.now ≡ drawn_chars defensive text.now) }
+{
+    if !defensive || !has_control(text) {
+        return Ok(text);
+    }
+    replaced.clear();
+    for c in text.chars() {
+        replaced.push(without_control(c))?;
+    }
+    Ok(replaced.as_str())
+}
