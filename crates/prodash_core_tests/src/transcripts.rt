@@ -4,7 +4,7 @@ use crate::fixtures::assert_same;
 use prodash_base::messages::MessageCopyState;
 use prodash_core::tree::{Event, Handle, Reply, Session, TreeState};
 use prodash_line::render::line::draw::MemoryScreen;
-use prodash_script::{number, parse};
+use prodash_script::{Labels, number, parse};
 use std::alloc::Global;
 use std::process::Abort;
 use std::test::Fail;
@@ -12,7 +12,7 @@ use std::test::Fail;
 /// Parses an event. Besides the lines of `prodash_script` there are those of a resize that shows no
 /// rows, and of the queries of the tree and of an item.
 pub(crate) fn event_of(alloc: Global, line: &str) -> Result<Event, Fail> {
-    if let Some(event) = parse(alloc, line)? {
+    if let Some(event) = parse(alloc, &mut Labels::new(alloc), line)? {
         return Ok(event);
     }
     Ok(unwritten_event(line).ok_or("not an event")?)

@@ -4,7 +4,7 @@ use crate::recorded::{Replay, Round, Task, Work, add, assert_replayed, call_line
 use prodash::Refusal;
 use prodash::tree::recorded::{Journal, Receipt, RecordedItem, TreeLedger};
 use prodash::tree::{Event, Reply, RootOptions, TreeState};
-use prodash_script::{Lines, Next, parse, to_line};
+use prodash_script::{Labels, Lines, Next, parse, to_line};
 use std::alloc::Global;
 use std::process::Abort;
 use std::sync::Wait;
@@ -89,7 +89,7 @@ fn write<C: TreeLedger>(
 /// Returns the event that a line has.
 fn read_line(alloc: Global, line: &[u8]) -> Result<Event, Fail> {
     let line = str::from_utf8(line).ok().ok_or("not a text")?;
-    let event = parse(alloc, line)?.ok_or("not an event")?;
+    let event = parse(alloc, &mut Labels::new(alloc), line)?.ok_or("not an event")?;
     Ok(event)
 }
 

@@ -14,7 +14,7 @@ use prodash::tree::recorded::{
 use prodash::tree::root::Options;
 use prodash::tree::{Event, Handle, Reply, RootOptions, TreeState};
 use prodash::{Refusal, Text};
-use prodash_script::{Words, number, parse_with};
+use prodash_script::{Labels, Words, number, parse_with};
 use std::alloc::Global;
 use std::marker::Brand;
 use std::process::Abort;
@@ -355,7 +355,7 @@ fn event_of(alloc: Global, task: &Task, line: &str) -> Result<Event, Refusal> {
     match line {
         "snapshot" => Ok(Event::Snapshot),
         "messages" => Ok(Event::CopyMessages),
-        _ => parse_with(alloc, task, line)?.ok_or(Refusal::Gone),
+        _ => parse_with(alloc, task, &mut Labels::new(alloc), line)?.ok_or(Refusal::Gone),
     }
 }
 

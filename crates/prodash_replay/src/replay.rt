@@ -5,7 +5,7 @@ use prodash_core::tree::{Event, Reply, RootOptions, SessionOptions, run};
 use prodash_line::render::line::draw::{self, MemoryScreen};
 use prodash_line::render::line::page::{Page, read};
 use prodash_programs::{Fault, dimension, report, write_all};
-use prodash_script::parse;
+use prodash_script::{Labels, parse};
 use std::alloc::{AllocError, Global};
 use std::io::{Read, Write};
 
@@ -107,6 +107,7 @@ fn parse_args(words: &[String]) -> Result<Request, Fault> {
 /// Parses each line as an event. The last line may lack its line feed.
 fn events_of(alloc: Global, bytes: &[u8]) -> Result<Vec<Event>, Fault> {
     let mut events = Vec::new(alloc);
+    let mut labels = Labels::new(alloc);
     if bytes.is_empty() {
         return Ok(events);
     }
@@ -116,7 +117,7 @@ fn events_of(alloc: Global, bytes: &[u8]) -> Result<Vec<Event>, Fault> {
         let Ok(text) = str::from_utf8(line) else {
             return Err(fault);
         };
-        match parse(alloc, text)? {
+        match parse(alloc, &mut labels, text)? {
             Some(event) => events.push(event)?,
             None => return Err(fault),
         }

@@ -6,7 +6,7 @@ use Rattle.std.specs.Str.{IsCharBoundary, IsUtf8, is_utf8}
 use Rattle.std.specs.Str.Pattern.{FindsTextPrefix, FindsTextSuffix, StripsPrefix, StripsSuffix}
 use Rattle.std.proofs.lemmas.Str.{IsUtf8-from_is_utf8}
 use Rattle.std.proofs.lemmas.Str.Pattern.{ends_text, starts_text}
-use Rattle.prodash_script.specs.Reading.{after_prefix, before_suffix}
+use Rattle.prodash_script.specs.Words.{after_prefix, before_suffix}
 
 -- the clause of `strip_prefix` at a text
 pub stripped : (prefix text : List ℕ) → (r : Option (Bor (List ℕ))) → MatchOption r (FindsTextPrefix prefix text None) (λ x. StripsPrefix (FindsTextPrefix prefix) text x.now) → option_map (λ x. x.now) r ≡ after_prefix prefix text

@@ -11,9 +11,10 @@ use Rattle.std.proofs.lemmas.Fmt.{digits_decimal, digits_value-decimal, decimal_
 use Rattle.prodash_base.specs.declared.messages.MessageLevel.TheVariants.{Info, Success, Failure}
 use Rattle.prodash_core.specs.declared.tree.event.Event.{Event}
 use Rattle.prodash_core.specs.declared.tree.event.Event.TheVariants.{AddChild, Drop, Init, SetName, SetMax, Set, IncBy, Blocked, Halted, Running, Message, DropRoot, Tick, Resize, Quit}
-use Rattle.prodash_script.specs.Words.{is_number, number_of, lookup, units, plain_unit}
+use Rattle.prodash_script.specs.Units.{unit_in}
+use Rattle.prodash_script.specs.Words.{Reader, is_number, number_of, plain_unit}
 use Rattle.prodash_script.specs.Lines.{spaced, bound_word, GivesLine, IsLineOf}
-use Rattle.prodash_script.specs.Reading.{Reader, text_of, cut_at_space, first_of, then_read, read_line, read_by, all_events, bound_of, small_of, IsReadAs}
+use Rattle.prodash_script.specs.Reading.{text_of, cut_at_space, first_of, then_read, read_line, read_by, all_events, bound_of, small_of, IsReadAs}
 use Rattle.prodash_script.proofs.Numerals.{own, fits}
 
 -- words without a space
@@ -131,8 +132,8 @@ written (AddChild parent name id) line h is =
 written (Drop item) line h is = rw (is, line_read (codes "drop") (decimal item) refl, number_read item h)
 written (Init item max unit) line h is =
     let word = is.0 in
-    let limit = both_read bound_of (lookup units) (bound_word max) word max (option_map plain_unit unit) (bound_is_word max h.1) (bound_read max h.1) is.2 in
-    let arguments = after_number (then_read bound_of (lookup units)) item (spaced (bound_word max) word) (max, option_map plain_unit unit) h.0 limit in
+    let limit = both_read bound_of unit_in (bound_word max) word max (option_map plain_unit unit) (bound_is_word max h.1) (bound_read max h.1) is.2 in
+    let arguments = after_number (then_read bound_of unit_in) item (spaced (bound_word max) word) (max, option_map plain_unit unit) h.0 limit in
     rw (is.1, line_read (codes "init") (spaced (decimal item) (spaced (bound_word max) word)) refl, arguments)
 written (SetName item name) line h is =
     let arguments = after_number text_of item name name h refl in

@@ -2,5 +2,5 @@ pub mod Lines
 pub mod Mistakes
 pub mod Reading
 pub mod Requests
-pub mod ScriptUnits
+pub mod Units
 pub mod Words

@@ -1,5 +1,5 @@
 -- The lines of events.
-use Rattle.std.specs.Prelude.{◌≡◌, ℕ, List, ◌++◌, Bool, true, false, not, nat_eq, codes, string_bytes, Option, Some, None, MatchOption, Result, String, IsTrue, IfOk, ⊤, option_map}
+use Rattle.std.specs.Prelude.{◌≡◌, ℕ, List, ◌++◌, Bool, true, false, not, nat_eq, codes, string_bytes, Option, Some, None, MatchOption, Result, String, IsTrue, IfOk, ⊤}
 use Rattle.std.specs.List.{list_any}
 use Rattle.std.specs.Fmt.{decimal}
 use Rattle.prodash_base.specs.declared.messages.MessageLevel.{MessageLevel}
@@ -7,8 +7,7 @@ use Rattle.prodash_base.specs.declared.messages.MessageLevel.TheVariants.{Info, 
 use Rattle.prodash_base.specs.Rows.{unknown_id}
 use Rattle.prodash_core.specs.declared.tree.event.Event.{Event}
 use Rattle.prodash_core.specs.declared.tree.event.Event.TheVariants.{AddChild, Drop, Init, SetName, SetMax, Set, IncBy, Blocked, Halted, Running, Message, DropRoot, Tick, Resize, Quit}
-use Rattle.prodash_base.specs.declared.unit.units.Unit.{Unit}
-use Rattle.prodash_script.specs.Words.{lookup, plain_unit, units}
+use Rattle.prodash_script.specs.Units.{NamesUnit}
 
 -- two texts with a space between them
 abbrev pub spaced : List ℕ → List ℕ → List ℕ
@@ -45,10 +44,6 @@ is_one_line text = not (list_any (λ b. nat_eq b 10) text)
 -- a text without a line feed
 abbrev pub IsOneLine : List ℕ → Type 0
 IsOneLine text = IsTrue (is_one_line text)
-
--- a word that names a unit; `-` names none
-abbrev pub NamesUnit : Option Unit → List ℕ → Type 0
-NamesUnit unit word = lookup units word ≡ Some (option_map plain_unit unit)
 
 -- the line of an event, which says all of it; of some events there is none
 abbrev pub IsLineOf : Event → List ℕ → Type 0

@@ -1,10 +1,10 @@
 -- The first mistake in a line of a script.
 use Rattle.std.specs.Prelude.{ℕ, List, [], ◌∷◌, Bool, true, false, length, codes, Option, Some, None, ◌||◌, is_some, nat_lt, option_map, unwrap_or, if◌then◌else◌}
 use Rattle.std.specs.Option.{option_map_or}
-use Rattle.prodash_script.specs.Reading.{after_prefix, bound_of, cut_at_space, small_of}
+use Rattle.prodash_script.specs.Reading.{bound_of, cut_at_space, small_of}
 use Rattle.prodash_script.specs.Requests.{name_in}
-use Rattle.prodash_script.specs.ScriptUnits.{is_unit_word}
-use Rattle.prodash_script.specs.Words.{lookup, number_of}
+use Rattle.prodash_script.specs.Units.{is_unit_word}
+use Rattle.prodash_script.specs.Words.{after_prefix, lookup, number_of}
 use Rattle.prodash_script.specs.declared.mistake.Expected.{Expected}
 use Rattle.prodash_script.specs.declared.mistake.Expected.TheVariants as expects
 use Rattle.prodash_script.specs.declared.mistake.Mistake.{Mistake}

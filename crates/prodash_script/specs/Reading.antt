@@ -1,13 +1,14 @@
 -- The events as which lines are read.
-use Rattle.std.specs.Prelude.{ℕ, ◌-◌, ◌^◌, List, [], ◌∷◌, ◌++◌, Bool, true, false, length, take, drop, codes, Option, Some, None, Result, IfOk, ◌≡◌, option_map, option_and_then, nat_lt, nat_eq, bytes_eq, if◌then◌else◌}
+use Rattle.std.specs.Prelude.{ℕ, ◌^◌, List, [], ◌∷◌, ◌++◌, Bool, true, false, length, codes, Option, Some, None, Result, IfOk, ◌≡◌, option_map, option_and_then, nat_lt, nat_eq, bytes_eq, if◌then◌else◌}
 use Rattle.std.specs.Option.{option_map_or}
-use Rattle.std.specs.List.{position_or_len, before_first, after_first, starts_with, ends_with}
+use Rattle.std.specs.List.{position_or_len, before_first, after_first}
 use Rattle.prodash_base.specs.declared.messages.MessageLevel.{MessageLevel}
 use Rattle.prodash_base.specs.declared.messages.MessageLevel.TheVariants.{Info, Success, Failure}
 use Rattle.prodash_base.specs.Rows.{unknown_id}
 use Rattle.prodash_core.specs.declared.tree.event.Event.{Event}
 use Rattle.prodash_core.specs.declared.tree.event.Event.TheVariants as events
-use Rattle.prodash_script.specs.Words.{number_of, lookup, units, ref_to, plain_unit}
+use Rattle.prodash_script.specs.Units.{unit_in}
+use Rattle.prodash_script.specs.Words.{Reader, number_of, lookup, ref_to, plain_unit}
 
 -- an event, wherever its reason and the name of its unit are stored
 abbrev pub plain : Event → Event
@@ -16,26 +17,12 @@ plain (events.Blocked item reason eta) = events.Blocked item (ref_to reason.now)
 plain (events.Halted item reason eta) = events.Halted item (ref_to reason.now) eta
 plain event = event
 
--- what a reader makes of words: a value, or nothing if they are not such
-abbrev pub Reader : Type 0 → Type 0
-Reader A = List ℕ → Option A
-
 -- the text before the first space and the text after it, if there is a space
 unfoldable pub cut_at_space : Reader (List ℕ × List ℕ)
 cut_at_space text =
     if nat_lt (position_or_len (λ b. nat_eq b 32) text) (length text)
     then Some (before_first (λ b. nat_eq b 32) text, after_first (λ b. nat_eq b 32) text)
     else None
-
--- the text after a prefix, if there is this prefix
-abbrev pub after_prefix : List ℕ → Reader (List ℕ)
-after_prefix prefix text =
-    if starts_with nat_eq text prefix then Some (drop (length prefix) text) else None
-
--- the text before a suffix, if there is this suffix
-abbrev pub before_suffix : List ℕ → Reader (List ℕ)
-before_suffix suffix text =
-    if ends_with nat_eq text suffix then Some (take (length text - length suffix) text) else None
 
 -- the value that is read before the first space, and the text after it
 unfoldable pub first_of : {A : Type 0} → Reader A → Reader (A × List ℕ)
@@ -86,7 +73,7 @@ drop_of handle = as_event events.Drop handle
 abbrev pub init_of : Reader ℕ → Reader Event
 init_of handle =
     as_event (λ a. events.Init a.0 a.1.0 a.1.1)
-    (then_read handle (then_read bound_of (lookup units)))
+    (then_read handle (then_read bound_of unit_in))
 
 -- `H MAX` as the bound of an item
 abbrev pub max_of : Reader ℕ → Reader Event
@@ -126,7 +113,7 @@ resize_of moment =
 abbrev pub quit_of : Reader ℕ → Reader Event
 quit_of moment = as_event events.Quit moment
 
--- the first words of events with a text, and as what the words after them are read
+-- the first words of events with a name or a text, and as what the words after them are read
 abbrev pub with_text : Reader ℕ → Reader ℕ → List (List ℕ × Reader Event)
 with_text handle moment =
     (codes "add", add_of handle)
@@ -134,13 +121,13 @@ with_text handle moment =
     ∷ (codes "info", message_of Info handle moment)
     ∷ (codes "done", message_of Success handle moment)
     ∷ (codes "fail", message_of Failure handle moment)
+    ∷ (codes "init", init_of handle)
     ∷ []
 
 -- the same of events without a text
 abbrev pub without_text : Reader ℕ → Reader ℕ → List (List ℕ × Reader Event)
 without_text handle moment =
     (codes "drop", drop_of handle)
-    ∷ (codes "init", init_of handle)
     ∷ (codes "max", max_of handle)
     ∷ (codes "set", set_of handle)
     ∷ (codes "inc", inc_of handle)

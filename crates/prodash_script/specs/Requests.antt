@@ -8,9 +8,9 @@ use Rattle.prodash_base.specs.declared.unit.units.Unit.{Unit}
 use Rattle.prodash_core.specs.declared.tree.event.Event.{Event}
 use Rattle.prodash_core.specs.declared.tree.event.Event.TheVariants.{Init}
 use Rattle.prodash_script.specs.Lines.{IsAddition}
-use Rattle.prodash_script.specs.Reading.{Reader, add_of, after_prefix, bound_of, cut_at_space, plain, read_line, then_read}
-use Rattle.prodash_script.specs.ScriptUnits.{unit_in}
-use Rattle.prodash_script.specs.Words.{number_of}
+use Rattle.prodash_script.specs.Reading.{add_of, bound_of, cut_at_space, plain, read_line, then_read}
+use Rattle.prodash_script.specs.Units.{unit_in}
+use Rattle.prodash_script.specs.Words.{Reader, after_prefix, number_of}
 use Rattle.prodash_script.specs.declared.request.TheConstants.{NO_ITEM}
 use Rattle.prodash_script.specs.declared.request.Request.{Request}
 use Rattle.prodash_script.specs.declared.request.Request.TheVariants.{Apply, Name, Fault}

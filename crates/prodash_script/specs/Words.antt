@@ -1,12 +1,26 @@
 -- What the words of event lines name.
-use Rattle.std.specs.Prelude.{ℕ, ◌^◌, Bool, true, false, List, [], ◌∷◌, length, Option, Some, None, ◌&&◌, nat_le, nat_lt, bytes_eq, codes, if◌then◌else◌}
+use Rattle.std.specs.Prelude.{ℕ, ◌-◌, ◌^◌, Bool, List, [], ◌∷◌, length, take, drop, Option, Some, None, ◌&&◌, nat_eq, nat_le, nat_lt, bytes_eq, if◌then◌else◌}
 use Rattle.std.specs.Borrow.{Bor}
+use Rattle.std.specs.List.{starts_with, ends_with}
 use Rattle.std.specs.Str.{all_ascii_digits}
 use Rattle.std.specs.Str.Parse.{digits_value}
-use Rattle.prodash_base.specs.declared.unit.display.Location.TheVariants.{BeforeValue, AfterUnit}
 use Rattle.prodash_base.specs.declared.unit.kind.Kind.{Kind}
 use Rattle.prodash_base.specs.declared.unit.kind.Kind.TheVariants.{Label, Bytes, Duration, Human, Range}
 use Rattle.prodash_base.specs.declared.unit.units.Unit.{Unit}
+
+-- what a reader makes of words: a value, or nothing if they are not such
+abbrev pub Reader : Type 0 → Type 0
+Reader A = List ℕ → Option A
+
+-- the text after a prefix, if there is this prefix
+abbrev pub after_prefix : List ℕ → Reader (List ℕ)
+after_prefix prefix text =
+    if starts_with nat_eq text prefix then Some (drop (length prefix) text) else None
+
+-- the text before a suffix, if there is this suffix
+abbrev pub before_suffix : List ℕ → Reader (List ℕ)
+before_suffix suffix text =
+    if ends_with nat_eq text suffix then Some (take (length text - length suffix) text) else None
 
 -- whether a word is 1 to 20 decimal digits
 abbrev pub is_number : List ℕ → Bool
@@ -40,45 +54,3 @@ plain_kind (Duration duration) = Duration duration
 -- a unit, wherever its name is stored
 abbrev pub plain_unit : Unit → Unit
 plain_unit unit = record { kind = plain_kind unit.kind; mode = unit.mode }
-
--- a unit without a percentage or a throughput
-abbrev pub unit : Kind → Unit
-unit kind = record { kind = kind; mode = None }
-
--- the unit `items` with a percentage before its values or after it
-abbrev pub items_with_percentage : Bool → Unit
-items_with_percentage before = record {
-  kind = Label (ref_to (codes "items"));
-  mode = Some (record {
-    location = if before then BeforeValue else AfterUnit;
-    percentage = true;
-    throughput = false;
-  });
-}
-
--- the unit `items` with a throughput
-abbrev pub items_with_throughput : Unit
-items_with_throughput = record {
-  kind = Label (ref_to (codes "items"));
-  mode = Some (record { location = AfterUnit; percentage = false; throughput = true });
-}
-
--- the words of units; `-` is that of no unit
-abbrev pub units : List (List ℕ × Option Unit)
-units =
-    (codes "-", None)
-    ∷ (codes "items", Some (unit (Label (ref_to (codes "items")))))
-    ∷ (codes "items%", Some (items_with_percentage false))
-    ∷ (codes "%items", Some (items_with_percentage true))
-    ∷ (codes "items/s", Some items_with_throughput)
-    ∷ (codes "steps", Some (unit (Range (record { name = ref_to (codes "steps") }))))
-    ∷ (codes "bytes", Some (unit (Bytes (record {}))))
-    ∷ (codes "duration", Some (unit (Duration (record {}))))
-    ∷ (
-      codes "objects",
-      Some (unit (Human (record {
-        name = ref_to (codes "objects");
-        formatter = record { decimals = 2 };
-      }))),
-    )
-    ∷ []

@@ -1,9 +1,8 @@
-//! The units of a script, whose names may be any words.
+//! The words of units, whose names may be any.
 ghost use Rattle.std.specs.Prelude.{◌≡◌, IfOk, option_map};
 ghost use Rattle.std.specs.List.{list_all};
-ghost use Rattle.prodash_script.specs.Reading.{after_prefix, before_suffix};
-ghost use Rattle.prodash_script.specs.ScriptUnits.{is_name_byte, is_unit_name, is_unit_word, kind_in, name_and_mode, stripped_by, unit_in};
-ghost use Rattle.prodash_script.specs.Words.{plain_kind, plain_unit};
+ghost use Rattle.prodash_script.specs.Units.{is_name_byte, is_unit_name, is_unit_word, kind_in, name_and_mode, stripped_by, unit_in};
+ghost use Rattle.prodash_script.specs.Words.{after_prefix, before_suffix, plain_kind, plain_unit};
 
 use crate::script::after;
 use prodash_base::unit::display::Mode;
@@ -96,7 +95,7 @@ pub(crate) fn is_unit(word: &str) -> bool
 }
 
 /// Returns whether a text is a unit's name.
-fn is_unit_name(name: &str) -> bool
+pub(crate) fn is_unit_name(name: &str) -> bool
     ensures { result ≡ is_unit_name name.now }
 {
     !name.is_empty() && name != "-" && has_no_signs(name)
@@ -110,7 +109,7 @@ fn has_no_signs(text: &str) -> bool
 }
 
 /// Returns a word without the signs before its name, or else those after it, and what these show.
-fn name_and_mode(word: &str) -> (&str, Option<Mode>)
+pub(crate) fn name_and_mode(word: &str) -> (&str, Option<Mode>)
     ensures { (result.0.now, result.1) ≡ name_and_mode word.now }
 {
     if let Some((name, mode)) = signs_before(word) {

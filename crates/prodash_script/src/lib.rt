@@ -20,6 +20,5 @@ pub use reading::{REASON, add, parse, parse_with};
 pub use request::{NO_ITEM, Request};
 pub use script::{Names, request_of};
 pub use stream::{LIMIT, Lines, Next};
-pub use units::unit_of;
 pub use words::{Numbers, Words, number};
 pub use writing::to_line;

@@ -3,7 +3,7 @@ ghost use Rattle.prodash_script.specs.Lines.{IsAddition};
 ghost use Rattle.prodash_script.specs.Reading.{Reads, add_of, alone, blocked_of, bound_of, drop_of, halted_of, inc_of, init_of, max_of, quit_of, resize_of, running_of, set_of, tick_of, cut_at_space, first_of, message_of, name_of, plain, read_by, read_line, small_of, then_read, without_text};
 ghost use Rattle.prodash_script.specs.Words.{number_of, ref_to};
 
-use crate::units::unit_of;
+use crate::labels::Labels;
 use crate::words::{Numbers, Words, number};
 use prodash_base::Text;
 use prodash_base::messages::MessageLevel;
@@ -14,25 +14,25 @@ use std::alloc::{AllocError, Global};
 /// The reason of a task that a line marks as blocked or halted.
 pub const REASON: &str = "replay";
 
-/// Parses a line as an event. Its handles and moments are numbers. Returns `None` if the line is
-/// not an event.
+/// Parses a line as an event. Its handles and moments are numbers. The name of a unit is kept in
+/// `labels`. Returns `None` if the line is not an event.
 ///
 /// ```rust
-/// let event = parse(alloc, "set 1 3")?;
+/// let event = parse(alloc, &mut labels, "set 1 3")?;
 /// assert_eq!(rt; event, Some(Event::Set { item: 1, step: 3 }));
 /// ```
 ///
 /// # Errors
 ///
 /// `AllocError`, if there is no memory for the event.
-pub fn parse(alloc: Global, line: &str) -> Result<Option<Event>, AllocError>
+pub fn parse(alloc: Global, labels: &mut Labels, line: &str) -> Result<Option<Event>, AllocError>
     ensures { Reads result (read_line number_of number_of line.now) }
 {
-    parse_with(alloc, &Numbers, line)
+    parse_with(alloc, &Numbers, labels, line)
 }
 
-/// Parses a line as an event, whose handles and moments are those that `words` names. Returns
-/// `None` if the line is not an event.
+/// Parses a line as an event, whose handles and moments are those that `words` names. The name of a
+/// unit is kept in `labels`. Returns `None` if the line is not an event.
 ///
 /// # Errors
 ///
@@ -40,6 +40,7 @@ pub fn parse(alloc: Global, line: &str) -> Result<Option<Event>, AllocError>
 pub fn parse_with<W: Words>(
     alloc: Global,
     words: &W,
+    labels: &mut Labels,
     line: &str,
 ) -> Result<Option<Event>, AllocError>
     ensures { Reads result
@@ -54,18 +55,18 @@ pub fn parse_with<W: Words>(
         "info" => message(alloc, words, MessageLevel::Info, rest),
         "done" => message(alloc, words, MessageLevel::Success, rest),
         "fail" => message(alloc, words, MessageLevel::Failure, rest),
+        "init" => init(alloc, words, labels, rest),
         _ => Ok(without_text(words, word, rest)),
     }
 }
 
-/// Parses an event whose line has no text, and which takes no memory.
+/// Parses an event that takes no memory.
 fn without_text<W: Words>(words: &W, word: &str, rest: &str) -> Option<Event>
     ensures { let table = without_text (W.handle_of words.now) (W.moment_of words.now) in
         option_map plain result ≡ read_by table word.now rest.now }
 {
     match word {
         "drop" => drop_item(words, rest),
-        "init" => init(words, rest),
         "max" => set_max(words, rest),
         "set" => set(words, rest),
         "inc" => inc_by(words, rest),
@@ -162,17 +163,27 @@ fn drop_item<W: Words>(words: &W, rest: &str) -> Option<Event>
 
 /// Parses the arguments `H MAX UNIT`.
 #[tactic(auto, unfolding(crate::specs::Reading::first_of))]
-fn init<W: Words>(words: &W, rest: &str) -> Option<Event>
-    ensures { option_map plain result
-        ≡ init_of (W.handle_of words.now) rest.now }
+fn init<W: Words>(
+    alloc: Global,
+    words: &W,
+    labels: &mut Labels,
+    rest: &str,
+) -> Result<Option<Event>, AllocError>
+    ensures { Reads result (init_of (W.handle_of words.now) rest.now) }
 {
-    let (item, rest) = handle_and_text(words, rest)?;
-    let (max, unit) = cut(rest)?;
-    Some(Event::Init {
-        item,
-        max: bound(max)?,
-        unit: unit_of(unit)?,
-    })
+    let Some((item, rest)) = handle_and_text(words, rest) else {
+        return Ok(None);
+    };
+    let Some((max, unit)) = cut(rest) else {
+        return Ok(None);
+    };
+    let Some(max) = bound(max) else {
+        return Ok(None);
+    };
+    match labels.unit_of(alloc, unit)? {
+        Some(unit) => Ok(Some(Event::Init { item, max, unit })),
+        None => Ok(None),
+    }
 }
 
 /// Parses the arguments `H MAX`.

@@ -1,7 +1,7 @@
 //! What a line asks for: an event, whose items may have words for names.
 ghost use Rattle.std.specs.Prelude.{◌≡◌, IfOk, option_map};
 ghost use Rattle.prodash_script.specs.Requests.{AsksForNoFrame, asked, asked_by_bytes, begin_of, handle_in, moment_in, name_in, named_add_of, unnamed_of};
-ghost use Rattle.prodash_script.specs.Reading.{after_prefix};
+ghost use Rattle.prodash_script.specs.Words.{after_prefix};
 
 use crate::labels::Labels;
 use crate::reading::{add, bound, cut, handle_and_text, parse_with};
@@ -82,7 +82,7 @@ pub fn request_of(
     if let Some(rest) = after(line, "init ") {
         return init(alloc, script, labels, rest);
     }
-    unnamed(alloc, script, line)
+    unnamed(alloc, script, labels, line)
 }
 
 /// Returns what comes after a prefix, if a text begins with it.
@@ -143,13 +143,18 @@ fn init(
 }
 
 /// Parses a line as an event that draws no frame.
-fn unnamed(alloc: Global, script: Script<'_>, line: &str) -> Result<Request, AllocError>
+fn unnamed(
+    alloc: Global,
+    script: Script<'_>,
+    labels: &mut Labels,
+    line: &str,
+) -> Result<Request, AllocError>
     ensures no_frame { IfOk result AsksForNoFrame }
     ensures asks { let handle = handle_in script.entry.names.now in
         let moment = moment_in script.entry.now in
         IfOk result (λ request. asked request ≡ unnamed_of handle moment line.now) }
 {
-    match parse_with(alloc, &script, line)? {
+    match parse_with(alloc, &script, labels, line)? {
         Some(event) => {
             if event.is_frame() {
                 return Ok(Request::Fault);

@@ -119,6 +119,11 @@ impl<I: Read + Drop> Lines<I> {
         self.line.bytes.as_slice()
     }
 
+    /// Returns whether the next line has been read whole, so that `advance` doesn't wait for it.
+    pub fn has_line(&self) -> bool {
+        self.chunk[self.at..self.end].contains(&b'\n')
+    }
+
     /// Reads up to the end of the next line. Without a line feed what ends the stream is no line,
     /// but `CutOff`.
     ///

@@ -1,58 +1,97 @@
-ghost use Rattle.std.specs.Prelude.{◌≡◌, ◌↔◌, ℕ, IsTrue, List, MatchOption, map, option_map};
-ghost use Rattle.prodash_script.specs.Lines.{NamesUnit};
-ghost use Rattle.prodash_script.specs.Words.{lookup, plain_unit, units};
+ghost use Rattle.std.specs.Prelude.{◌≡◌, ◌≢◌, ◌↔◌, IsTrue, IfOk, MatchOption, Some, string_bytes};
+ghost use Rattle.prodash_script.specs.Lines.{GivesLine};
+ghost use Rattle.prodash_script.specs.Units.{HasNoWordWith, NamesUnit, kind_in, name_in};
+ghost use Rattle.prodash_script.specs.Words.{plain_kind};
 
-use prodash_base::unit::display::Mode;
+use crate::labels::{is_unit_name, name_and_mode};
 use prodash_base::unit::human::Formatter;
-use prodash_base::unit::{
-    Bytes, Duration, Human, Kind, Range, Unit, dynamic, label, label_and_mode,
-};
-
-/// All words of units.
-const WORDS: [&str; 9] = [
-    "-", "items", "items%", "%items", "items/s", "steps", "bytes", "duration", "objects",
-];
-
-/// Parses the word of a unit; `-` is no unit. Returns `None` if it is not such a word.
-pub fn unit_of(word: &str) -> Option<Option<Unit>>
-    ensures { option_map (option_map plain_unit) result ≡ lookup units word.now }
-{
-    let percentage = Mode::with_percentage();
-    let unit = match word {
-        "-" => return Some(None),
-        "items" => label("items"),
-        "items%" => label_and_mode("items", percentage),
-        "%items" => label_and_mode("items", percentage.show_before_value()),
-        "items/s" => label_and_mode("items", Mode::with_throughput()),
-        "steps" => dynamic(Kind::Range(Range::new("steps"))),
-        "bytes" => dynamic(Kind::Bytes(Bytes)),
-        "duration" => dynamic(Kind::Duration(Duration)),
-        "objects" => dynamic(Kind::Human(Human::new(Formatter::default(), "objects"))),
-        _ => return None,
-    };
-    Some(Some(unit))
-}
+use prodash_base::unit::{Bytes, Duration, Human, Kind, Range, Unit, dynamic, dynamic_and_mode};
+use std::alloc::{AllocError, Global};
 
 /// Returns the word of a unit, or `None` if it has none.
-pub(crate) fn word_of(unit: Option<Unit>) -> Option<&'static str>
-    ensures { MatchOption result
-        ((word : List ℕ) → ¬ NamesUnit unit word) (λ word. NamesUnit unit word.now) }
+///
+/// # Errors
+///
+/// `AllocError`, if there is no memory for the word.
+pub(crate) fn word_of(alloc: Global, unit: Option<Unit>) -> Result<Option<String>, AllocError>
+    ensures { GivesLine result (NamesUnit unit) }
 {
-    first_word(&WORDS, unit)
+    let Some(unit) = unit else {
+        return Ok(Some(String::from_str(alloc, "-")?));
+    };
+    if let Some(word) = with_signs(alloc, "%/s", unit)? {
+        return Ok(Some(word));
+    }
+    if let Some(word) = with_signs(alloc, "%", unit)? {
+        return Ok(Some(word));
+    }
+    if let Some(word) = with_signs(alloc, "/s", unit)? {
+        return Ok(Some(word));
+    }
+    with_signs(alloc, "", unit)
 }
 
-/// Returns the first of all words of units that is that of a unit, or `None` if it has none.
-fn first_word(words: &[&'static str], unit: Option<Unit>) -> Option<&'static str>
-    requires all { map (λ word. word.now) words.now ≡ map (λ entry. entry.0) units }
-    ensures { MatchOption result
-        ((word : List ℕ) → ¬ NamesUnit unit word) (λ word. NamesUnit unit word.now) }
+/// Returns the name of a unit with signs before it, or else after it, if that is its word.
+fn with_signs(alloc: Global, signs: &str, unit: Unit) -> Result<Option<String>, AllocError>
+    ensures { IfOk result (λ found. MatchOption found
+        (HasNoWordWith signs.now unit) (λ word. NamesUnit (Some unit) (string_bytes word))) }
 {
-    words.iter().copied().find(|word| names(word, unit))
+    let name = name_of(unit.as_display_value());
+    let before = format!(in alloc; "{signs}{name}")?;
+    if names(before.as_str(), unit) {
+        return Ok(Some(before));
+    }
+    let after = format!(in alloc; "{name}{signs}")?;
+    if names(after.as_str(), unit) {
+        return Ok(Some(after));
+    }
+    Ok(None)
+}
+
+/// Returns the name of a kind of unit.
+fn name_of(kind: &Kind) -> &'static str
+    ensures { result.now ≡ name_in kind.now }
+{
+    match kind {
+        Kind::Label(name) => name,
+        Kind::Human(human) => human.name,
+        Kind::Range(range) => range.name,
+        Kind::Bytes(_) => "bytes",
+        Kind::Duration(_) => "duration",
+    }
 }
 
 /// Returns whether a word is that of a unit.
-fn names(word: &str, unit: Option<Unit>) -> bool
-    ensures { IsTrue result ↔ NamesUnit unit word.now }
+fn names(word: &str, unit: Unit) -> bool
+    ensures { IsTrue result ↔ NamesUnit (Some unit) word.now }
 {
-    unit_of(word) == Some(unit)
+    let (name, mode) = name_and_mode(word);
+    if word == "-" || !is_unit_name(name) {
+        return false;
+    }
+    let Some(kind) = kind_named(name, *unit.as_display_value()) else {
+        return false;
+    };
+    let named = match mode {
+        Some(mode) => dynamic_and_mode(kind, mode),
+        None => dynamic(kind),
+    };
+    named == unit
+}
+
+/// Returns the kind of unit that a name says, or `None` if that is a label other than this one.
+fn kind_named(name: &str, kind: Kind) -> Option<Kind>
+    ensures { MatchOption result
+        (plain_kind kind ≢ kind_in name.now) (λ named. plain_kind named ≡ kind_in name.now) }
+{
+    Some(match name {
+        "steps" => Kind::Range(Range::new("steps")),
+        "bytes" => Kind::Bytes(Bytes),
+        "duration" => Kind::Duration(Duration),
+        "objects" => Kind::Human(Human::new(Formatter::default(), "objects")),
+        _ => match kind {
+            Kind::Label(label) if label == name => kind,
+            _ => return None,
+        },
+    })
 }

@@ -183,11 +183,11 @@ fn init(
     ensures line { GivesLine result (IsLineOf (Event.Init item max unit)) }
     ensures fits { IfSome max (λ n. n < 2 ^ 64) }
 {
-    let Some(word) = word_of(unit) else {
+    let Some(word) = word_of(alloc, unit)? else {
         return Ok(None);
     };
     let max = bound(alloc, max)?;
-    init_line(alloc, item, max.as_str(), word)
+    init_line(alloc, item, max.as_str(), word.as_str())
 }
 
 /// Returns the line of an init whose bound and unit have these words.

@@ -19,7 +19,9 @@ add 3  a  -> Some(AddChild { parent: 3, name: " a ", id: [0, 0, 0, 0] })
  add 3 a -> None
 init 1 - - -> Some(Init { item: 1, max: None, unit: None })
 init 1 10 - -> Some(Init { item: 1, max: Some(10), unit: None })
-init 1 100 item -> None
+init 1 100 -item -> Some(Init { item: 1, max: Some(100), unit: Some(Unit { kind: Label("-item"), mode: None }) })
+init 1 100 a%b -> None
+init 1 100 -> None
 name 1 a b -> Some(SetName { item: 1, name: "a b" })
 name 1  -> Some(SetName { item: 1, name: "" })
 name 1  a  -> Some(SetName { item: 1, name: " a " })
@@ -52,7 +54,7 @@ quit 5 -> Some(Quit { at: 5 })
 "#;
 
 fn assert_event(rt: &impl Abort, alloc: Global, line: &str, want: &str) -> Result<(), AllocError> {
-    let event = parse(alloc, line)?;
+    let event = parse(alloc, &mut Labels::new(alloc), line)?;
     let got = format!(in alloc; "{event:?}")?;
     assert_same(rt, got.as_str(), want, line);
     Ok(())
@@ -83,6 +85,11 @@ const LINES: &[&str] = &[
     "init 1 - bytes",
     "init 1 - duration",
     "init 1 18446744073709551615 objects",
+    "init 1 10 files",
+    "init 1 10 files%/s",
+    "init 1 10 %/sfiles",
+    "init 1 10 /sbytes",
+    "init 1 10 objects%",
     "name 1 a",
     "name 1  a ",
     "max 1 -",
@@ -105,8 +112,9 @@ const LINES: &[&str] = &[
 
 #[test]
 fn writes_the_lines_that_it_reads(rt: HostRuntime) -> Result<(), Fail> {
+    let mut labels = Labels::new(rt.alloc());
     for line in LINES {
-        let event = parse(rt.alloc(), line)?.ok_or("no event")?;
+        let event = parse(rt.alloc(), &mut labels, line)?.ok_or("no event")?;
         let written = to_line(rt.alloc(), &event)?.ok_or("no line")?;
         assert_same(&rt, written.as_str(), *line, "written");
     }
@@ -115,12 +123,14 @@ fn writes_the_lines_that_it_reads(rt: HostRuntime) -> Result<(), Fail> {
 
 #[test]
 fn writes_no_line_for_a_unit_without_a_word(rt: HostRuntime) -> Result<(), Fail> {
-    let event = Event::Init {
-        item: 1,
-        max: None,
-        unit: Some(label("other")),
-    };
-    assert_same(&rt, to_line(rt.alloc(), &event)?.is_none(), true, "no line");
+    for name in ["", "-", "a b", "a%", "steps"] {
+        let event = Event::Init {
+            item: 1,
+            max: None,
+            unit: Some(label(name)),
+        };
+        assert_same(&rt, to_line(rt.alloc(), &event)?.is_none(), true, name);
+    }
     Ok(())
 }
 
@@ -275,6 +285,16 @@ const STREAMS: &[[&str; 2]] = &[
 fn tells_a_last_line_that_is_cut_off(rt: HostRuntime) -> Result<(), Fail> {
     for [stream, want] in STREAMS {
         assert_lines(&rt, rt.alloc(), stream.as_bytes(), want)?;
+    }
+    Ok(())
+}
+
+#[test]
+fn has_the_next_line_once_it_is_read(rt: HostRuntime) -> Result<(), Fail> {
+    let mut lines = Lines::new(rt.alloc(), b"a\nb\nc".as_slice());
+    for want in [false, true, false] {
+        assert_same(&rt, lines.has_line(), want, "has a line");
+        lines.advance()?;
     }
     Ok(())
 }

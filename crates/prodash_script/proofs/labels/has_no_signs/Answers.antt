@@ -1,7 +1,7 @@
 use Rattle.std.proofs.Common.{rules, tests}
 use Rattle.std.proofs.lemmas.Iterator.Adapters.{YieldsList-from_bytes}
 use Rattle.std.proofs.lemmas.Iterator.Search.{all_from_yields_List}
-use Rattle.prodash_script.specs.ScriptUnits.{is_name_byte}
+use Rattle.prodash_script.specs.Units.{is_name_byte}
 use Rattle.prodash_script.proofs.labels.has_no_signs.Goals as goal
 
 pub returns : goal.returns

@@ -1,8 +1,8 @@
-use Rattle.prodash_script.proofs.UnitWords.{if_same, same_if}
+use Rattle.std.proofs.Common.{rules}
+use Rattle.prodash_script.proofs.UnitWords.{named}
 use Rattle.prodash_script.proofs.units.names.Goals as goal
 
 pub returns : goal.returns
-returns c = (
-  λ is. let same = if_same c.unit_of.result c.args.unit (cc) in cc,
-  λ is. let same = same_if c.unit_of.result c.args.unit (cc) in cc,
-)
+returns c =
+    let both = named c.args.word.now c.match-mode.named c.args.unit c.eq-2.result (search rules) (search rules) (search rules) (search rules) (search rules) in
+    (λ is. both.0 is, λ names. both.1 names)

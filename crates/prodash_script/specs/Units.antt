@@ -1,5 +1,5 @@
--- The words of units in a script.
-use Rattle.std.specs.Prelude.{ℕ, List, [], ◌∷◌, Bool, true, false, not, ◌&&◌, ◌||◌, length, codes, Option, Some, None, option_map, nat_lt, nat_eq, bytes_eq, unwrap_or, if◌then◌else◌}
+-- The words of units.
+use Rattle.std.specs.Prelude.{◌≡◌, ℕ, List, [], ◌∷◌, ◌++◌, Bool, true, false, not, ◌&&◌, ◌||◌, length, codes, Option, Some, None, option_map, nat_lt, nat_eq, bytes_eq, unwrap_or, if◌then◌else◌}
 use Rattle.std.specs.List.{list_all}
 use Rattle.std.specs.Option.{option_map_or}
 use Rattle.prodash_base.specs.declared.unit.display.Location.TheVariants.{BeforeValue, AfterUnit}
@@ -7,8 +7,7 @@ use Rattle.prodash_base.specs.declared.unit.display.Mode.{Mode}
 use Rattle.prodash_base.specs.declared.unit.kind.Kind.{Kind}
 use Rattle.prodash_base.specs.declared.unit.kind.Kind.TheVariants.{Label, Bytes, Duration, Human, Range}
 use Rattle.prodash_base.specs.declared.unit.units.Unit.{Unit}
-use Rattle.prodash_script.specs.Reading.{Reader, after_prefix, before_suffix}
-use Rattle.prodash_script.specs.Words.{lookup, ref_to}
+use Rattle.prodash_script.specs.Words.{Reader, after_prefix, before_suffix, lookup, plain_unit, ref_to}
 
 -- a mode that shows a percentage, a throughput or both after the unit
 abbrev pub showing : Bool → Bool → Mode
@@ -67,3 +66,21 @@ unit_in word =
     else if is_unit_name parts.0
     then Some (Some (record { kind = kind_in parts.0; mode = parts.1 }))
     else None
+
+-- the name of a kind of unit
+abbrev pub name_in : Kind → List ℕ
+name_in (Label name) = name.now
+name_in (Human human) = human.name.now
+name_in (Range range) = range.name.now
+name_in (Bytes bytes) = codes "bytes"
+name_in (Duration duration) = codes "duration"
+
+-- a word that says a unit; `-` says none
+abbrev pub NamesUnit : Option Unit → List ℕ → Type 0
+NamesUnit unit word = unit_in word ≡ Some (option_map plain_unit unit)
+
+-- a unit whose word is not its name with these signs before it, nor with them after it
+abbrev pub HasNoWordWith : List ℕ → Unit → Type 0
+HasNoWordWith signs unit =
+    (¬ NamesUnit (Some unit) (signs ++ name_in unit.kind))
+    × (¬ NamesUnit (Some unit) (name_in unit.kind ++ signs))
