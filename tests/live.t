@@ -280,6 +280,7 @@ The command line
         --stdout                draw on standard output, not on standard error
         --strict                end at the first line that is faulty
         --terminal <WHEN>       whether the output is a terminal; if not, messages alone are written [default: auto] [possible values: auto, always, never]
+        --record <FILE>         records the run, for prodash-replay
     -h, --help                  Print help
     -V, --version               Print version
   $ prodash-live --rows 0

@@ -8,7 +8,7 @@ use prodash::tree::Event;
 use prodash_programs::{Fault, dimension};
 use prodash_script::{Labels, Lines, Next, Request, request_of};
 use std::alloc::Global;
-use std::io::Read;
+use std::io::{Read, Write};
 use std::sync::Wait;
 use std::thread::Threads;
 
@@ -21,18 +21,18 @@ pub enum Outcome {
     Stopped(String),
 }
 
-/// Applies each line of an input. A faulty line is reported in a message, or ends the program if it
-/// is strict.
+/// Applies each line of an input, and records what it does. A faulty line is reported in a message,
+/// or ends the program if it is strict. What is recorded is written before more input is awaited.
 ///
 /// # Errors
 ///
 /// The fault that ended it: the input, the output, or memory.
-pub fn feed_lines<R: Wait + Threads + Clone + Drop, I: Read + Drop, K: Clock>(
+pub fn feed_lines<R: Wait + Threads + Clone + Drop, I: Read + Drop, K: Clock, W: Write + Drop>(
     rt: &R,
     alloc: Global,
     input: I,
     clock: &K,
-    items: &mut Items<R>,
+    items: &mut Items<R, W>,
     display: &mut Display<R>,
     is_strict: bool,
 ) -> Result<Outcome, Fault> {
@@ -40,10 +40,14 @@ pub fn feed_lines<R: Wait + Threads + Clone + Drop, I: Read + Drop, K: Clock>(
     let mut labels = Labels::new(alloc);
     let mut faults: u64 = 0;
     for number in 1..u64::MAX {
+        if !lines.has_line() {
+            items.record().write();
+        }
         let next = match lines.advance() {
             Ok(next) => next,
             Err(error) => return Err(Fault::of_input(&error)),
         };
+        items.record().frame(clock)?;
         let line = lines.line();
         let line = line.strip_suffix(b"\r").unwrap_or(line);
         let text = match next {
@@ -71,18 +75,18 @@ pub fn feed_lines<R: Wait + Threads + Clone + Drop, I: Read + Drop, K: Clock>(
         if items.has_root() {
             display.make_room(rt, clock);
         }
-        items.say(alloc, clock.now(), text.as_str())?;
+        items.say(alloc, clock.now(), text)?;
     }
     Ok(Outcome::Ended(faults))
 }
 
 /// Does what a line asks for. Returns its fault, if it has one.
-fn take<'a, R: Wait + Threads + Clone + Drop, K: Clock>(
+fn take<'a, R: Wait + Threads + Clone + Drop, K: Clock, W: Write + Drop>(
     rt: &R,
     alloc: Global,
     line: &'a [u8],
     clock: &K,
-    items: &mut Items<R>,
+    items: &mut Items<R, W>,
     labels: &mut Labels,
     display: &mut Display<R>,
 ) -> Result<Option<LineFault<'a>>, Fault> {
@@ -91,6 +95,7 @@ fn take<'a, R: Wait + Threads + Clone + Drop, K: Clock>(
     }
     if let Some((columns, rows)) = size_of(line) {
         display.resize(columns, rows);
+        items.record().resize(clock.now(), columns, rows)?;
         return Ok(None);
     }
     let request = request_of(alloc, items.names(), labels, clock.now(), line)?;

@@ -1,4 +1,6 @@
 //! The tree and its items, by handle.
+use crate::changes::{change, item_of};
+use crate::record::Record;
 use prodash::messages::MessageLevel;
 use prodash::time::Moment;
 use prodash::tree::{Event, Handle, Item, Root};
@@ -6,41 +8,51 @@ use prodash::{Refusal, Text};
 use prodash_script::{Names, Request};
 use std::alloc::Global;
 use std::collections::BTreeMap;
+use std::io::Write;
 use std::sync::Wait;
 
 /// The level of the items that have none below them. One below would take the place of another.
 const LAST_LEVEL: u8 = 6;
 
-/// An item, its level from 1 on, and its name in the script if it has one.
+/// An item, its handle in the recording, its level from 1 on, and its name in the script if it has
+/// one.
 #[derive(Drop)]
 struct Named<R: Wait + Clone + Drop> {
     item: Item<R>,
+    recorded: Handle,
     level: u8,
     name: Option<String>,
 }
 
 /// The tree, its items by handle, and the handles by name.
 #[derive(Drop)]
-pub struct Items<R: Wait + Clone + Drop> {
+pub struct Items<R: Wait + Clone + Drop, W: Write + Drop> {
     root: Option<Root<R>>,
     items: BTreeMap<Handle, Named<R>>,
     names: Names,
     made: u64,
     /// Whether a sign says the severity of a message, as where there are no colours.
     has_signs: bool,
+    record: Record<W>,
 }
 
-impl<R: Wait + Clone + Drop> Items<R> {
+impl<R: Wait + Clone + Drop, W: Write + Drop> Items<R, W> {
     /// Returns a tree without items. `has_signs` says whether a sign before the origin of a message
     /// is to say its severity.
-    pub fn new(alloc: Global, root: Root<R>, has_signs: bool) -> Items<R> {
+    pub fn new(alloc: Global, root: Root<R>, has_signs: bool, record: Record<W>) -> Items<R, W> {
         Items {
             root: Some(root),
             items: BTreeMap::new(alloc),
             names: BTreeMap::new(alloc),
             made: 0,
             has_signs,
+            record,
         }
+    }
+
+    /// Returns the recording.
+    pub fn record(&mut self) -> &mut Record<W> {
+        &mut self.record
     }
 
     /// Returns the handle of each name.
@@ -88,54 +100,29 @@ impl<R: Wait + Clone + Drop> Items<R> {
     fn apply(&mut self, alloc: Global, event: Event) -> Result<Option<Handle>, Refusal> {
         match event {
             Event::AddChild { parent, name, .. } => {
-                return Ok(Some(self.add(alloc, parent, &name)?));
+                return Ok(Some(self.add(alloc, parent, name)?));
             }
             Event::Drop { item } => self.remove(item)?,
             Event::DropRoot => self.drop_root()?,
-            Event::Init { item, max, unit } => self.item(item)?.init(max, unit),
-            Event::SetName { item, name } => self.item(item)?.set_name(alloc, name.as_str())?,
-            Event::SetMax { item, max } => {
-                self.item(item)?.set_max(max);
-            }
-            Event::Set { item, step } => self.item(item)?.set(step),
-            Event::IncBy { item, step } => self.item(item)?.inc_by(step),
-            Event::Blocked { item, reason, eta } => self.item(item)?.blocked(reason, eta),
-            Event::Halted { item, reason, eta } => self.item(item)?.halted(reason, eta),
-            Event::Running { item } => self.item(item)?.running(),
-            Event::Message {
-                item,
-                at,
-                level,
-                text,
-            } => self.send(alloc, self.item(item)?, at, level, text.as_str())?,
-            // A script neither queries the tree nor draws frames.
-            Event::Name { .. } | Event::Id { .. } | Event::Step { .. } => return Err(Refusal::Gone),
-            Event::Max { .. } | Event::Unit { .. } | Event::NumTasks => return Err(Refusal::Gone),
-            Event::Snapshot | Event::CopyMessages => return Err(Refusal::Gone),
-            Event::CopyNew { .. } | Event::Tick { .. } => return Err(Refusal::Gone),
-            Event::Resize { .. } | Event::Quit { .. } => return Err(Refusal::Gone),
+            event => self.change(alloc, event)?,
         }
         Ok(None)
     }
 
-    /// Returns an item by its handle.
-    fn item(&self, handle: Handle) -> Result<&Item<R>, Refusal> {
-        match self.items.get(&handle) {
-            Some(named) => Ok(&named.item),
-            None => Err(Refusal::Gone),
-        }
-    }
-
     /// Drops the root.
     fn drop_root(&mut self) -> Result<(), Refusal> {
-        self.root.take().map(|_| ()).ok_or(Refusal::Gone)
+        if self.root.take().is_none() {
+            return Err(Refusal::Gone);
+        }
+        self.record.event(&Event::DropRoot)?;
+        Ok(())
     }
 
     /// Adds an item, and returns its handle.
-    fn add(&mut self, alloc: Global, parent: Handle, name: &Text) -> Result<Handle, Refusal> {
-        let (item, level) = if parent == 0 {
+    fn add(&mut self, alloc: Global, parent: Handle, name: Text) -> Result<Handle, Refusal> {
+        let (item, level, parent) = if parent == 0 {
             match &self.root {
-                Some(root) => (root.add_child(alloc, name.as_str())?, 1),
+                Some(root) => (root.add_child(alloc, name.as_str())?, 1, 0),
                 None => return Err(Refusal::Gone),
             }
         } else {
@@ -143,13 +130,16 @@ impl<R: Wait + Clone + Drop> Items<R> {
                 Some(parent) => (
                     parent.item.add_child(alloc, name.as_str())?,
                     parent.level.saturating_add(1),
+                    parent.recorded,
                 ),
                 None => return Err(Refusal::Gone),
             }
         };
+        let recorded = self.record.add(parent, name)?;
         let handle = self.made.saturating_add(1);
         let named = Named {
             item,
+            recorded,
             level,
             name: None,
         };
@@ -162,7 +152,7 @@ impl<R: Wait + Clone + Drop> Items<R> {
     fn set_name(&mut self, alloc: Global, name: String, handle: Handle) -> Result<(), Refusal> {
         let copy = String::from_str(alloc, name.as_str())?;
         if let Some(before) = self.names.insert(copy, handle)? {
-            self.items.remove(&before);
+            self.take(before)?;
         }
         if let Some(named) = self.items.get_mut(&handle) {
             named.name = Some(name);
@@ -172,50 +162,50 @@ impl<R: Wait + Clone + Drop> Items<R> {
 
     /// Drops an item, and its name.
     fn remove(&mut self, handle: Handle) -> Result<(), Refusal> {
-        match self.items.remove(&handle) {
-            Some(named) => {
-                if let Some(name) = &named.name {
-                    self.names.remove(name.as_str());
-                }
-                Ok(())
-            }
-            None => Err(Refusal::Gone),
+        if let Some(name) = self.take(handle)? {
+            self.names.remove(name.as_str());
         }
+        Ok(())
+    }
+
+    /// Drops an item, and returns the name that it had in the script.
+    fn take(&mut self, handle: Handle) -> Result<Option<String>, Refusal> {
+        let Named {
+            item,
+            recorded,
+            name,
+            ..
+        } = self.items.remove(&handle).ok_or(Refusal::Gone)?;
+        drop(item);
+        self.record.event(&Event::Drop { item: recorded })?;
+        Ok(name)
     }
 
     /// Sends a failure that belongs to no item.
-    pub fn say(&self, alloc: Global, at: Moment, text: &str) -> Result<(), Refusal> {
-        match &self.root {
-            Some(root) => {
-                let item = root.add_child(alloc, "input")?;
-                self.send(alloc, &item, at, MessageLevel::Failure, text)
-            }
-            None => Ok(()),
-        }
+    pub fn say(&mut self, alloc: Global, at: Moment, text: String) -> Result<(), Refusal> {
+        let Some(root) = &self.root else {
+            return Ok(());
+        };
+        let name = Text::from_str(alloc, "input")?;
+        let item = root.add_child(alloc, name.as_str())?;
+        let recorded = self.record.add(0, name)?;
+        let message = Event::Message {
+            item: recorded,
+            at,
+            level: MessageLevel::Failure,
+            text: Text::new(text),
+        };
+        change(alloc, &item, &message, self.has_signs, &mut self.record)?;
+        drop(item);
+        self.record.event(&Event::Drop { item: recorded })?;
+        Ok(())
     }
 
-    /// Sends a message of an item. Its origin is the item's name, after a sign if there is one:
-    /// the item has both for a name while the message is sent.
-    fn send(
-        &self,
-        alloc: Global,
-        item: &Item<R>,
-        at: Moment,
-        level: MessageLevel,
-        text: &str,
-    ) -> Result<(), Refusal> {
-        let sign = match level {
-            MessageLevel::Success if self.has_signs => "✓",
-            MessageLevel::Failure if self.has_signs => "✗",
-            _ => return item.message(alloc, at, level, text),
-        };
-        let Some(name) = item.name(alloc)? else {
-            return Err(Refusal::Gone);
-        };
-        let origin = format!(in alloc; "{sign} {name}")?;
-        item.set_name(alloc, origin.as_str())?;
-        let sent = item.message(alloc, at, level, text);
-        item.set_name(alloc, name.as_str())?;
-        sent
+    /// Changes an item, or sends a message of it.
+    fn change(&mut self, alloc: Global, mut event: Event) -> Result<(), Refusal> {
+        let handle = item_of(&mut event).ok_or(Refusal::Gone)?;
+        let named = self.items.get(&*handle).ok_or(Refusal::Gone)?;
+        *handle = named.recorded;
+        change(alloc, &named.item, &event, self.has_signs, &mut self.record)
     }
 }

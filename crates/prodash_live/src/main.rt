@@ -1,6 +1,7 @@
 //! Shows progress on a terminal from the event lines of standard input, as they come.
 #![tactic(auto)]
 
+mod changes;
 mod display;
 mod feed;
 mod items;
@@ -8,6 +9,7 @@ mod line_fault;
 mod options;
 mod output;
 mod program;
+mod record;
 
 use feed::Outcome;
 use options::Options;
@@ -15,6 +17,7 @@ use prodash::time::SystemClock;
 use prodash_programs::{Environment, Fault, arguments, report};
 use program::live;
 use std::alloc::Global;
+use std::fs::File;
 use std::io::{IsTerminal, Write};
 use std::process::ExitCode;
 use std::rt::Env;
@@ -38,13 +41,36 @@ fn main(rt: HostRuntime) -> ExitCode {
     let Ok(clock) = Arc::new(rt.alloc(), SystemClock::new(rt)) else {
         return ExitCode::from(report(&mut rt.stderr(), Fault::Memory));
     };
+    let record = match options.record.map(|path| File::create(&rt, path)) {
+        None => None,
+        Some(Ok(file)) => Some(file),
+        Some(Err(_)) => return ExitCode::from(report(&mut rt.stderr(), Fault::Record)),
+    };
     let (input, alloc) = (rt.reader(), rt.alloc());
     let ended = if options.to_stdout {
         let is_terminal = rt.stdout().is_terminal();
-        live(rt, alloc, input, rt.stdout(), clock, options, is_terminal)
+        live(
+            rt,
+            alloc,
+            input,
+            rt.stdout(),
+            record,
+            clock,
+            options,
+            is_terminal,
+        )
     } else {
         let is_terminal = rt.stderr().is_terminal();
-        live(rt, alloc, input, rt.stderr(), clock, options, is_terminal)
+        live(
+            rt,
+            alloc,
+            input,
+            rt.stderr(),
+            record,
+            clock,
+            options,
+            is_terminal,
+        )
     };
     match ended {
         Ok(Outcome::Ended(faults)) => ExitCode::from(if faults == 0 { 0 } else { 2 }),

@@ -20,7 +20,7 @@ pub enum Terminal {
 
 /// What the command line and the environment ask for.
 #[derive(Clone, Copy, Debug)]
-pub struct Options {
+pub struct Options<'a> {
     /// The columns and the rows of the terminal.
     pub dimensions: (u16, u16),
     /// The frames per second, at least 1.
@@ -37,18 +37,24 @@ pub struct Options {
     pub is_strict: bool,
     /// Whether the output is a terminal.
     pub terminal: Terminal,
+    /// The path of the file to which the run is recorded.
+    pub record: Option<&'a str>,
 }
 
 /// The words of `--terminal`.
 static TERMINALS: [&str; 3] = ["auto", "always", "never"];
 
-impl Options {
+impl<'a> Options<'a> {
     /// Parses the command line, whose first word is the program's name.
     ///
     /// # Errors
     ///
     /// The error of `clap`, which is also the help or the version, if the command line asks for it.
-    pub fn parse(alloc: Global, words: &[String], env: Environment) -> Result<Options, Error> {
+    pub fn parse(
+        alloc: Global,
+        words: &'a [String],
+        env: Environment,
+    ) -> Result<Options<'a>, Error> {
         let matches = command(alloc)?.try_get_matches_from(words)?;
         let columns = number(&matches, "columns");
         let rows = number(&matches, "rows");
@@ -68,6 +74,7 @@ impl Options {
                 Some("never") => Terminal::Never,
                 _ => Terminal::Auto,
             },
+            record: matches.get_str("record"),
         })
     }
 
@@ -157,7 +164,13 @@ fn command<'a>(alloc: Global) -> Result<Command<'a>, Error> {
             "whether the output is a terminal; if not, messages alone are written",
             ValueParser::Names(TERMINALS.as_slice()),
         )
-        .default_value("auto"))?;
+        .default_value("auto"))?
+        .arg(
+            Arg::new(alloc, "record")
+                .long("record")
+                .value_name("FILE")
+                .help("records the run, for prodash-replay"),
+        )?;
     Ok(command)
 }
 

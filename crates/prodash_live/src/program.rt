@@ -4,6 +4,7 @@ use crate::feed::{Outcome, feed_lines};
 use crate::items::Items;
 use crate::options::Options;
 use crate::output::{OutputState, PromptClock, Watched};
+use crate::record::Record;
 use prodash::render::line::render;
 use prodash::time::Clock;
 use prodash::tree::root;
@@ -13,8 +14,8 @@ use std::io::{Read, Write};
 use std::sync::{Arc, Wait};
 use std::thread::Threads;
 
-/// Shows the events of `input` on `out` until the input ends. Returns how far it
-/// was read.
+/// Shows the events of `input` on `out` until the input ends, and writes a recording of the run if
+/// there is something to write it to. Returns how far the input was read.
 ///
 /// # Errors
 ///
@@ -23,14 +24,16 @@ pub fn live<
     R: Wait + Threads + Clone + Drop + Send + Sync + 'static,
     I: Read + Drop,
     O: Write + Drop + Send + 'static,
+    W: Write + Drop,
     K: Clock + Drop + Send + Sync + 'static,
 >(
     rt: R,
     alloc: Global,
     input: I,
     out: O,
+    record: Option<W>,
     clock: Arc<K>,
-    options: Options,
+    options: Options<'_>,
     is_terminal: bool,
 ) -> Result<Outcome, Fault> {
     let output = Arc::new(alloc, OutputState::new())?;
@@ -53,7 +56,9 @@ pub fn live<
         Arc::new(alloc, prompt)?,
         rendering,
     )?;
-    let mut items = Items::new(alloc, root, !rendering.colored);
+    let frame = rendering.nanoseconds_per_frame;
+    let record = Record::new(alloc, record, clock.now(), frame);
+    let mut items = Items::new(alloc, root, !rendering.colored, record);
     let mut display = Display::new(handle, Arc::try_clone(&output)?);
     let is_strict = options.is_strict;
     let fed = feed_lines(
@@ -66,8 +71,13 @@ pub fn live<
         is_strict,
     );
     display.close();
+    items.record().end(&*clock)?;
     if output.is_broken() {
         return Err(Fault::Output);
     }
-    fed
+    let outcome = fed?;
+    if items.record().is_broken() {
+        return Err(Fault::Record);
+    }
+    Ok(outcome)
 }

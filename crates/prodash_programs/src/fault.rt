@@ -33,6 +33,9 @@ pub enum Fault {
     /// Writing the output failed.
     #[error("output is broken")]
     Output,
+    /// Writing the recording failed.
+    #[error("recording is broken")]
+    Record,
     /// Out of memory.
     #[error("no memory")]
     Memory,
@@ -51,7 +54,7 @@ impl Fault {
         match self {
             Fault::Usage(_) | Fault::Arguments | Fault::Line(_) => 2,
             Fault::Sign(_) | Fault::Journal | Fault::Input | Fault::Output => 1,
-            Fault::Memory | Fault::Thread => 1,
+            Fault::Record | Fault::Memory | Fault::Thread => 1,
         }
     }
 

@@ -1,0 +1,208 @@
+Recordings
+==========
+
+A recording has what a run did as event lines, which `prodash-replay` reads. `events` shows one
+without its ticks and the moments of the run.
+
+  $ unset COLUMNS LINES NO_COLOR
+  $ events() { grep -v -e '^tick' "$1" | sed -E 's/[0-9]{19}/NOW/'; }
+  $ cat >script <<END
+  > # two items, and a third in the place of the second
+  > add @a 0 alpha
+  > add @b @a beta
+  > init @b 10 files%
+  > set @b 3
+  > info @b 0 one
+  > bad
+  > add @b 0 delta
+  > init @b 007
+  > name @b epsilon
+  > blocked @b
+  > halted @b
+  > running @b
+  > inc @b 2
+  > max @b -
+  > fail @b 0 three
+  > done 1 - two
+  > set 2 1
+  > size 60 10
+  > drop @a
+  > END
+  $ prodash-live --record recording <script 2>said
+  [2]
+  $ events recording
+  add 0 alpha
+  add 1 beta
+  init 2 10 files%
+  set 2 3
+  info 2 0 one
+  add 0 input
+  name 3 \xe2\x9c\x97 input (esc)
+  fail 3 NOW line 7: no event "bad" in: bad
+  name 3 input
+  drop 3
+  add 0 delta
+  drop 2
+  init 4 7 -
+  name 4 epsilon
+  blocked 4
+  halted 4
+  running 4
+  inc 4 2
+  max 4 -
+  name 4 \xe2\x9c\x97 epsilon (esc)
+  fail 4 0 three
+  name 4 epsilon
+  name 1 \xe2\x9c\x93 alpha (esc)
+  done 1 NOW two
+  name 1 alpha
+  add 0 input
+  name 5 \xe2\x9c\x97 input (esc)
+  fail 5 NOW line 18: no such handle in: set 2 1
+  name 5 input
+  drop 5
+  resize NOW 60 10
+  drop 1
+  quit NOW
+
+A replay has the messages of the run, and its closing frame clears the rows.
+
+  $ cat said
+   beta one
+   \xe2\x9c\x97 input line 7: no event "bad" in: bad (esc)
+   \xe2\x9c\x97 epsilon three (esc)
+     \xe2\x9c\x93 alpha two (esc)
+     \xe2\x9c\x97 input line 18: no such handle in: set 2 1 (esc)
+  $ prodash-replay page 80 20 --defensive <recording | sed '/^$/d' | cmp said -
+  $ prodash-replay page 80 20 <recording | sed '/^$/d' | cmp said -
+
+With colours there are no signs, and the replay has none.
+
+  $ prodash-live --record recording --terminal always <script 2>frames
+  [2]
+  $ grep -c '^name' recording
+  1
+  $ prodash-replay page 80 20 <recording | sed '/^$/d'
+   beta one
+   input line 7: no event "bad" in: bad
+   epsilon three
+     alpha two
+     input line 18: no such handle in: set 2 1
+
+Rows
+====
+
+The rows of the last tick are those that the run drew last. `until_shown` keeps the input of a
+command open until the file `frames` has a text, and `last_rows` shows the rows that were drawn last
+before a closing frame.
+
+  $ until_shown() {
+  >   text=$1; shift
+  >   { cat; until grep -q "$text" frames; do sleep 0.02; done; } | "$@"
+  > }
+  $ last_rows() { tail -n $((2 * $1 + 1)) | head -n "$1" | sed 's/.*\[2K//'; }
+  $ until_shown last prodash-live --record recording --no-color --columns 40 --terminal always \
+  >   2>frames <<END
+  > add @a 0 alpha
+  > init @a 10 %files
+  > set @a 3
+  > add @b @a beta
+  > add @b @a gamma
+  > init @b - bytes
+  > set @b 1999
+  > add @c 0 last
+  > END
+  $ last_rows 3 <frames
+   alpha [30%] 3/10 files [===>----------]
+    gamma 1.9kB  [   ===   ===   ===   ==]
+   last
+  $ prodash-replay bytes 40 20 --defensive <recording | last_rows 3
+   alpha [30%] 3/10 files [===>----------]
+    gamma 1.9kB  [   ===   ===   ===   ==]
+   last
+
+Without its last line a recording leaves them on the page.
+
+  $ sed '$d' recording | prodash-replay page 40 4
+   alpha [30%] 3/10 files [===>----------]
+    gamma 1.9kB  [   ===   ===   ===   ==]
+   last
+  
+
+A root that is dropped ends the frames, as it does in the run.
+
+  $ printf 'add 0 a\ndroproot\ninfo 1 0 b\n' | prodash-live --record recording
+  $ events recording
+  add 0 a
+  droproot
+  info 1 0 b
+  quit NOW
+  $ prodash-replay bytes 40 4 --defensive <recording
+  \r\x1b[J\r\x1b[J (no-eol) (esc)
+
+Ticks
+=====
+
+There is a tick where a frame was due since the line before, at the moment at which it was, and one
+at the end. With ten frames a second they are some tenths of a second after each other, but for the
+last.
+
+  $ {
+  >   for it in 1 2 3 4; do echo "add 0 $it"; sleep 0.25; done
+  > } | prodash-live --record recording --fps 10
+  $ sed -E 's/^tick .*/tick/' recording | sed '/^quit/d'
+  tick
+  add 0 1
+  tick
+  add 0 2
+  tick
+  add 0 3
+  tick
+  add 0 4
+  tick
+  tick
+  $ sed -n -E 's/^tick [0-9]*([0-9]{8})$/\1/p' recording | sed '$d' | uniq -c | sed -E 's/ +/ /g' \
+  >   | cut -d ' ' -f 2
+  5
+
+A replay keeps 20 messages until the next tick, so there is one after as many.
+
+  $ { echo 'add 0 a'; seq 50 | sed 's/^/info 1 0 /'; } >many
+  $ prodash-live --record recording --fps 1 <many 2>said
+  $ prodash-replay page 80 4 <recording | sed '/^$/d' | cmp said -
+
+Files
+=====
+
+A recording has all lines that were taken, also if the run is killed.
+
+  $ mkfifo lines
+  $ prodash-live --record recording <lines &
+  $ exec 3>lines
+  $ printf 'add 0 a\nset 1 3\n' >&3
+  $ for _ in $(seq 300); do grep -q set recording && break; sleep 0.01; done
+  $ kill -9 $!
+  $ exec 3>&-
+  $ events recording
+  add 0 a
+  set 1 3
+
+The relay doesn't change that.
+
+  $ printf 'add 0 a\ninfo 1 0 one\n' | relay prodash-live --record recording
+   a one
+  $ events recording
+  add 0 a
+  info 1 0 one
+  quit NOW
+
+A file that can't be made, and one that can't be written. No message is lost.
+
+  $ prodash-live --record no/recording <script
+  recording is broken
+  [1]
+  $ prodash-live --record /dev/full <many 2>written
+  [1]
+  $ grep -v '^ a' written
+  recording is broken
+  $ sed '$d' written | cmp said -
