@@ -73,8 +73,8 @@ A replay has the messages of the run, and its closing frame clears the rows.
    \xe2\x9c\x97 epsilon three (esc)
      \xe2\x9c\x93 alpha two (esc)
      \xe2\x9c\x97 input line 18: no such handle in: set 2 1 (esc)
-  $ prodash-replay page 80 20 --defensive <recording | sed '/^$/d' | cmp said -
-  $ prodash-replay page 80 20 <recording | sed '/^$/d' | cmp said -
+  $ prodash-replay page 80 20 --any-unit --defensive <recording | sed '/^$/d' | cmp said -
+  $ prodash-replay page 80 20 --any-unit <recording | sed '/^$/d' | cmp said -
 
 With colours there are no signs, and the replay has none.
 
@@ -82,7 +82,7 @@ With colours there are no signs, and the replay has none.
   [2]
   $ grep -c '^name' recording
   1
-  $ prodash-replay page 80 20 <recording | sed '/^$/d'
+  $ prodash-replay page 80 20 --any-unit <recording | sed '/^$/d'
    beta one
    input line 7: no event "bad" in: bad
    epsilon three
@@ -116,14 +116,14 @@ before a closing frame.
    alpha [30%] 3/10 files [===>----------]
     gamma 1.9kB  [   ===   ===   ===   ==]
    last
-  $ prodash-replay bytes 40 20 --defensive <recording | last_rows 3
+  $ prodash-replay bytes 40 20 --any-unit --defensive <recording | last_rows 3
    alpha [30%] 3/10 files [===>----------]
     gamma 1.9kB  [   ===   ===   ===   ==]
    last
 
 Without its last line a recording leaves them on the page.
 
-  $ sed '$d' recording | prodash-replay page 40 4
+  $ sed '$d' recording | prodash-replay page 40 4 --any-unit
    alpha [30%] 3/10 files [===>----------]
     gamma 1.9kB  [   ===   ===   ===   ==]
    last

@@ -364,6 +364,7 @@ In colour. Both options may be given, in any order. A page shows no styles.
   $ printf 'add 0 a\ntick 0\n' | prodash-replay page 40 2 --defensive --colored
    a
   
+
 In defensive frames names and messages have U+FFFD in place of control characters. In other frames
 each byte is as it is.
 
@@ -377,28 +378,38 @@ each byte is as it is.
    E[2JTtab
   E[1A E[2JTtab Bbell
 
+A unit of another name is read with an option alone.
+
+  $ printf 'add 0 a\ninit 1 3 files%%\nset 1 2\ntick 0\n' >files
+  $ prodash-replay page 40 2 <files
+  line 2: not an event
+  [2]
+  $ prodash-replay page 40 2 --any-unit <files
+   a 2/3 files [66%] [============>------]
+  
+
 Arguments that are not a command and two dimensions. They are checked before the input is read.
 
   $ prodash-replay <one_task >>written
-  usage: prodash-replay bytes|page COLUMNS ROWS [--defensive] [--colored]
+  usage: prodash-replay bytes|page COLUMNS ROWS
   [2]
   $ prodash-replay bytes 40 <one_task >>written
-  usage: prodash-replay bytes|page COLUMNS ROWS [--defensive] [--colored]
+  usage: prodash-replay bytes|page COLUMNS ROWS
   [2]
   $ prodash-replay bytes 0 4 <one_task >>written
-  usage: prodash-replay bytes|page COLUMNS ROWS [--defensive] [--colored]
+  usage: prodash-replay bytes|page COLUMNS ROWS
   [2]
   $ prodash-replay page 40 65536 <one_task >>written
-  usage: prodash-replay bytes|page COLUMNS ROWS [--defensive] [--colored]
+  usage: prodash-replay bytes|page COLUMNS ROWS
   [2]
   $ prodash-replay rows 40 4 <one_task >>written
-  usage: prodash-replay bytes|page COLUMNS ROWS [--defensive] [--colored]
+  usage: prodash-replay bytes|page COLUMNS ROWS
   [2]
   $ prodash-replay bytes 40 20 4 <. >>written
-  usage: prodash-replay bytes|page COLUMNS ROWS [--defensive] [--colored]
+  usage: prodash-replay bytes|page COLUMNS ROWS
   [2]
   $ prodash-replay "$(printf '\377')" 40 4 <one_task >>written
-  usage: prodash-replay bytes|page COLUMNS ROWS [--defensive] [--colored]
+  usage: prodash-replay bytes|page COLUMNS ROWS
   [2]
 
 An input that can't be read: a folder.

@@ -10,9 +10,20 @@ use std::alloc::{AllocError, Global};
 use std::io::{Read, Write};
 
 /// The fault of arguments that are not a command and two dimensions.
-pub const USAGE: Fault = Fault::Usage(
-    "prodash-replay bytes|page COLUMNS ROWS [--defensive] [--colored]",
-);
+pub const USAGE: Fault = Fault::Usage("prodash-replay bytes|page COLUMNS ROWS");
+
+/// What lines end in that begin an item in one of the units that are read without `--any-unit`.
+static UNITS: [&str; 9] = [
+    " -",
+    " items",
+    " items%",
+    " %items",
+    " items/s",
+    " steps",
+    " bytes",
+    " duration",
+    " objects",
+];
 
 /// What the program writes of the frames.
 #[derive(Clone, Copy, Debug, PartialEq, Eq)]
@@ -23,8 +34,8 @@ enum Command {
     Page,
 }
 
-/// The command line: a command, the columns and rows of the terminal, and whether frames are
-/// defensive and have colours.
+/// The command line: a command, the columns and rows of the terminal, whether frames are defensive
+/// and have colours, and whether units may have any name.
 #[derive(Clone, Copy, Debug)]
 struct Request {
     command: Command,
@@ -32,14 +43,15 @@ struct Request {
     rows: u16,
     defensive: bool,
     colored: bool,
+    any_unit: bool,
     ghost wide: { 0 < columns },
     ghost high: { 0 < rows },
 }
 
 /// Runs the program: replays the events of `input`, one per line. `words` are the program's name,
-/// and then `bytes COLUMNS ROWS` or `page COLUMNS ROWS`, and perhaps `--defensive` and `--colored`.
-/// `bytes` writes the bytes of all frames to `out`; `page` plays them on a page of that size and
-/// writes each row that it ever had, without trailing blanks. Returns the exit status.
+/// and then `bytes COLUMNS ROWS` or `page COLUMNS ROWS`, and perhaps `--defensive`, `--colored` and
+/// `--any-unit`. `bytes` writes the bytes of all frames to `out`; `page` plays them on a page of that
+/// size and writes each row that it ever had, without trailing blanks. Returns the exit status.
 ///
 /// If anything fails, one line on `err` says what. Unless it was `out` that failed, nothing has
 /// been written to `out` then.
@@ -67,7 +79,7 @@ fn replayed<R: Read>(alloc: Global, words: &[String], input: &mut R) -> Result<V
     if let Err(error) = input.read_to_end(&mut bytes) {
         return Err(Fault::of_input(&error));
     }
-    let events = events_of(alloc, &bytes)?;
+    let events = events_of(alloc, &bytes, request.any_unit)?;
     let frames = drawn(alloc, &request, &events)?;
     match request.command {
         Command::Bytes => Ok(frames),
@@ -80,11 +92,12 @@ fn parse_args(words: &[String]) -> Result<Request, Fault> {
     let [_, command, columns, rows, flags @ ..] = words else {
         return Err(USAGE);
     };
-    let (mut defensive, mut colored) = (false, false);
+    let (mut defensive, mut colored, mut any_unit) = (false, false, false);
     for flag in flags {
         match flag.as_str() {
             "--defensive" => defensive = true,
             "--colored" => colored = true,
+            "--any-unit" => any_unit = true,
             _ => return Err(USAGE),
         }
     }
@@ -101,11 +114,12 @@ fn parse_args(words: &[String]) -> Result<Request, Fault> {
         rows,
         defensive,
         colored,
+        any_unit,
     })
 }
 
 /// Parses each line as an event. The last line may lack its line feed.
-fn events_of(alloc: Global, bytes: &[u8]) -> Result<Vec<Event>, Fault> {
+fn events_of(alloc: Global, bytes: &[u8], any_unit: bool) -> Result<Vec<Event>, Fault> {
     let mut events = Vec::new(alloc);
     let mut labels = Labels::new(alloc);
     if bytes.is_empty() {
@@ -118,11 +132,24 @@ fn events_of(alloc: Global, bytes: &[u8]) -> Result<Vec<Event>, Fault> {
             return Err(fault);
         };
         match parse(alloc, &mut labels, text)? {
-            Some(event) => events.push(event)?,
-            None => return Err(fault),
+            Some(event) if any_unit || has_listed_unit(text) => events.push(event)?,
+            _ => return Err(fault),
         }
     }
     Ok(events)
+}
+
+/// Returns whether a line begins no item, or one in a unit that is read without `--any-unit`.
+fn has_listed_unit(line: &str) -> bool {
+    if !line.starts_with("init ") {
+        return true;
+    }
+    for unit in &UNITS {
+        if line.ends_with(*unit) {
+            return true;
+        }
+    }
+    false
 }
 
 /// Returns the bytes of all frames that the events draw.
