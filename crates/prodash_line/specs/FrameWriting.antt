@@ -1,10 +1,11 @@
 -- What composing a frame writes, and what it leaves to the next frame.
-use Rattle.std.specs.Prelude.{◌≡◌, ℕ, List, [], ◌∷◌, ◌++◌, ◌+◌, ◌-◌, length, Option, Some, max}
+use Rattle.std.specs.Prelude.{◌≡◌, ℕ, Bool, List, [], ◌∷◌, ◌++◌, ◌+◌, ◌-◌, length, Option, Some, max}
 use Rattle.prodash_base.specs.FrameTrackers.{FrameTracker}
 use Rattle.prodash_base.specs.Rows.{PathRow, rows_of}
 use Rattle.prodash_base.specs.Trackers.{Tracker}
 use Rattle.prodash_base.specs.declared.progress.Row.{Row}
 use Rattle.prodash_line.specs.declared.render.line.draw.input.Input.{Input}
+use Rattle.prodash_line.specs.declared.render.line.draw.input.Input.TheVariants.{Resize}
 use Rattle.prodash_line.specs.declared.render.line.draw.input.Options.{Options}
 use Rattle.prodash_line.specs.declared.render.line.draw.action.Action.{Action}
 use Rattle.prodash_line.specs.declared.render.line.draw.action.Drawn.{Drawn}
@@ -21,14 +22,18 @@ use Rattle.prodash_line.specs.Lines.{Line}
 use Rattle.prodash_line.specs.DrawnLines.{layout_of}
 use Rattle.prodash_line.specs.Frames.{Body, covered, erased_rows, left_over, cursor_up, redraw, body_signs, widths_of}
 use Rattle.prodash_line.specs.ProgressRows.{DrawnRow, filtered, fitting_count, fitting, more_lines, row_lines, greatest_midpoint}
-use Rattle.prodash_line.specs.Renderer.{Renderer, Drawing, FrameState, drawing_of, body_of, ending_of, state_after, state_at, action_at, remember, latest_rows, frame_bytes, ended_after}
+use Rattle.prodash_line.specs.Renderer.{Renderer, Drawing, FrameState, drawing_of, body_of, opening_of, ending_of, state_after, state_at, action_at, remember, latest_rows, frame_bytes, ended_after}
 use Rattle.prodash_line.specs.OverwriteBytes.{lines_bytes}
-use Rattle.prodash_line.specs.Observing.{shown_by}
-use Rattle.prodash_line.specs.Tracking.{tracker_by}
+use Rattle.prodash_line.specs.Observing.{shown_by, observe_all}
+use Rattle.prodash_line.specs.Tracking.{kept_of, ahead_of, tracked, tracker_by}
 
 -- the buffer holds the frame of an input
 abbrev pub HoldsFrame : Renderer → Input → LineWriter → Type 0
 HoldsFrame r input out = out.bytes.items ≡ frame_bytes r input
+
+-- the buffer holds the frame that an input has with this tracker
+abbrev pub Composes : Renderer → Option FrameTracker → Input → LineWriter → Type 0
+Composes r tracker input out = HoldsFrame (tracked r tracker) input out
 
 -- these signs follow the bytes of old
 abbrev pub AppendsSigns : LineWriter → List Sign → LineWriter → Type 0
@@ -43,6 +48,10 @@ abbrev pub action_start : Layout → Action → List Sign
 action_start Overwriting action = []
 action_start (Clearing height) Leave = []
 action_start (Clearing height) _ = CarriageReturn ∷ []
+
+-- the buffer holds the beginning of a frame that does this after its messages
+abbrev pub BeginsFrame : Renderer → Layout → Action → LineWriter → Type 0
+BeginsFrame r layout action out = out.bytes.items ≡ spelling (opening_of r ++ action_start layout action)
 
 -- what follows this many lines in a redraw that erases rows, if this many are on screen
 abbrev pub clearing_end : ℕ → ℕ → ℕ → List Sign
@@ -84,6 +93,18 @@ pub record LeavesTick (r : Renderer) (input : Input) (frame : Composed) (tracker
   pub drawn : Leaves r input frame.drawn tracker
   pub origin_widths : frame.origin_widths.items ≡ (remember r input).origin_widths
 
+-- what such a frame leaves if its tracker was `old` and is `new`
+abbrev pub LeftBy : Renderer → Option FrameTracker → Input → Option FrameTracker → Drawn → Type 0
+LeftBy r old input new drawn = Leaves (tracked r old) input drawn new
+
+-- the same of the frame of a tick
+abbrev pub LeftByTick : Renderer → Option FrameTracker → Input → Option FrameTracker → Composed → Type 0
+LeftByTick r old input new frame = LeavesTick (tracked r old) input frame new
+
+-- a resize to these columns and rows
+abbrev pub resize_to : ℕ → Bool → ℕ × ℕ → Input
+resize_to at show dimensions = Resize at show dimensions.0 dimensions.1
+
 -- the renderer of a scene, with its options and this tracker
 abbrev pub renderer_in : Scene → Option Tracker → Renderer
 renderer_in scene tracker = record scene.past.now { options = scene.options; tracker = tracker }
@@ -105,6 +126,19 @@ pub record LeavesInScene (does : Action) (scene : Scene) (before : Option Tracke
   pub state : state_by drawn tracker (rows_of scene.rows.now) ≡ state_after does (record scene.past.now { tracker = before }) (drawing_in scene before) widths
   pub action : drawn.action ≡ does
 
+-- the same of an action over lines that are left on screen, if the tracker was `old` and is `new`
+abbrev pub LeftByAction : Action → Scene → Option FrameTracker → List ℕ → Option FrameTracker → Drawn → Type 0
+LeftByAction does scene old left new drawn = LeavesInScene does scene (kept_of old) left drawn new
+
+-- what an action in a scene writes over such lines follows the bytes of old
+abbrev pub AppendsBody : Action → Scene → Option FrameTracker → List ℕ → LineWriter → LineWriter → Type 0
+AppendsBody does scene tracker left old new = AppendsSigns old (body_signs_in does scene (kept_of tracker) left) new
+
+-- a redraw of the rows of a scene over such lines follows the bytes of old
+abbrev pub AppendsRedraw : Scene → Option FrameTracker → List ℕ → LineWriter → LineWriter → Type 0
+AppendsRedraw scene tracker left old new =
+    AppendsSigns old (redraw (layout_of scene.options) left (drawing_in scene (kept_of tracker)).lines) new
+
 -- rows that are drawn by a tracker, if there is one, each with the throughput that it gives
 abbrev pub shown_rows : Options → Option Tracker → List Row → List DrawnRow
 shown_rows options tracker rows = shown_by tracker (filtered options.level_filter (rows_of rows))
@@ -119,6 +153,10 @@ pub record AddsRows (options : Options) (aligned : ℕ) (tracker : Option Tracke
   pub midpoint : new.midpoint ≡ max old.midpoint (greatest_midpoint options.defensive (shown_rows options tracker rows))
   pub rows_erased : new.rows_erased ≡ old.rows_erased
   pub action : new.action ≡ old.action
+
+-- the tracker has observed those of these rows that are drawn
+abbrev pub ObservesRows : Options → List Row → Option FrameTracker → Option FrameTracker → Type 0
+ObservesRows options rows old new = ahead_of new ≡ observe_all (ahead_of old) (filtered options.level_filter (rows_of rows))
 
 -- the rows of these that fit
 abbrev pub fitting_shown : Options → Option Tracker → List Row → List DrawnRow

@@ -1,18 +1,14 @@
 //! Frames: the lines of messages and rows, written over the lines on screen.
 ghost use Rattle.std.specs.Prelude.{◌≡◌, [], ◌++◌, Some, drop, OnOk, IfOk, IsOkUnless};
-ghost use Rattle.prodash_base.specs.Rows.{rows_of};
-ghost use Rattle.prodash_line.specs.declared.render.line.draw.input.Input.TheVariants as inputs;
-ghost use Rattle.prodash_line.specs.declared.render.line.draw.action.Action.TheVariants as actions;
-ghost use Rattle.prodash_line.specs.Signs.{spelling};
+ghost use Rattle.prodash_line.specs.declared.render.line.draw.input.Input.TheVariants.{Tick};
+ghost use Rattle.prodash_line.specs.declared.render.line.draw.action.Action.TheVariants.{Redraw};
 ghost use Rattle.prodash_line.specs.Frames.{first_width, covered, redraw, cursor_up};
 ghost use Rattle.prodash_line.specs.MessageLines.{message_lines, widths_of_origins};
-ghost use Rattle.prodash_line.specs.Renderer.{opening_of, ending_of, closing_signs, closing_bytes};
-ghost use Rattle.prodash_line.specs.Observing.{observe_all};
-ghost use Rattle.prodash_line.specs.Tracking.{kept_of, ahead_of, tracked};
-ghost use Rattle.prodash_line.specs.ProgressRows.{filtered};
+ghost use Rattle.prodash_line.specs.Renderer.{ending_of, closing_signs, closing_bytes};
+ghost use Rattle.prodash_line.specs.Tracking.{kept_of, ahead_of};
 ghost use Rattle.prodash_line.specs.OverwriteBytes.{blank_bytes};
 ghost use Rattle.prodash_line.specs.DrawnLines.{layout_of};
-ghost use Rattle.prodash_line.specs.FrameWriting.{HoldsFrame, action_start, AppendsSigns, AppendsOver, Leaves, LeavesTick, LeavesInScene, FinishesRedraw, AddsRows, AddsFitting, body_signs_in, drawing_in, shown_lines, fitting_lines};
+ghost use Rattle.prodash_line.specs.FrameWriting.{Composes, AppendsSigns, AppendsOver, AppendsBody, AppendsRedraw, BeginsFrame, FinishesRedraw, LeftBy, LeftByTick, LeftByAction, AddsRows, AddsFitting, ObservesRows, resize_to, shown_lines, fitting_lines};
 
 use crate::render::line::draw::action::{Action, Composed, Drawn};
 use crate::render::line::draw::clearing::{finish_clearing, start_frame, start_row};
@@ -58,10 +54,10 @@ pub(crate) fn compose(
     show: bool,
     seen: &(Rows, Messages, MessageCopyState),
 ) -> Result<Composed, Refusal>
-    ensures bytes { OnOk result (let input = inputs.Tick at show (Some seen.now) in
-        HoldsFrame (tracked past.now tracker.old) input out.new) }
-    ensures state { IfOk result (λ frame. let input = inputs.Tick at show (Some seen.now) in
-        LeavesTick (tracked past.now tracker.old) input frame tracker.new) }
+    ensures bytes { OnOk result
+        (Composes past.now tracker.old (Tick at show (Some seen.now)) out.new) }
+    ensures state { IfOk result
+        (LeftByTick past.now tracker.old (Tick at show (Some seen.now)) tracker.new) }
     ensures kept { kept_of tracker.new ≡ kept_of tracker.old }
     ensures reason { IsOkUnless result Refusal.Memory }
 {
@@ -115,11 +111,10 @@ pub(crate) fn compose_resized(
     dimensions: (u16, u16),
     show: bool,
 ) -> Result<Drawn, Refusal>
-    ensures bytes { OnOk result (let input = inputs.Resize at show dimensions.0 dimensions.1 in
-        HoldsFrame (tracked past.now tracker.old) input out.new) }
+    ensures bytes { OnOk result
+        (Composes past.now tracker.old (resize_to at show dimensions) out.new) }
     ensures state { IfOk result
-        (λ drawn. let input = inputs.Resize at show dimensions.0 dimensions.1 in
-        Leaves (tracked past.now tracker.old) input drawn tracker.new) }
+        (LeftBy past.now tracker.old (resize_to at show dimensions) tracker.new) }
     ensures kept { kept_of tracker.new ≡ kept_of tracker.old }
     ensures reason { IsOkUnless result Refusal.Memory }
 {
@@ -147,8 +142,7 @@ fn begin_frame(
     layout: Layout,
     action: Action,
 ) -> Result<(), AllocError>
-    ensures { OnOk result
-        (out.new.bytes.items ≡ spelling (opening_of past.now ++ action_start layout action)) }
+    ensures { OnOk result (BeginsFrame past.now layout action out.new) }
 {
     out.clear();
     if past.hides_cursor() {
@@ -167,10 +161,10 @@ fn write_body(
     action: Action,
     left: &[u16],
 ) -> Result<Drawn, Refusal>
-    ensures bytes { OnOk result (let before = kept_of tracker.old in
-        AppendsSigns out.old (body_signs_in action scene.now before left.now) out.new) }
-    ensures state { IfOk result (λ drawn. let before = kept_of tracker.old in
-        LeavesInScene action scene.now before left.now drawn tracker.new) }
+    ensures bytes { OnOk result
+        (AppendsBody action scene.now tracker.old left.now out.old out.new) }
+    ensures state { IfOk result
+        (LeftByAction action scene.now tracker.old left.now tracker.new) }
     ensures kept { kept_of tracker.new ≡ kept_of tracker.old }
     ensures reason { IsOkUnless result Refusal.Memory }
 {
@@ -289,11 +283,9 @@ fn redraw_rows(
     widths: &[u16],
 ) -> Result<Drawn, Refusal>
     ensures bytes { OnOk result
-        (let layout = layout_of scene.now.options in
-        let lines = (drawing_in scene.now (kept_of tracker.old)).lines in
-        AppendsSigns out.old (redraw layout widths.now lines) out.new) }
-    ensures state { IfOk result (λ drawn. let before = kept_of tracker.old in
-        LeavesInScene actions.Redraw scene.now before widths.now drawn tracker.new) }
+        (AppendsRedraw scene.now tracker.old widths.now out.old out.new) }
+    ensures state { IfOk result
+        (LeftByAction Redraw scene.now tracker.old widths.now tracker.new) }
     ensures kept { kept_of tracker.new ≡ kept_of tracker.old }
     ensures reason { IsOkUnless result Refusal.Memory }
 {
@@ -333,8 +325,7 @@ fn write_fitting(
         AppendsOver layout out.old (covered layout widths.now) lines out.new) }
     ensures drawn { OnOk result (let ahead = ahead_of tracker.old in
         AddsFitting options.now midpoint ahead rows.now drawn.old drawn.new) }
-    ensures ahead { OnOk result (ahead_of tracker.new ≡ observe_all (ahead_of tracker.old)
-        (filtered options.now.level_filter (rows_of rows.now))) }
+    ensures ahead { OnOk result (ObservesRows options.now rows.now tracker.old tracker.new) }
     ensures kept { kept_of tracker.new ≡ kept_of tracker.old }
     ensures reason { IsOkUnless result Refusal.Memory }
 {
@@ -365,8 +356,7 @@ fn write_rows(
         AppendsOver (layout_of options.now) out.old widths.now lines out.new) }
     ensures drawn { OnOk result (let ahead = ahead_of tracker.old in
         AddsRows options.now midpoint ahead rows.now drawn.old drawn.new) }
-    ensures ahead { OnOk result (ahead_of tracker.new ≡ observe_all (ahead_of tracker.old)
-        (filtered options.now.level_filter (rows_of rows.now))) }
+    ensures ahead { OnOk result (ObservesRows options.now rows.now tracker.old tracker.new) }
     ensures kept { kept_of tracker.new ≡ kept_of tracker.old }
     ensures reason { IsOkUnless result Refusal.Memory }
 {
