@@ -6,7 +6,7 @@ shows the rows that were drawn last before the closing frame.
 
   $ until_shown() {
   >   text=$1; shift
-  >   { cat; until grep -q "$text" frames; do sleep 0.02; done; } | "$@"
+  >   { cat; until grep -qs "$text" frames; do sleep 0.02; done; } | "$@"
   > }
   $ last_rows() { tail -n $((2 * $1 + 1)) frames | head -n "$1" | sed 's/.*\[2K//'; }
 
@@ -116,7 +116,7 @@ With a delay of a second rows come after a second, and before nine.
   $ {
   >   {
   >     printf 'add 0 a\ninit 1 10 -\n'
-  >     until grep -q a frames; do echo 'inc 1 1'; sleep 0.1; done
+  >     until grep -qs a frames; do echo 'inc 1 1'; sleep 0.1; done
   >   } | prodash-live --terminal always --no-color --delay 1000
   > } 2>frames
   $ took=$((($(date +%s%N) - began) / 1000000))

@@ -28,7 +28,7 @@ A program that is in use is replaced.
   $ alone moved/bin/prodash-live --stdout <lines >output &
   $ exec 3>lines
   $ printf 'add @a 0 alpha\ninfo @a 0 one\n' >&3
-  $ until grep -q one output; do sleep 0.01; done
+  $ until grep -qs one output; do sleep 0.01; done
   $ install-prodash $HOW moved
   $ exec 3>&-
   $ wait $!

@@ -113,7 +113,7 @@ the row that was drawn last before the closing frame. What was drawn before it d
 
   $ until_shown() {
   >   text=$1; shift
-  >   { cat; until grep -q "$text" frames; do sleep 0.02; done; } | "$@"
+  >   { cat; until grep -qs "$text" frames; do sleep 0.02; done; } | "$@"
   > }
   $ last_row() { tail -n 3 frames | head -n 1 | sed 's/.*\[2K//'; }
   $ printf 'add 0 task\ninit 1 10 -\nset 1 3\n' >one_task
@@ -176,7 +176,7 @@ A message is aligned with the origins of as many messages before its frame as th
   >     {
   >       printf 'add 0 long\nadd 0 a\ninfo 1 0 first\n'
   >       seq "$count" | sed 's/.*/info 2 0 number &./'
-  >       until grep -q "number $count[.]" frames; do sleep 0.02; done
+  >       until grep -qs "number $count[.]" frames; do sleep 0.02; done
   >       echo 'info 2 0 next'
   >     } | "$@"
   >   } 2>frames
@@ -234,7 +234,7 @@ status of `takes` is 0 if a command takes as many milliseconds as that, or more.
   >       echo 'add 0 a'
   >       for i in $(seq "$count"); do
   >         echo "info 1 0 number $i."
-  >         until grep -q "number $i[.]" frames; do sleep 0.02; done
+  >         until grep -qs "number $i[.]" frames; do sleep 0.02; done
   >       done
   >     } | "$@"
   >   } 2>frames
@@ -255,7 +255,7 @@ A throughput is drawn after a second, if the unit asks for it.
   $ {
   >   {
   >     printf 'add 0 t\ninit 1 - files/s\n'
-  >     until grep -q 't [0-9]* files |[0-9]*/s|' frames; do echo 'inc 1 1'; sleep 0.02; done
+  >     until grep -qs 't [0-9]* files |[0-9]*/s|' frames; do echo 'inc 1 1'; sleep 0.02; done
   >   } | prodash-live --no-color --terminal always
   > } 2>frames
 

@@ -98,7 +98,7 @@ before a closing frame.
 
   $ until_shown() {
   >   text=$1; shift
-  >   { cat; until grep -q "$text" frames; do sleep 0.02; done; } | "$@"
+  >   { cat; until grep -qs "$text" frames; do sleep 0.02; done; } | "$@"
   > }
   $ last_rows() { tail -n $((2 * $1 + 1)) | head -n "$1" | sed 's/.*\[2K//'; }
   $ until_shown last prodash-live --record recording --no-color --columns 40 --terminal always \
@@ -176,7 +176,7 @@ A recording has all lines that were taken, also if the run is killed.
   $ prodash-live --record recording <lines &
   $ exec 3>lines
   $ printf 'add 0 a\nset 1 3\n' >&3
-  $ for _ in $(seq 300); do grep -q set recording && break; sleep 0.01; done
+  $ for _ in $(seq 300); do grep -qs set recording && break; sleep 0.01; done
   $ kill -9 $!
   $ exec 3>&-
   $ events recording

@@ -8,7 +8,7 @@ the input: the lines that were there are taken, and one that isn't whole is left
   $ relay prodash-live --stdout <lines >output &
   $ exec 3>lines
   $ printf 'add @a 0 alpha\ninfo @a 0 one\n' >&3
-  $ until grep -q one output; do sleep 0.01; done
+  $ until grep -qs one output; do sleep 0.01; done
   $ kill -STOP $!
   $ printf 'info @a 0 two\ninfo @a 0 thr' >&3
   $ kill -TERM $!
@@ -24,7 +24,7 @@ SIGINT is left to the script, whose end is the end of the input.
   $ env --default-signal=INT relay prodash-live --stdout <lines >output &
   $ exec 3>lines
   $ printf 'add @a 0 alpha\ninfo @a 0 three\n' >&3
-  $ until grep -q three output; do sleep 0.01; done
+  $ until grep -qs three output; do sleep 0.01; done
   $ kill -INT $!
   $ printf 'info @a 0 four\n' >&3
   $ exec 3>&-

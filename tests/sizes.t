@@ -3,7 +3,7 @@ The size of the terminal
 
 A line sets it. Empty lines and those that begin with `#` do nothing, and each line may end in CR LF.
 
-  $ shown() { for it in $(seq 800); do grep -q "$1" output && return; sleep 0.01; done; return 1; }
+  $ shown() { for it in $(seq 800); do grep -qs "$1" output && return; sleep 0.01; done; return 1; }
   $ mkfifo lines
   $ prodash-live --stdout --no-color --terminal always --columns 40 <lines >output &
   $ exec 3>lines
