@@ -24,6 +24,9 @@ pub(crate) struct Scene {
     changes: bool,
     /// How many messages are sent before each frame.
     messages: u64,
+    defensive: bool,
+    /// The rows of the terminal.
+    rows: u16,
 }
 
 impl Scene {
@@ -36,6 +39,8 @@ impl Scene {
             throughput: false,
             changes: true,
             messages: 0,
+            defensive: false,
+            rows: 20,
         };
         let unit = Some(label("items"));
         Some(match name {
@@ -44,6 +49,12 @@ impl Scene {
             "levels" => Scene {
                 unit,
                 has_groups: true,
+                ..plain
+            },
+            "defensive" => Scene {
+                defensive: true,
+                // as many as make room for all tasks
+                rows: 65535,
                 ..plain
             },
             "colored" => Scene {
@@ -84,6 +95,8 @@ impl Scene {
         };
         let options = draw::Options {
             colored: self.colored,
+            defensive: self.defensive,
+            terminal_dimensions: (80, self.rows),
             ..draw::Options::default()
         };
         let mut state = draw::State::new(alloc, options, self.throughput);
