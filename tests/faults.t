@@ -129,3 +129,6 @@ With `--strict` the same is said of the first.
   $ printf 'add @a 0 a\ninit @a 10 a b\nfoo\n' | prodash-live --strict
   line 2: no unit "a b" in: init @a 10 a b
   [2]
+  $ printf 'a\033b\302\233\n' | prodash-live --strict
+  line 1: no event "a\xef\xbf\xbdb\xef\xbf\xbd" in: a\xef\xbf\xbdb\xef\xbf\xbd (esc)
+  [2]
