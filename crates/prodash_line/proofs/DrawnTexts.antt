@@ -1,9 +1,13 @@
 -- Texts without control characters.
-use Rattle.std.proofs.Common.{◌≡◌, ℕ, Bool, true, false, cond, List, [], ◌∷◌, chars, map, refl, sym, ap, ◌∙◌}
+use Rattle.std.proofs.Common.{◌≡◌, ℕ, Bool, true, false, cond, List, [], ◌∷◌, chars, map, refl, sym, ap, subst, ◌∙◌, Some}
 use Rattle.std.specs.Prelude.{◌||◌}
-use Rattle.std.specs.List.{list_any}
+use Rattle.std.specs.List.{AllByRecursion, list_any}
+use Rattle.std.specs.Bool.{then_some}
 use Rattle.std.specs.Char.{is_control}
 use Rattle.prodash_line.specs.DrawnLines.{without_control, drawn_chars}
+use Rattle.prodash_line.specs.Writing.{is_printable}
+use Rattle.prodash_line.proofs.Columns.{chars-printable}
+use Rattle.prodash_line.proofs.WithoutControls.{printable_clean}
 
 neither : (a b : Bool) → (a || b) ≡ false → (a ≡ false) × (b ≡ false)
 neither true b e = cc
@@ -15,7 +19,23 @@ none_replaced (c ∷ text) e =
     let h = neither (is_control c) (list_any is_control text) e in
     ap (λ (b : Bool). cond b 0xFFFD c ∷ map without_control text) h.0 ∙ ap (λ (t : List ℕ). c ∷ t) (none_replaced text h.1)
 
+none_clean : (text : List ℕ) → AllByRecursion (λ c. is_control c ≡ false) text → map without_control text ≡ text
+none_clean [] h = refl
+none_clean (c ∷ text) h = ap (λ (b : Bool). cond b 0xFFFD c ∷ map without_control text) h.0 ∙ ap (λ (t : List ℕ). c ∷ t) (none_clean text h.1)
+
 -- a text without control characters is drawn as it is
 pub drawn_as_is : (defensive : Bool) (text : List ℕ) → list_any is_control (chars text) ≡ false → chars text ≡ drawn_chars defensive text
 drawn_as_is true text e = sym (none_replaced (chars text) e)
 drawn_as_is false text e = refl
+
+printable_as_is : (defensive : Bool) (text : List ℕ) → is_printable text ≡ true → chars text ≡ drawn_chars defensive text
+printable_as_is true text e = sym (none_clean (chars text) (subst (AllByRecursion (λ c. is_control c ≡ false)) (sym (chars-printable text e)) (printable_clean text e)))
+printable_as_is false text e = refl
+
+some_if : (b : Bool) (x y : ℕ) → then_some b x ≡ Some y → b ≡ true
+some_if true x y e = refl
+some_if false x y e = cc
+
+-- a text of printable characters is drawn as it is
+pub printable_drawn : (defensive : Bool) (text : List ℕ) (x y : ℕ) → then_some (is_printable text) x ≡ Some y → chars text ≡ drawn_chars defensive text
+printable_drawn defensive text x y e = printable_as_is defensive text (some_if (is_printable text) x y e)

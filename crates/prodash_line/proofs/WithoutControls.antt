@@ -67,7 +67,7 @@ drawn_clean false text e = cc
 printable_char : (c : ℕ) → is_in_range 0x20 0x7E c ≡ true → is_control c ≡ false
 printable_char c e = grind (arith, nat_tests, e)
 
-printable_clean : (text : List ℕ) → is_printable text ≡ true → Clean text
+pub printable_clean : (text : List ℕ) → is_printable text ≡ true → Clean text
 printable_clean [] e = tt
 printable_clean (c ∷ text) e = let parts = and_parts (is_in_range 0x20 0x7E c) (is_printable text) e in (printable_char c parts.0, printable_clean text parts.1)
 

@@ -20,7 +20,6 @@ use crate::render::line::draw::message::{greatest_of, push_message};
 use crate::render::line::draw::more::{split_fitting, write_more};
 use crate::render::line::draw::row::{is_row_drawn, push_row};
 use crate::render::line::draw::state::{Past, keep_latest};
-use crate::render::line::draw::text::text_width;
 use crate::render::line::draw::tracker::{begin, observe};
 use crate::render::line::page::Sign;
 use prodash_base::Refusal;
@@ -261,8 +260,11 @@ fn write_messages(
     for message in messages {
         let (width, others) = split_row(left);
         let mut replaced = String::new(alloc);
-        let origin = drawn_text(options.defensive, message.origin.as_str(), &mut replaced)?;
-        let own_width = text_width(origin);
+        let (origin, own_width) = drawn_text(
+            options.defensive,
+            message.origin.as_str(),
+            &mut replaced,
+        )?;
         greatest = greatest.max(own_width);
         start_row(out, layout)?;
         push_message(alloc, out, options, greatest, origin, own_width, message)?;

@@ -77,13 +77,17 @@ fn push_text(
         Appends out.old (in_color options.now.colored text) out.new) }
 {
     let mut replaced = String::new(alloc);
-    let text = drawn_text(options.defensive, message.message.as_str(), &mut replaced)?;
+    let (text, text_width) = drawn_text(
+        options.defensive,
+        message.message.as_str(),
+        &mut replaced,
+    )?;
     let padding = width.saturating_sub(own_width);
     let of_origin = options.colored.then_some(origin_style());
     let of_text = options.colored.then_some(message_style(message.level));
     out.push_indented(of_origin, padding, origin, own_width)?;
     out.push_spaces(1)?;
-    out.push(of_text, text)?;
+    out.push_indented(of_text, 0, text, text_width)?;
     Ok(())
 }
 

@@ -12,7 +12,6 @@ use crate::render::line::draw::drawn_text::drawn_text;
 use crate::render::line::draw::input::Options;
 use crate::render::line::draw::line_writer::{LineWriter, style_of_length};
 use crate::render::line::draw::styles::{name_style, row_style, values_style};
-use crate::render::line::draw::text::text_width;
 use itoa::Buffer;
 use prodash_base::Refusal;
 use prodash_base::progress::{Level, Row, Step, Value};
@@ -143,10 +142,12 @@ fn push_in_unit(
         .append_to(&mut name)?;
     let mut replaced_values = String::new(alloc);
     let mut replaced_name = String::new(alloc);
-    let values = drawn_text(options.defensive, values.as_str(), &mut replaced_values)?;
-    let name = drawn_text(options.defensive, name.as_str(), &mut replaced_name)?;
-    let values_width = text_width(values);
-    let name_width = text_width(name);
+    let (values, values_width) = drawn_text(
+        options.defensive,
+        values.as_str(),
+        &mut replaced_values,
+    )?;
+    let (name, name_width) = drawn_text(options.defensive, name.as_str(), &mut replaced_name)?;
     let own = out
         .width()
         .saturating_add(1)
@@ -198,9 +199,9 @@ fn push_head(
         AppendsIn options.now.colored out.old head out.new) }
 {
     let mut replaced = String::new(alloc);
-    let name = drawn_text(options.defensive, row.name.as_str(), &mut replaced)?;
+    let (name, width) = drawn_text(options.defensive, row.name.as_str(), &mut replaced)?;
     let style = options.colored.then_some(name_style(&row.progress));
     out.push_spaces(u16::from(row.key.level()))?;
-    out.push(style, name)?;
+    out.push_indented(style, 0, name, width)?;
     Ok(())
 }

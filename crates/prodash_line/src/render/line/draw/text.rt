@@ -1,7 +1,8 @@
 //! The widths of texts, and their longest prefixes of a width.
 ghost use Rattle.std.specs.Prelude.{◌≡◌, ◌-◌, ◌∷◌, [], chars, false, length, take};
 ghost use Rattle.unicode_width.specs.Width.{str_width};
-ghost use Rattle.prodash_line.specs.Lines.{piece, columns_of, longest_prefix};
+ghost use Rattle.std.specs.Bool.{then_some};
+ghost use Rattle.prodash_line.specs.Lines.{piece, capped, columns_of, longest_prefix};
 ghost use Rattle.prodash_line.specs.Writing.{is_printable};
 
 use unicode_width::UnicodeWidthStr;
@@ -24,11 +25,31 @@ pub(crate) fn uncapped_width(text: &str) -> usize
     }
 }
 
+/// Returns the width of a text whose bytes are all printable ASCII characters, in columns, at most
+/// 65535; `None` of any other text.
+pub(crate) fn printable_width(text: &str) -> Option<u16>
+    ensures { result
+        ≡ then_some (is_printable text.now) (columns_of (piece (chars text.now) ∷ [])) }
+{
+    if is_all_printable(text.as_bytes()) {
+        Some(capped(text.len()))
+    } else {
+        None
+    }
+}
+
 /// Returns the width of a text, in columns, at most 65535.
 pub(crate) fn text_width(text: &str) -> u16
     ensures { result ≡ columns_of (piece (chars text.now) ∷ []) }
 {
-    uncapped_width(text).min(usize::from(u16::MAX)) as u16
+    capped(uncapped_width(text))
+}
+
+/// Returns this width, or 65535 if that is less.
+fn capped(width: usize) -> u16
+    ensures { result ≡ capped width }
+{
+    width.min(usize::from(u16::MAX)) as u16
 }
 
 /// Returns the text without its last character.

@@ -10,13 +10,13 @@ use Rattle.prodash_line.proofs.OverwriteBytes.{left_from, message_more, origin_m
 use Rattle.prodash_line.proofs.render.line.draw.frame.write_messages.Goals as goal
 
 drawn_is : (c : goal.After-drop-replaced-in-loop-message) → chars c.in_ok-origin.origin.now ≡ drawn_chars c.args.options.now.defensive c.message-item.result.origin
-drawn_is c = c.in_ok-origin.ensures ∙ ap (drawn_chars c.args.options.now.defensive) c.as_str.ensures
+drawn_is c = c.in_ok-origin.ensures.text ∙ ap (drawn_chars c.args.options.now.defensive) c.as_str.ensures
 
-own_is : (c : goal.After-drop-replaced-in-loop-message) → c.text_width-own_width.result ≡ origin_width c.args.options.now.defensive c.message-item.result.origin
-own_is c = c.text_width-own_width.ensures ∙ ap (λ (text : List ℕ). columns_of (piece text ∷ [])) (drawn_is c)
+own_is : (c : goal.After-drop-replaced-in-loop-message) → c.in_ok-origin.own_width ≡ origin_width c.args.options.now.defensive c.message-item.result.origin
+own_is c = c.in_ok-origin.ensures.width ∙ ap (λ (text : List ℕ). columns_of (piece text ∷ [])) (drawn_is c)
 
-greatest_is : (c : goal.After-drop-replaced-in-loop-message) → c.max-greatest.result ≡ max (greatest_width c.loop-message.origin_widths.items) c.text_width-own_width.result
-greatest_is c = c.max-greatest.ensures ∙ ap (λ n. max n c.text_width-own_width.result) c.loop-message.invariant.greatest
+greatest_is : (c : goal.After-drop-replaced-in-loop-message) → c.max-greatest.result ≡ max (greatest_width c.loop-message.origin_widths.items) c.in_ok-origin.own_width
+greatest_is c = c.max-greatest.ensures ∙ ap (λ n. max n c.in_ok-origin.own_width) c.loop-message.invariant.greatest
 
 left_is : (c : goal.After-drop-replaced-in-loop-message) → drop c.loop-message.message-index c.args.messages.now ≡ c.message-item.result ∷ drop (c.loop-message.message-index + 1) c.args.messages.now
 left_is c = left_from c.args.messages.now c.loop-message.message-index c.message-item.result (omega arith) c.message-item.is
@@ -28,9 +28,9 @@ loop-message-preserved c =
     let left = drop c.loop-message.message-index c.args.messages.now in
     record {
       bytes = message_more (layout_of c.args.options.now) c.args.options.now c.loop-message.left.now c.loop-message.origin_widths.items c.push.new.self.items c.loop-message.out.bytes.items _ _ _ m others left
-          c.max-greatest.result c.text_width-own_width.result _ _ (own_is c) (greatest_is c) c.in_ok-push.ensures.items c.split_row-width.ensures.first c.split_row-width.ensures.others
+          c.max-greatest.result c.in_ok-origin.own_width _ _ (own_is c) (greatest_is c) c.in_ok-push.ensures.items c.split_row-width.ensures.first c.split_row-width.ensures.others
           (c.in_ok-start_row.ensures ∙ ap (λ layout. c.loop-message.out.bytes.items ++ spelling (row_start layout)) c.layout-layout.ensures)
           (c.in_ok-end_over.ensures.bytes (limit_of c.args.options.now) c.start_row.new.out (in_color c.args.options.now.colored (message_line c.args.options.now c.max-greatest.result m)) c.in_ok-push_message.ensures.line).bytes (left_is c) c.loop-message.invariant.bytes;
-      origins = origin_more c.args.options.now.defensive c.loop-message.origin_widths.items c.push.new.self.items _ m others left c.text_width-own_width.result (own_is c) c.in_ok-push.ensures.items (left_is c) c.loop-message.invariant.origins;
-      greatest = greatest_is c ∙ sym (greatest_width-append c.loop-message.origin_widths.items c.text_width-own_width.result) ∙ ap greatest_width (sym c.in_ok-push.ensures.items);
+      origins = origin_more c.args.options.now.defensive c.loop-message.origin_widths.items c.push.new.self.items _ m others left c.in_ok-origin.own_width (own_is c) c.in_ok-push.ensures.items (left_is c) c.loop-message.invariant.origins;
+      greatest = greatest_is c ∙ sym (greatest_width-append c.loop-message.origin_widths.items c.in_ok-origin.own_width) ∙ ap greatest_width (sym c.in_ok-push.ensures.items);
     }

@@ -28,16 +28,16 @@ texts defensive style shown unit p t values name s v u = λ i. styled (s i) (v i
 
 values_are : (c : goal.After-drop-values-2) → chars c.in_ok-values.values.now
     ≡ drawn_chars c.args.options.now.defensive (values_text (kind_shown c.args.unit.kind) c.args.unit.mode (amount c.args.value.now.step c.args.value.now.done_at c.args.throughput))
-values_are c = c.in_ok-values.ensures ∙ ap (drawn_chars c.args.options.now.defensive) (search rules)
+values_are c = c.in_ok-values.ensures.text ∙ ap (drawn_chars c.args.options.now.defensive) (search rules)
 
 name_is : (c : goal.After-drop-values-2) → chars c.in_ok-name.name.now
     ≡ drawn_chars c.args.options.now.defensive (unit_text (kind_shown c.args.unit.kind) c.args.unit.mode (amount c.args.value.now.step c.args.value.now.done_at c.args.throughput))
-name_is c = c.in_ok-name.ensures ∙ ap (drawn_chars c.args.options.now.defensive) (search rules)
+name_is c = c.in_ok-name.ensures.text ∙ ap (drawn_chars c.args.options.now.defensive) (search rules)
 
 pub returns-clause-end : goal.returns-clause-end
 returns-clause-end c =
-    unit_end (chars c.in_ok-values.values.now) (chars c.in_ok-name.name.now) c.args.out.now.width c.text_width-values_width.result c.text_width-name_width.result c.saturating_add-own.result
-    c.text_width-values_width.ensures c.text_width-name_width.ensures
+    unit_end (chars c.in_ok-values.values.now) (chars c.in_ok-name.name.now) c.args.out.now.width c.in_ok-values.values_width c.in_ok-name.name_width c.saturating_add-own.result
+    c.in_ok-values.ensures.width c.in_ok-name.ensures.width
     (omega (arith, c.saturating_add-own.ensures, c.saturating_add-3.ensures, c.saturating_add-2.ensures, c.saturating_add.ensures, c.width.ensures))
     ∙ ap (λ values. end_of_values c.args.out.now.width values)
     (texts c.args.options.now.defensive (Some values_style) _ c.args.unit (progress_of c.args.value.now) c.args.throughput (chars c.in_ok-values.values.now) (chars c.in_ok-name.name.now) refl (values_are c) (name_is c))
