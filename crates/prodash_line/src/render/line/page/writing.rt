@@ -1,5 +1,6 @@
 //! Spells signs as bytes.
 ghost use Rattle.std.specs.Prelude.{◌≡◌, ◌++◌, IfOk, IsOkUnless, OnOk};
+ghost use Rattle.std.specs.Fmt.{decimal};
 ghost use Rattle.prodash_line.specs.Signs.{sequence, spelling, spelling_of};
 ghost use Rattle.prodash_line.specs.Styles.{style_parameters};
 
@@ -10,13 +11,14 @@ use itoa::Buffer;
 use prodash_base::Refusal;
 use std::alloc::{AllocError, Global};
 
-/// Appends a control sequence. Fails if out of memory.
-fn push_sequence(out: &mut Vec<u8>, parameters: &[u8], final_byte: u8) -> Result<(), AllocError>
-    ensures { OnOk result (out.new.items ≡ out.old.items ++ sequence parameters.now final_byte) }
+/// Appends the control sequence that moves the cursor up by `rows` rows. Fails if out of memory.
+fn push_up(out: &mut Vec<u8>, rows: u16) -> Result<(), AllocError>
+    ensures { OnOk result (out.new.items ≡ out.old.items ++ sequence (decimal rows) 65) }
 {
+    let mut digits = Buffer::new();
     out.extend_from_slice(b"\x1b[")?;
-    out.extend_from_slice(parameters)?;
-    out.push(final_byte)?;
+    out.extend_from_slice(digits.format(rows).as_bytes())?;
+    out.push(b'A')?;
     Ok(())
 }
 
@@ -57,16 +59,13 @@ pub(crate) fn push_sign(out: &mut Vec<u8>, sign: Sign) -> Result<(), AllocError>
         }
         Sign::LineFeed => Ok(out.push(b'\n')?),
         Sign::CarriageReturn => Ok(out.push(b'\r')?),
-        Sign::Up(n) => {
-            let mut digits = Buffer::new();
-            push_sequence(out, digits.format(n).as_bytes(), b'A')
-        }
-        Sign::EraseLine => push_sequence(out, b"2", b'K'),
-        Sign::EraseBelow => push_sequence(out, b"", b'J'),
-        Sign::HideCursor => push_sequence(out, b"?25", b'l'),
-        Sign::ShowCursor => push_sequence(out, b"?25", b'h'),
+        Sign::Up(n) => push_up(out, n),
+        Sign::EraseLine => out.extend_from_slice(b"\x1b[2K"),
+        Sign::EraseBelow => out.extend_from_slice(b"\x1b[J"),
+        Sign::HideCursor => out.extend_from_slice(b"\x1b[?25l"),
+        Sign::ShowCursor => out.extend_from_slice(b"\x1b[?25h"),
         Sign::Open(style) => push_open(out, style),
-        Sign::Reset => push_sequence(out, b"0", b'm'),
+        Sign::Reset => out.extend_from_slice(b"\x1b[0m"),
     }
 }
 
