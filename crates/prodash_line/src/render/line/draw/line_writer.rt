@@ -232,5 +232,12 @@ pub(crate) fn style_of_length(style: Option<Style>, length: usize) -> Option<Sty
 fn push_copies(out: &mut Vec<u8>, byte: u8, count: u16) -> Result<(), AllocError>
     ensures { OnOk result (out.new.items ≡ out.old.items ++ replicate count byte) }
 {
-    out.resize(out.len() + usize::from(count), byte)
+    let block = [byte; 64];
+    let mut left = usize::from(count);
+    while left > 0 {
+        let taken = left.min(block.len());
+        out.extend_from_slice(&block[..taken])?;
+        left -= taken;
+    }
+    Ok(())
 }
