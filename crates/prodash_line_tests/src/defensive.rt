@@ -1,8 +1,12 @@
 //! Frames that erase the rows that they write on.
 use crate::fixtures::Ask::{Hide, Measure, Print, PrintHidden, Quit, Resize, Show};
-use crate::fixtures::{Drawing, Progress, TERMINAL, Task, assert_draws, assert_draws_with};
+use crate::fixtures::{
+    Ask, Drawing, Progress, TERMINAL, Task, assert_draws, assert_draws_with, assert_same, draw,
+};
+use prodash_base::Refusal;
 use prodash_base::unit::Kind;
-use prodash_line::render::line::draw::Options;
+use prodash_line::render::line::draw::{MemoryScreen, Options, State};
+use std::alloc::Global;
 use std::test::Fail;
 
 const DEFENSIVE: Options = Options {
@@ -137,6 +141,26 @@ const KEPT: &[Drawing] = &[
     Drawing((20, 20), &[(Show(&[("\r\n", THREE_OF_TEN)]), Ok(" \r\n 3/10 [==>-------]\n\x1b[1A"))]),
 ];
 
+/// Inputs, and how many bytes the frame of each has, defensive and not: fewer where lines shrink,
+/// and otherwise at most four more, and four for each line.
+#[rattlefmt::skip]
+const SIZES: &[(Ask, (usize, usize))] = &[
+    (Show(&[("a long name", None), ("another long name", None)]), (48, 36)),
+    (Show(&[("a", None), ("b", None)]), (22, 36)),
+    (Show(&[("a long name", None), ("another long name", None)]), (48, 36)),
+    (Print(&[("a", "one")], &[("a", None)]), (26, 36)),
+    (Show(&[TASK]), (53, 45)),
+    (Show(&[]), (13, 45)),
+    (Quit, (4, 5)),
+];
+
+/// Draws a frame, and returns how many bytes it has.
+fn frame_size(alloc: Global, state: &mut State, ask: Ask) -> Result<usize, Refusal> {
+    let mut screen = MemoryScreen::new(alloc, 200)?;
+    draw(alloc, &mut screen, state, ask)?;
+    Ok(screen.bytes().len())
+}
+
 #[test]
 fn defensive_frames_have_exact_bytes(rt: HostRuntime) -> Result<(), Fail> {
     assert_draws_with(&rt, rt.alloc(), DEFENSIVE, FRAMES)
@@ -168,4 +192,17 @@ fn defensive_frames_have_no_control_characters_of_texts(rt: HostRuntime) -> Resu
 #[test]
 fn other_frames_keep_control_characters(rt: HostRuntime) -> Result<(), Fail> {
     assert_draws(&rt, rt.alloc(), KEPT)
+}
+
+#[test]
+fn defensive_frames_have_fewer_bytes_where_lines_shrink(rt: HostRuntime) -> Result<(), Fail> {
+    let alloc = rt.alloc();
+    let mut defensive = State::new(alloc, DEFENSIVE, false);
+    let mut other = State::new(alloc, TERMINAL, false);
+    for (n, (ask, sizes)) in SIZES.iter().enumerate() {
+        let size = frame_size(alloc, &mut defensive, *ask)?;
+        let other_size = frame_size(alloc, &mut other, *ask)?;
+        assert_same(&rt, (size, other_size), *sizes, n);
+    }
+    Ok(())
 }
