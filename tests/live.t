@@ -70,7 +70,7 @@ Without a faulty line the status is 0.
    01:02:03 a one
 
 With `--strict` the first faulty line ends the program: a line that is no event, one with an invalid
-handle, and one that is cut off. The rows are cleared.
+handle, and one that is cut off. The rows are erased.
 
   $ strict() { printf "$1" | prodash-live --strict --stdout --terminal always >frames; }
   $ strict 'add @a 0 a\nset a 1\nset @b 1\n'

@@ -65,7 +65,7 @@ without its ticks and the moments of the run.
   drop 1
   quit NOW
 
-A replay has the messages of the run, and its closing frame clears the rows.
+A replay has the messages of the run, and its closing frame erases the rows.
 
   $ cat said
    beta one

@@ -159,7 +159,7 @@ The rows that frames leave on a page of 40 columns and 4 rows.
   
   
 
-A message takes the place of the row, and the closing frame clears the row below it.
+A message takes the place of the row, and the closing frame erases the row below it.
 
   $ { cat one_task; printf 'info 1 0 one\nset 1 4\ntick 1\nquit 2\n'; } | prodash-replay page 40 4
    task one

@@ -10,7 +10,7 @@ use Rattle.prodash_line.specs.declared.render.line.draw.input.Answer.{Answer}
 use Rattle.prodash_line.specs.declared.render.line.draw.input.Answer.TheVariants as answers
 use Rattle.prodash_line.specs.Renderings.{Rendering, after_result, RendersEach, BreaksExactly, FlushesFrame, WritesAttempts, attempts_of, drawn_frames, FitsPage, ShowsFrames}
 use Rattle.prodash_line.specs.Screens.{ScreenState}
-use Rattle.prodash_line.specs.ClearedPages.{ClearsPagesOf, FitsTerminal, ShowsClearing}
+use Rattle.prodash_line.specs.ErasedPages.{ErasesPagesOf, FitsTerminal, ShowsErasing}
 use Rattle.prodash_line.specs.ControlCharacters.{DrawsNoControlsOf}
 use Rattle.prodash_line.specs.Page.{Canvas}
 use Rattle.prodash_core.specs.declared.tree.slot.Slot.{Slot}
@@ -167,18 +167,18 @@ ShowsOnPages options es rs s s' =
     → ShowsFrames s.bytes s'.bytes
     (drawn_frames (new_session options).renderer (renderings_of options es rs)) above page
 
--- if rows are cleared, every page of the terminal's size shows each frame, whatever it showed before
-abbrev pub EachClears : SessionOptions → List Event → List Reply → ScreenState → ScreenState → Type 0
-EachClears options es rs s s' =
-    RendersEach ClearsPagesOf (new_session options).renderer s (renderings_of options es rs) s'
+-- if rows are erased, every page of the terminal's size shows each frame, whatever it showed before
+abbrev pub EachErases : SessionOptions → List Event → List Reply → ScreenState → ScreenState → Type 0
+EachErases options es rs s s' =
+    RendersEach ErasesPagesOf (new_session options).renderer s (renderings_of options es rs) s'
 
 -- and a page of the terminal, whatever it shows at first, shows the frames one after another
-abbrev pub ClearsOnPages : SessionOptions → List Event → List Reply → ScreenState → ScreenState
+abbrev pub ErasesOnPages : SessionOptions → List Event → List Reply → ScreenState → ScreenState
     → Type 0
-ClearsOnPages options es rs s s' =
+ErasesOnPages options es rs s s' =
     (page : Canvas)
     → FitsTerminal (new_session options).renderer (renderings_of options es rs) s'.broken page
-    → ShowsClearing s.bytes s'.bytes
+    → ShowsErasing s.bytes s'.bytes
     (drawn_frames (new_session options).renderer (renderings_of options es rs)) page
 
 -- no line of a defensive renderer's frames has a control character
@@ -211,12 +211,12 @@ pub record Ran (options : SessionOptions) (es : List Event) (rs : List Reply) (s
   -- a page that everything fits shows after each frame the rows above as they were, then the
   -- messages printed so far, then the lines on screen, then blank rows
   pub page : ShowsOnPages options es rs s s'
-  -- if rows are cleared, every page of the terminal's size shows each frame, whatever it showed
+  -- if rows are erased, every page of the terminal's size shows each frame, whatever it showed
   -- before
-  pub clears : EachClears options es rs s s'
+  pub erases : EachErases options es rs s s'
   -- and such a page, whatever it shows at first, shows after each frame the rows above as they
   -- were, then the messages printed so far, then the lines drawn last, then blank rows
-  pub cleared : ClearsOnPages options es rs s s'
+  pub erased : ErasesOnPages options es rs s s'
   -- no line of a defensive renderer's frames has a control character
   pub controls : EachWithoutControls options es rs s s'
   -- a screen that isn't broken afterwards has flushed all that it took, if it had before

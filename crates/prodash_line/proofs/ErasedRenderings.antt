@@ -1,4 +1,4 @@
--- The frames of a renderer that clears rows, on any page of the terminal's size.
+-- The frames of a renderer that erases rows, on any page of the terminal's size.
 use Rattle.std.proofs.Common.{◌≡◌, ℕ, ◌+◌, ◌-◌, ◌<◌, nat_eq, nat_lt, Bool, true, false, cond, List, [], ◌∷◌, ◌++◌, length, refl, sym, ap, subst, ◌∙◌, length-append, Some, None, arith}
 use Rattle.std.specs.Prelude.{◌&&◌, ◌||◌, not, min}
 use Rattle.std.specs.List.{AllByRecursion}
@@ -12,11 +12,11 @@ use Rattle.prodash_line.specs.declared.render.line.draw.input.Input.TheVariants.
 use Rattle.prodash_line.specs.declared.render.line.draw.action.Action.{Action}
 use Rattle.prodash_line.specs.declared.render.line.draw.action.Action.TheVariants.{Leave, Redraw, Erase, Close}
 use Rattle.prodash_line.specs.declared.render.line.draw.layout.Layout.{Layout}
-use Rattle.prodash_line.specs.declared.render.line.draw.layout.Layout.TheVariants.{Overwriting, Clearing}
+use Rattle.prodash_line.specs.declared.render.line.draw.layout.Layout.TheVariants.{Overwriting, Erasing}
 use Rattle.prodash_line.specs.declared.render.line.page.sign.Sign.{Sign}
 use Rattle.prodash_line.specs.declared.render.line.page.sign.Sign.TheVariants.{CarriageReturn, EraseLine, ShowCursor}
 use Rattle.prodash_line.specs.Lines.{Line}
-use Rattle.prodash_line.specs.DrawnLines.{as_drawn, clears, layout_of}
+use Rattle.prodash_line.specs.DrawnLines.{as_drawn, erases_rows, layout_of}
 use Rattle.prodash_line.specs.ProgressRows.{DrawnRow, drawn_row_line, row_lines, fitting_count, fitting, more_line, more_lines}
 use Rattle.prodash_line.specs.MessageLines.{message_lines}
 use Rattle.prodash_line.specs.Frames.{body_lines}
@@ -24,13 +24,13 @@ use Rattle.prodash_line.specs.Fits.{IsPlain, HasPlainLines, LinesFit, BodyFits}
 use Rattle.prodash_line.specs.Renderer.{Renderer, Drawing, has_messages, closes_at, is_drawn, is_cursor_hidden, ending_of, drawn_rows, drawn_lines, latest_rows, remember, moment_of, drawing_at, action_at, printed_at, body_of, frame_at}
 use Rattle.prodash_line.specs.Screens.{ScreenState}
 use Rattle.prodash_line.specs.Renderings.{Rendering, RendersEach, RendersAll}
-use Rattle.prodash_line.specs.ClearedPages.{ClearsPages, ClearsPagesOf}
+use Rattle.prodash_line.specs.ErasedPages.{ErasesPages, ErasesPagesOf}
 use Rattle.prodash_line.proofs.FittingFrames.{lines_fit, body_fits, frame_cut}
 use Rattle.prodash_line.proofs.OrderlyFrames.{orderly_at}
 use Rattle.prodash_line.proofs.ProperFrames.{frame_proper}
 use Rattle.prodash_line.proofs.UnseenSigns.{IsUnseen}
 use Rattle.prodash_line.proofs.Renderings.{each}
-use Rattle.prodash_line.proofs.ClearedPages.{EndsUnseen, NoneLeft, ClearsRows, shows_frame}
+use Rattle.prodash_line.proofs.ErasedPages.{EndsUnseen, NoneLeft, ErasesRows, shows_frame}
 
 first_true : (a b : Bool) → (a && b) ≡ true → a ≡ true
 first_true true b e = refl
@@ -50,7 +50,7 @@ few_by : (n height count : ℕ) → count ≡ min (cond (nat_lt n height) n (hei
     → count + cond (nat_eq (n - count) 0 || nat_lt height 2) 0 1 < height
 few_by n height count e i = grind (arith, nat_tests)
 
-few_lines : (options : Options) (layout : Layout) (midpoint : ℕ) (rows : List DrawnRow) → layout ≡ Clearing options.terminal_dimensions.1 → 0 < options.terminal_dimensions.1
+few_lines : (options : Options) (layout : Layout) (midpoint : ℕ) (rows : List DrawnRow) → layout ≡ Erasing options.terminal_dimensions.1 → 0 < options.terminal_dimensions.1
     → length (row_lines options midpoint (fitting layout rows) ++ more_lines options (length rows - length (fitting layout rows))) < options.terminal_dimensions.1
 few_lines options layout midpoint rows e i =
     let height = options.terminal_dimensions.1 in
@@ -65,17 +65,17 @@ few_lines options layout midpoint rows e i =
     let few : length fit + cond none 0 1 < height = few_by (length rows) height (length fit) taken i in
     subst (λ (n : ℕ). n < height) (sym (size ∙ ap (λ (n : ℕ). n + length (more_lines options others)) mapped ∙ ap (λ (n : ℕ). length fit + n) more)) few
 
-clearing_layout : (options : Options) → clears options ≡ true → layout_of options ≡ Clearing options.terminal_dimensions.1
-clearing_layout options e = ap (λ (b : Bool). cond b (Clearing options.terminal_dimensions.1) Overwriting) e
+erasing_layout : (options : Options) → erases_rows options ≡ true → layout_of options ≡ Erasing options.terminal_dimensions.1
+erasing_layout options e = ap (λ (b : Bool). cond b (Erasing options.terminal_dimensions.1) Overwriting) e
 
-pub few_drawn : (r : Renderer) (at : ℕ) (rows : List PathRow) → clears r.options ≡ true → 0 < r.options.terminal_dimensions.1 → length (drawn_lines r at rows) < r.options.terminal_dimensions.1
-few_drawn r at rows e i = few_lines r.options (layout_of r.options) r.midpoint (drawn_rows r at rows) (clearing_layout r.options e) i
+pub few_drawn : (r : Renderer) (at : ℕ) (rows : List PathRow) → erases_rows r.options ≡ true → 0 < r.options.terminal_dimensions.1 → length (drawn_lines r at rows) < r.options.terminal_dimensions.1
+few_drawn r at rows e i = few_lines r.options (layout_of r.options) r.midpoint (drawn_rows r at rows) (erasing_layout r.options e) i
 
-clears_still : (r : Renderer) (input : Input) → clears (remember r input).options ≡ clears r.options
-clears_still r (Tick at show (Some seen)) = refl
-clears_still r (Tick at show None) = refl
-clears_still r (Resize at show width rows) = refl
-clears_still r (Quit at) = refl
+erases_still : (r : Renderer) (input : Input) → erases_rows (remember r input).options ≡ erases_rows r.options
+erases_still r (Tick at show (Some seen)) = refl
+erases_still r (Tick at show None) = refl
+erases_still r (Resize at show width rows) = refl
+erases_still r (Quit at) = refl
 
 -- ---- the lines fit
 
@@ -112,9 +112,9 @@ left_by Redraw drawing ending messages h = tt
 left_by Erase drawing ending messages h = tt
 left_by Close drawing ending messages h = tt
 
-erases : (closes drawn clearing printed : Bool) → clearing ≡ true → printed ≡ true → cond closes Close (cond drawn Redraw (cond (clearing && printed) Erase Leave)) ≡ Leave → ⊥
-erases true drawn clearing printed c p e = cc
-erases false true clearing printed c p e = cc
+erases : (closes drawn erasing printed : Bool) → erasing ≡ true → printed ≡ true → cond closes Close (cond drawn Redraw (cond (erasing && printed) Erase Leave)) ≡ Leave → ⊥
+erases true drawn erasing printed c p e = cc
+erases false true erasing printed c p e = cc
 erases false false true true c p e = cc
 erases false false true false c p e = cc
 erases false false false printed c p e = cc
@@ -122,14 +122,14 @@ erases false false false printed c p e = cc
 counted : (n : ℕ) → 0 < n → not (nat_eq n 0) ≡ true
 counted n h = grind (arith, nat_tests)
 
-none_seen : (r : Renderer) (show : Bool) (rows : List PathRow) (pushed at : ℕ) (messages : List Message) → clears r.options ≡ true
+none_seen : (r : Renderer) (show : Bool) (rows : List PathRow) (pushed at : ℕ) (messages : List Message) → erases_rows r.options ≡ true
     → action_at r (Tick at show (Some (rows, messages, pushed))) ≡ Leave → message_lines r.options r.origin_widths messages ≡ []
 none_seen r show rows pushed at [] c e = refl
 none_seen r show rows pushed at (m ∷ messages) c e =
     let printed = has_messages (m ∷ messages) in
-    absurd (erases (closes_at r rows) (is_drawn r show printed rows) (clears r.options) printed c (counted (length (m ∷ messages)) (omega arith)) e)
+    absurd (erases (closes_at r rows) (is_drawn r show printed rows) (erases_rows r.options) printed c (counted (length (m ∷ messages)) (omega arith)) e)
 
-none_printed : (r : Renderer) (input : Input) → clears r.options ≡ true → action_at r input ≡ Leave → printed_at r input ≡ []
+none_printed : (r : Renderer) (input : Input) → erases_rows r.options ≡ true → action_at r input ≡ Leave → printed_at r input ≡ []
 none_printed r (Tick at show (Some seen)) c e = none_seen r show seen.0 seen.2 at seen.1 c e
 none_printed r (Tick at show None) c e = refl
 none_printed r (Resize at show width rows) c e = refl
@@ -137,18 +137,18 @@ none_printed r (Quit at) c e = refl
 
 -- ---- the frame of an input
 
-pub clears_rows : (r : Renderer) (input : Input) → clears r.options ≡ true → HasPlainLines (frame_at r input) → 0 < (remember r input).options.terminal_dimensions.1
-    → ClearsRows (remember r input).options.terminal_dimensions.0 (remember r input).options.terminal_dimensions.1 (frame_at r input)
-clears_rows r input c plain high =
+pub frame_erases : (r : Renderer) (input : Input) → erases_rows r.options ≡ true → HasPlainLines (frame_at r input) → 0 < (remember r input).options.terminal_dimensions.1
+    → ErasesRows (remember r input).options.terminal_dimensions.0 (remember r input).options.terminal_dimensions.1 (frame_at r input)
+frame_erases r input c plain high =
     let r' = remember r input in
     let f = frame_at r input in
     let drawing = drawing_at r input in
     let size = r'.options.terminal_dimensions in
-    let c' : clears r'.options ≡ true = clears_still r input ∙ c in
+    let c' : erases_rows r'.options ≡ true = erases_still r input ∙ c in
     let within = frame_cut r input (second_true r.options.defensive r.options.output_is_terminal c) in
     let few = few_drawn r' (moment_of input) (latest_rows r'.last_rows) c' high in
     record {
-      layout = clearing_layout r'.options c';
+      layout = erasing_layout r'.options c';
       opening = (orderly_at r input).opening;
       messages = lines_fit true size.0 f.messages (plain_fit size.0 f.messages plain.messages) within.messages;
       body = body_fits true size.0 size.1 f.body (body_fit (action_at r input) drawing (ending_of r) size.0 size.1 few high plain.drawn) within.body;
@@ -156,15 +156,15 @@ clears_rows r input c plain high =
       left = left_by (action_at r input) drawing (ending_of r) f.messages (none_printed r input c);
     }
 
-pub clears_pages : (r : Renderer) (input : Input) → ClearsPages r input
-clears_pages r input c plain = record {
+pub erases_pages : (r : Renderer) (input : Input) → ErasesPages r input
+erases_pages r input c plain = record {
   proper = frame_proper r.widths (frame_at r input) plain (orderly_at r input);
   shows = λ page terminal.
       let size = (remember r input).options.terminal_dimensions in
       let high : 0 < size.1 = omega (arith, terminal.row, terminal.window, terminal.height) in
-      shows_frame size page r.widths (frame_at r input) terminal (clears_rows r input c plain high);
+      shows_frame size page r.widths (frame_at r input) terminal (frame_erases r input c plain high);
 }
 
 -- each of a list of inputs
-pub clears_each : (r : Renderer) (s : ScreenState) (xs : List Rendering) (s' : ScreenState) → RendersAll r s xs s' → RendersEach ClearsPagesOf r s xs s'
-clears_each = each ClearsPagesOf (λ r s x s' h. clears_pages r x.input)
+pub erases_each : (r : Renderer) (s : ScreenState) (xs : List Rendering) (s' : ScreenState) → RendersAll r s xs s' → RendersEach ErasesPagesOf r s xs s'
+erases_each = each ErasesPagesOf (λ r s x s' h. erases_pages r x.input)

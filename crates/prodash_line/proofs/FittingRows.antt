@@ -7,7 +7,7 @@ use Rattle.prodash_base.specs.Trackers.{Tracker}
 use Rattle.prodash_base.specs.declared.progress.Row.{Row}
 use Rattle.prodash_line.specs.declared.render.line.draw.input.Options.{Options}
 use Rattle.prodash_line.specs.declared.render.line.draw.layout.Layout.{Layout}
-use Rattle.prodash_line.specs.declared.render.line.draw.layout.Layout.TheVariants.{Overwriting, Clearing}
+use Rattle.prodash_line.specs.declared.render.line.draw.layout.Layout.TheVariants.{Overwriting, Erasing}
 use Rattle.prodash_line.specs.Lines.{Line}
 use Rattle.prodash_line.specs.Frames.{covered}
 use Rattle.prodash_line.specs.ProgressRows.{DrawnRow, is_row_drawn, filtered, fitting_count, fitting, more_lines}
@@ -73,7 +73,7 @@ fit_all layout levels rows shown others e h =
 more_over : (layout : Layout) (widths : List ℕ) (n : ℕ) (lines : List Line) → (layout ≡ Overwriting → lines ≡ [])
     → lines_bytes layout (drop n (covered layout widths)) lines ≡ lines_bytes layout [] lines
 more_over Overwriting widths n lines h = ap (lines_bytes Overwriting (drop n widths)) (h refl) ∙ ap (lines_bytes Overwriting []) (sym (h refl))
-more_over (Clearing height) widths n lines h = ap (λ (w : List ℕ). lines_bytes (Clearing height) w lines) (drop_all n [] (omega arith))
+more_over (Erasing height) widths n lines h = ap (λ (w : List ℕ). lines_bytes (Erasing height) w lines) (drop_all n [] (omega arith))
 
 -- the bytes of both
 pub both_written : (layout : Layout) (options : Options) (levels : Option (ℕ × ℕ)) (widths : List ℕ) (rows shown others : List Row) (lines : List Line) (before first all : List ℕ)

@@ -19,9 +19,9 @@ pub mod Decimals
 pub mod ErasedRows
 pub mod FittingRows
 pub mod FramesOnPage
-pub mod ClearedPages
-pub mod ClearedRenderings
-pub mod ClearedPrefixes
+pub mod ErasedPages
+pub mod ErasedRenderings
+pub mod ErasedPrefixes
 pub mod FittingFrames
 pub mod Lists
 pub mod OrderlyFrames

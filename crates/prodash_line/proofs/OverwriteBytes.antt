@@ -7,7 +7,7 @@ use Rattle.prodash_base.specs.declared.messages.Message.{Message}
 use Rattle.prodash_line.specs.declared.render.line.page.sign.Sign.{Sign}
 use Rattle.prodash_line.specs.declared.render.line.page.sign.Sign.TheVariants.{LineFeed, EraseLine}
 use Rattle.prodash_line.specs.declared.render.line.draw.layout.Layout.{Layout}
-use Rattle.prodash_line.specs.declared.render.line.draw.layout.Layout.TheVariants.{Overwriting, Clearing}
+use Rattle.prodash_line.specs.declared.render.line.draw.layout.Layout.TheVariants.{Overwriting, Erasing}
 use Rattle.prodash_line.specs.Signs.{spelling_of, spelling}
 use Rattle.prodash_line.specs.Lines.{Line, spaces, columns_of}
 use Rattle.prodash_line.specs.Frames.{Frame, line_signs, piece_signs, row_start, covered, overwrite_line, first_width, lines_over, overwrite, cursor_up, erased_rows, redraw, body_signs, frame_start, frame_signs}
@@ -15,7 +15,7 @@ use Rattle.prodash_line.specs.declared.render.line.draw.input.Options.{Options}
 use Rattle.prodash_line.specs.MessageLines.{drawn_message_line, message_lines, origin_width, widths_of_origins, greatest_width}
 use Rattle.prodash_line.specs.Writing.{line_bytes}
 use Rattle.prodash_line.specs.OverwriteBytes.{row_end, overwrite_line_bytes, lines_bytes, blank_bytes}
-use Rattle.prodash_line.specs.FrameWriting.{action_start, clearing_end}
+use Rattle.prodash_line.specs.FrameWriting.{action_start, erasing_end}
 use Rattle.prodash_line.specs.Renderer.{Drawing, body_of}
 use Rattle.prodash_line.specs.declared.render.line.draw.action.Action.{Action}
 use Rattle.prodash_line.specs.declared.render.line.draw.action.Action.TheVariants.{Leave, Redraw, Erase, Close}
@@ -100,14 +100,14 @@ redrawn widths lines count most before left a b d n l m ea eb ed =
     ∙ ap (λ t. before ++ t) (sym (redraw_bytes widths lines))
 
 -- and on rows that are erased
-pub redrawn_clearing : (height : ℕ) (widths : List ℕ) (lines : List Line) (count : ℕ) (before a d : List ℕ) → length lines ≡ count
-    → a ≡ before ++ lines_bytes (Clearing height) [] lines → d ≡ a ++ spelling (clearing_end height (length widths) count) → d ≡ before ++ spelling (redraw (Clearing height) widths lines)
-redrawn_clearing height widths lines count before a d n ea ed =
-    let end = clearing_end height (length widths) (length lines) in
-    ed ∙ ap (λ k. a ++ spelling (clearing_end height (length widths) k)) (sym n)
-    ∙ ap (λ t. t ++ spelling end) (ea ∙ ap (λ t. before ++ t) (overwritten (Clearing height) [] lines))
-    ∙ append_assoc before (spelling (lines_over (Clearing height) [] lines)) (spelling end)
-    ∙ ap (λ t. before ++ t) (sym (spelling-append (lines_over (Clearing height) [] lines) end))
+pub redrawn_erasing : (height : ℕ) (widths : List ℕ) (lines : List Line) (count : ℕ) (before a d : List ℕ) → length lines ≡ count
+    → a ≡ before ++ lines_bytes (Erasing height) [] lines → d ≡ a ++ spelling (erasing_end height (length widths) count) → d ≡ before ++ spelling (redraw (Erasing height) widths lines)
+redrawn_erasing height widths lines count before a d n ea ed =
+    let end = erasing_end height (length widths) (length lines) in
+    ed ∙ ap (λ k. a ++ spelling (erasing_end height (length widths) k)) (sym n)
+    ∙ ap (λ t. t ++ spelling end) (ea ∙ ap (λ t. before ++ t) (overwritten (Erasing height) [] lines))
+    ∙ append_assoc before (spelling (lines_over (Erasing height) [] lines)) (spelling end)
+    ∙ ap (λ t. before ++ t) (sym (spelling-append (lines_over (Erasing height) [] lines) end))
 
 -- one erased row more
 pub erased_more : (n : ℕ) (old erased new total : List ℕ) → erased ≡ old ++ spelling_of EraseLine → new ≡ erased ++ spelling_of LineFeed
@@ -171,10 +171,10 @@ length-message_lines options widths (m ∷ messages) = ap suc (length-message_li
 -- where the frame of an action is to erase rows, it begins as its body says
 pub action_starts : (layout : Layout) (action : Action) (drawing : Drawing) (ending : List Sign) → action_start layout action ≡ frame_start layout (body_of action drawing ending)
 action_starts Overwriting action drawing ending = refl
-action_starts (Clearing height) Leave drawing ending = refl
-action_starts (Clearing height) Redraw drawing ending = refl
-action_starts (Clearing height) Erase drawing ending = refl
-action_starts (Clearing height) Close drawing ending = refl
+action_starts (Erasing height) Leave drawing ending = refl
+action_starts (Erasing height) Redraw drawing ending = refl
+action_starts (Erasing height) Erase drawing ending = refl
+action_starts (Erasing height) Close drawing ending = refl
 
 -- what it begins with, the messages over the lines on screen, and the body over those that are left
 pub frame_bytes_of : (f : Frame) (start : List Sign) (widths left o a b : List ℕ) (count : ℕ) → o ≡ spelling (f.opening ++ start) → start ≡ frame_start f.layout f.body

@@ -8,7 +8,7 @@ use Rattle.unicode_width.specs.Width.{char_width}
 use Rattle.prodash_line.specs.declared.render.line.page.sign.Sign.{Sign}
 use Rattle.prodash_line.specs.declared.render.line.page.sign.Sign.TheVariants.{Char, LineFeed, CarriageReturn, EraseLine, EraseBelow, Reset}
 use Rattle.prodash_line.specs.declared.render.line.draw.layout.Layout.{Layout}
-use Rattle.prodash_line.specs.declared.render.line.draw.layout.Layout.TheVariants.{Overwriting, Clearing}
+use Rattle.prodash_line.specs.declared.render.line.draw.layout.Layout.TheVariants.{Overwriting, Erasing}
 use Rattle.prodash_line.specs.declared.render.line.page.style.Style.{Style}
 use Rattle.prodash_line.specs.Signs.{IsProper}
 use Rattle.prodash_line.specs.Lines.{Line, spaces, columns_of}
@@ -59,7 +59,7 @@ overwrite_line_proper width line h codes = AllByRecursion-append IsProper (line_
 -- of what a row begins with
 row_start_proper : (layout : Layout) → AreProper (row_start layout)
 row_start_proper Overwriting = tt
-row_start_proper (Clearing height) = (tt, tt)
+row_start_proper (Erasing height) = (tt, tt)
 
 -- of lines
 lines_proper : (layout : Layout) (widths : List ℕ) (lines : List Line) → AllByRecursion IsPlain lines → HaveCodes lines → AreProper (lines_over layout widths lines)
@@ -86,9 +86,9 @@ redraw_proper Overwriting widths lines h codes =
     (lines_proper Overwriting widths _ (AllByRecursion-append IsPlain lines _ h (AllByRecursion-replicate IsPlain n [] (record { pieces = tt; columns = refl })))
     (AllByRecursion-append HasCodes lines _ codes (AllByRecursion-replicate HasCodes n [] tt)))
     (cursor_up_proper (max (length lines) (length widths)))
-redraw_proper (Clearing height) widths lines h codes =
+redraw_proper (Erasing height) widths lines h codes =
     let rest = left_over height (length widths) (length lines) in
-    AllByRecursion-append IsProper (lines_over (Clearing height) [] lines) _ (lines_proper (Clearing height) [] lines h codes)
+    AllByRecursion-append IsProper (lines_over (Erasing height) [] lines) _ (lines_proper (Erasing height) [] lines h codes)
     (AllByRecursion-append IsProper (erased_rows rest) (EraseBelow ∷ cursor_up (length lines + rest)) (erased_proper rest) (tt, cursor_up_proper (length lines + rest)))
 
 -- of signs that end a frame
@@ -107,9 +107,9 @@ body_proper layout widths (Body.Closes ending) h o =
 -- of what a frame begins with
 start_proper : (layout : Layout) (b : Body) → AreProper (frame_start layout b)
 start_proper Overwriting b = tt
-start_proper (Clearing height) Body.Unchanged = tt
-start_proper (Clearing height) (Body.Draws lines) = (tt, tt)
-start_proper (Clearing height) (Body.Closes ending) = (tt, tt)
+start_proper (Erasing height) Body.Unchanged = tt
+start_proper (Erasing height) (Body.Draws lines) = (tt, tt)
+start_proper (Erasing height) (Body.Closes ending) = (tt, tt)
 
 -- of a frame
 pub frame_proper : (widths : List ℕ) (f : Frame) → HasPlainLines f → IsOrderly f → AreProper (frame_signs widths f)

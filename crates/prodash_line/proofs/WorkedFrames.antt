@@ -24,7 +24,7 @@ use Rattle.prodash_line.specs.declared.render.line.page.style.Color.TheVariants.
 use Rattle.prodash_line.specs.declared.render.line.page.style.Color.{Color}
 use Rattle.prodash_line.specs.declared.render.line.page.style.Style.{Style}
 use Rattle.prodash_line.specs.ProgressRows.{bar, fitting_count, more_line, more_lines}
-use Rattle.prodash_line.specs.declared.render.line.draw.layout.Layout.TheVariants.{Clearing}
+use Rattle.prodash_line.specs.declared.render.line.draw.layout.Layout.TheVariants.{Erasing}
 
 -- a task below the root, without progress
 abbrev row : List ℕ → PathRow
@@ -168,7 +168,7 @@ fits = record {
   );
 }
 
--- ---- frames that clear their rows
+-- ---- frames that erase rows
 
 abbrev defensive : Renderer
 defensive = new_renderer (record options { defensive = true }) false
@@ -177,9 +177,9 @@ abbrev task_row : Input
 task_row = tick 0 true (row (codes "task") ∷ []) []
 
 -- at the beginning of the row, which is erased; nothing is left below it
-pub clears_row : signs_at defensive task_row ≡ CarriageReturn ∷ EraseLine ∷ map Char (codes " task") ++ LineFeed ∷ EraseBelow ∷ Up 1 ∷ []
+pub erases_row : signs_at defensive task_row ≡ CarriageReturn ∷ EraseLine ∷ map Char (codes " task") ++ LineFeed ∷ EraseBelow ∷ Up 1 ∷ []
 unfolding chars str_width step past_emoji
-clears_row = refl
+erases_row = refl
 
 -- a message, and the rows again though they haven't changed; its row is left over
 pub draws_again : signs_at (next defensive task_row) (tick 1 true (row (codes "task") ∷ []) (message_of 0 Info (codes "b") (codes "x") ∷ []))
@@ -206,13 +206,13 @@ unfolding chars str_width step past_emoji
 leaves_unchanged = refl
 
 -- in a window of four rows three rows fit; of four there are two, and the line that counts the others; in one of a single row there is none
-pub three_fit : fitting_count (Clearing 4) 3 ≡ 3
+pub three_fit : fitting_count (Erasing 4) 3 ≡ 3
 three_fit = refl
 
-pub two_of_four : fitting_count (Clearing 4) 4 ≡ 2
+pub two_of_four : fitting_count (Erasing 4) 4 ≡ 2
 two_of_four = refl
 
-pub none_fits : fitting_count (Clearing 1) 1 ≡ 0
+pub none_fits : fitting_count (Erasing 1) 1 ≡ 0
 none_fits = refl
 
 pub others : line_text (more_line 2) ≡ 32 ∷ 8230 ∷ codes " and 2 more"
@@ -226,15 +226,15 @@ pub no_row_for_others : more_lines (record options { terminal_dimensions = (40, 
 no_row_for_others = refl
 
 -- a row that is left over is erased, and no row is erased at the end
-pub closes_cleared : signs_at (next defensive task_row) (Quit 1) ≡ CarriageReturn ∷ EraseLine ∷ LineFeed ∷ EraseBelow ∷ Up 1 ∷ []
+pub closes_erased : signs_at (next defensive task_row) (Quit 1) ≡ CarriageReturn ∷ EraseLine ∷ LineFeed ∷ EraseBelow ∷ Up 1 ∷ []
 unfolding chars str_width step past_emoji
-closes_cleared = refl
+closes_erased = refl
 
--- without a terminal nothing is cleared
-pub clears_terminals : signs_at (new_renderer (record options { defensive = true; output_is_terminal = false }) false) (tick 0 true [] (message_of 0 Info (codes "b") (codes "x") ∷ []))
+-- without a terminal nothing is erased
+pub erases_terminals : signs_at (new_renderer (record options { defensive = true; output_is_terminal = false }) false) (tick 0 true [] (message_of 0 Info (codes "b") (codes "x") ∷ []))
     ≡ map Char (codes " b x") ++ LineFeed ∷ []
 unfolding chars str_width step past_emoji
-clears_terminals = refl
+erases_terminals = refl
 
 -- ---- bars
 

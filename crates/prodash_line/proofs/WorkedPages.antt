@@ -2,13 +2,13 @@
 use Rattle.std.proofs.Common.{◌≡◌, true, false, None, List, [], ◌∷◌, ap, refl, arith}
 use Rattle.unicode_width.specs.Width.{str_width, step, past_emoji}
 use Rattle.prodash_line.specs.declared.render.line.page.sign.Sign.TheVariants.{Char, LineFeed, Up, EraseLine, HideCursor, ShowCursor, Open, Reset}
-use Rattle.prodash_line.specs.declared.render.line.draw.layout.Layout.TheVariants.{Overwriting, Clearing}
+use Rattle.prodash_line.specs.declared.render.line.draw.layout.Layout.TheVariants.{Overwriting, Erasing}
 use Rattle.prodash_line.specs.declared.render.line.draw.layout.Layout.{Layout}
 use Rattle.prodash_line.specs.Lines.{Line, piece}
 use Rattle.prodash_line.specs.Frames.{Draws, Frame, frame_signs, signs_of, all_lines_after}
 use Rattle.prodash_line.specs.Page.{Canvas, blank_page, page_after}
 use Rattle.prodash_line.specs.Shows.{Shows}
-use Rattle.prodash_line.specs.ClearedPages.{IsTerminal}
+use Rattle.prodash_line.specs.ErasedPages.{IsTerminal}
 
 -- a page of one cell: `a`, `b`, a line feed, and up, which stops at the window's top
 pub one_cell : page_after (Char 97 ∷ Char 98 ∷ LineFeed ∷ Up 5 ∷ []) (blank_page 1 1)
@@ -53,7 +53,7 @@ as_many_rows = refl
 pub shows_fewer_rows : Shows [] (all_lines_after [] two) (page_after (signs_of [] two) (blank_page 1 1)) → ⊥
 shows_fewer_rows h = omega (arith, h.row, ap (λ p. p.row) as_many_rows)
 
--- ---- frames that clear their rows
+-- ---- frames that erase rows
 
 -- a page full of `x`, with the cursor inside its second row
 abbrev filled : Canvas
@@ -67,13 +67,13 @@ abbrev line_in : Layout → Frame
 line_in layout = record { layout = layout; opening = []; messages = []; body = Draws ((piece (97 ∷ []) ∷ []) ∷ []) }
 
 -- it begins at column 0, and all is blank besides its line
-pub cleared : page_after (frame_signs (1 ∷ 1 ∷ []) (line_in (Clearing 3))) filled
+pub line_erased : page_after (frame_signs (1 ∷ 1 ∷ []) (line_in (Erasing 3))) filled
     ≡ record { columns = 3; height = 3; rows = (120 ∷ 120 ∷ 120 ∷ []) ∷ (97 ∷ 32 ∷ 32 ∷ []) ∷ (32 ∷ 32 ∷ 32 ∷ []) ∷ (32 ∷ 32 ∷ 32 ∷ []) ∷ []; row = 1; column = 0 }
 unfolding str_width step past_emoji
-cleared = refl
+line_erased = refl
 
 -- one that overwrites leaves what was there
-pub not_cleared : page_after (frame_signs (1 ∷ 1 ∷ []) (line_in Overwriting)) filled
+pub not_erased : page_after (frame_signs (1 ∷ 1 ∷ []) (line_in Overwriting)) filled
     ≡ record { columns = 3; height = 3; rows = (120 ∷ 120 ∷ 120 ∷ []) ∷ (120 ∷ 120 ∷ 97 ∷ []) ∷ (32 ∷ 120 ∷ 120 ∷ []) ∷ (32 ∷ 32 ∷ 32 ∷ []) ∷ []; row = 1; column = 0 }
 unfolding str_width step past_emoji
-not_cleared = refl
+not_erased = refl

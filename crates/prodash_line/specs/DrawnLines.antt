@@ -6,7 +6,7 @@ use Rattle.std.specs.Bool.{then_some}
 use Rattle.prodash_line.specs.declared.render.line.draw.input.Options.{Options}
 use Rattle.prodash_line.specs.Lines.{Line, cut, in_color}
 use Rattle.prodash_line.specs.declared.render.line.draw.layout.Layout.{Layout}
-use Rattle.prodash_line.specs.declared.render.line.draw.layout.Layout.TheVariants.{Overwriting, Clearing}
+use Rattle.prodash_line.specs.declared.render.line.draw.layout.Layout.TheVariants.{Overwriting, Erasing}
 
 -- a character of a text in a defensive frame: U+FFFD in place of a control character
 abbrev pub without_control : ℕ → ℕ
@@ -25,9 +25,9 @@ abbrev pub as_drawn : Options → Line → Line
 as_drawn options line = cut (limit_of options) (in_color options.colored line)
 
 -- are the rows that a frame writes on erased first? on a terminal, if the renderer is defensive
-abbrev pub clears : Options → Bool
-clears options = options.defensive && options.output_is_terminal
+abbrev pub erases_rows : Options → Bool
+erases_rows options = options.defensive && options.output_is_terminal
 
 -- how the frames of a renderer with these options are laid out
 abbrev pub layout_of : Options → Layout
-layout_of options = if clears options then Clearing options.terminal_dimensions.1 else Overwriting
+layout_of options = if erases_rows options then Erasing options.terminal_dimensions.1 else Overwriting

@@ -1,11 +1,11 @@
--- What a page shows after a frame that clears the rows that it writes on, whatever the page showed before.
+-- What a page shows after a frame that erases the rows that it writes on, whatever the page showed before.
 use Rattle.std.specs.Prelude.{◌≡◌, ◌<◌, ◌≤◌, ◌^◌, ◌⊎◌, ℕ, ◌+◌, Bool, true, false, List, [], ◌++◌, length, map, take, replicate}
 use Rattle.std.specs.List.{AllByRecursion}
 use Rattle.prodash_line.specs.declared.render.line.draw.input.Input.{Input}
 use Rattle.prodash_line.specs.declared.render.line.page.sign.Sign.{Sign}
 use Rattle.prodash_line.specs.Signs.{spelling}
 use Rattle.prodash_line.specs.Lines.{Line}
-use Rattle.prodash_line.specs.DrawnLines.{clears}
+use Rattle.prodash_line.specs.DrawnLines.{erases_rows}
 use Rattle.prodash_line.specs.Frames.{Body, Unchanged, Draws, Closes, Frame, frame_signs, signs_of, all_lines_after, printed_lines}
 use Rattle.prodash_line.specs.Page.{Canvas, blank, page_after}
 use Rattle.prodash_line.specs.Shows.{cells_of}
@@ -25,7 +25,7 @@ pub record IsTerminal (size : ℕ × ℕ) (page : Canvas) : Type 0 where
 
 -- The rows above the cursor's are as they were. From the cursor's on are the messages, then these lines, then blank rows, and there are no
 -- fewer rows than before. The cursor is at the beginning of the row below the messages, inside the window.
-pub record ShowsCleared (page : Canvas) (messages lines : List Line) (after : Canvas) : Type 0 where
+pub record ShowsErased (page : Canvas) (messages lines : List Line) (after : Canvas) : Type 0 where
   pub blanks : ℕ
   pub rows : after.rows ≡ take page.row page.rows ++ (map (cells_of page.columns) (messages ++ lines) ++ replicate blanks (blank page.columns))
   pub kept : length page.rows ≤ length after.rows
@@ -37,33 +37,33 @@ pub record ShowsCleared (page : Canvas) (messages lines : List Line) (after : Ca
 -- lines that it draws.
 abbrev pub ShowsBody : Canvas → List Line → Body → Canvas → Type 0
 ShowsBody page messages Unchanged after = (messages ≡ []) × (after ≡ page)
-ShowsBody page messages (Draws lines) after = ShowsCleared page messages lines after
-ShowsBody page messages (Closes ending) after = ShowsCleared page messages [] after
+ShowsBody page messages (Draws lines) after = ShowsErased page messages lines after
+ShowsBody page messages (Closes ending) after = ShowsErased page messages [] after
 
 -- The signs of a frame are proper, so that reading their bytes gives them; and every page of a terminal of this size shows the frame after them.
 pub record ShowsAnywhere (size : ℕ × ℕ) (f : Frame) (signs : List Sign) : Type 0 where
   pub proper : AreProper signs
   pub shows : (page : Canvas) → IsTerminal size page → ShowsBody page f.messages f.body (page_after signs page)
 
--- if the renderer clears rows, and the lines of its frame of an input are plain, every page of the terminal's size shows it, whatever it showed
+-- if the renderer erases rows, and the lines of its frame of an input are plain, every page of the terminal's size shows it, whatever it showed
 -- before
-abbrev pub ClearsPages : Renderer → Input → Type 0
-ClearsPages r input =
+abbrev pub ErasesPages : Renderer → Input → Type 0
+ErasesPages r input =
     let f = frame_at r input in
-    clears r.options ≡ true → HasPlainLines f → ShowsAnywhere (remember r input).options.terminal_dimensions f (frame_signs r.widths f)
+    erases_rows r.options ≡ true → HasPlainLines f → ShowsAnywhere (remember r input).options.terminal_dimensions f (frame_signs r.widths f)
 
 -- so does each of the inputs that are rendered one after another
-abbrev pub ClearsPagesOf : Renderer → ScreenState → Rendering → ScreenState → Type 0
-ClearsPagesOf r s x s' = ClearsPages r x.input
+abbrev pub ErasesPagesOf : Renderer → ScreenState → Rendering → ScreenState → Type 0
+ErasesPagesOf r s x s' = ErasesPages r x.input
 
 -- what a page shows since it was as given: it is as it was, or it shows these messages and lines
 abbrev pub ShowsSince : Canvas → List Line → List Line → Canvas → Type 0
-ShowsSince page messages lines after = ((messages ≡ []) × (lines ≡ []) × (after ≡ page)) ⊎ ShowsCleared page messages lines after
+ShowsSince page messages lines after = ((messages ≡ []) × (lines ≡ []) × (after ≡ page)) ⊎ ShowsErased page messages lines after
 
--- The renderer clears rows; the page is that of its terminal, which no input resizes; the lines of each frame are plain; and the screen isn't
+-- The renderer erases rows; the page is that of its terminal, which no input resizes; the lines of each frame are plain; and the screen isn't
 -- broken afterwards.
 pub record FitsTerminal (r : Renderer) (xs : List Rendering) (broken : Bool) (page : Canvas) : Type 0 where
-  pub clearing : clears r.options ≡ true
+  pub erasing : erases_rows r.options ≡ true
   pub terminal : IsTerminal r.options.terminal_dimensions page
   pub sizes : AllByRecursion (λ x. KeepsSize page.columns page.height x.input) xs
   pub plain : AllByRecursion HasPlainLines (drawn_frames r xs)
@@ -72,7 +72,7 @@ pub record FitsTerminal (r : Renderer) (xs : List Rendering) (broken : Bool) (pa
 -- What is written is the spelling of the frames' signs, which are proper, so that reading it gives them. After each prefix of the frames the
 -- page is as it was, if each left it; or it shows the rows above the cursor's as they were, then the messages printed so far, then the lines
 -- drawn last, then blank rows.
-pub record ShowsClearing (old new : List ℕ) (frames : List Frame) (page : Canvas) : Type 0 where
+pub record ShowsErasing (old new : List ℕ) (frames : List Frame) (page : Canvas) : Type 0 where
   pub written : new ≡ old ++ spelling (signs_of [] frames)
   pub proper : AreProper (signs_of [] frames)
   pub prefix : (j : ℕ) → (rest : List Sign) × (signs_of [] frames ≡ signs_of [] (take j frames) ++ rest)

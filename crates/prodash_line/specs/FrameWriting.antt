@@ -11,7 +11,7 @@ use Rattle.prodash_line.specs.declared.render.line.draw.action.Action.{Action}
 use Rattle.prodash_line.specs.declared.render.line.draw.action.Drawn.{Drawn}
 use Rattle.prodash_line.specs.declared.render.line.draw.action.Composed.{Composed}
 use Rattle.prodash_line.specs.declared.render.line.draw.layout.Layout.{Layout}
-use Rattle.prodash_line.specs.declared.render.line.draw.layout.Layout.TheVariants.{Overwriting, Clearing}
+use Rattle.prodash_line.specs.declared.render.line.draw.layout.Layout.TheVariants.{Overwriting, Erasing}
 use Rattle.prodash_line.specs.declared.render.line.draw.action.Action.TheVariants.{Leave}
 use Rattle.prodash_line.specs.declared.render.line.page.sign.Sign.TheVariants.{CarriageReturn, EraseBelow}
 use Rattle.prodash_line.specs.declared.render.line.draw.frame.Scene.{Scene}
@@ -46,16 +46,16 @@ AppendsOver layout old widths lines new = new.bytes.items ≡ old.bytes.items ++
 -- what a frame that does this after its messages begins with where it is to erase rows
 abbrev pub action_start : Layout → Action → List Sign
 action_start Overwriting action = []
-action_start (Clearing height) Leave = []
-action_start (Clearing height) _ = CarriageReturn ∷ []
+action_start (Erasing height) Leave = []
+action_start (Erasing height) _ = CarriageReturn ∷ []
 
 -- the buffer holds the beginning of a frame that does this after its messages
 abbrev pub BeginsFrame : Renderer → Layout → Action → LineWriter → Type 0
 BeginsFrame r layout action out = out.bytes.items ≡ spelling (opening_of r ++ action_start layout action)
 
 -- what follows this many lines in a redraw that erases rows, if this many are on screen
-abbrev pub clearing_end : ℕ → ℕ → ℕ → List Sign
-clearing_end height widths count =
+abbrev pub erasing_end : ℕ → ℕ → ℕ → List Sign
+erasing_end height widths count =
     let rest = left_over height widths count in
     erased_rows rest ++ EraseBelow ∷ cursor_up (count + rest)
 

@@ -3,7 +3,7 @@ use Rattle.std.specs.Prelude.{ℕ, zero, suc, ◌+◌, ◌-◌, min, max, List, 
 use Rattle.std.specs.List.{flat_map}
 use Rattle.prodash_line.specs.Lines.{Piece, Line, spaces, columns_of}
 use Rattle.prodash_line.specs.declared.render.line.draw.layout.Layout.{Layout}
-use Rattle.prodash_line.specs.declared.render.line.draw.layout.Layout.TheVariants.{Overwriting, Clearing}
+use Rattle.prodash_line.specs.declared.render.line.draw.layout.Layout.TheVariants.{Overwriting, Erasing}
 use Rattle.prodash_line.specs.declared.render.line.page.sign.Sign.{Sign}
 use Rattle.prodash_line.specs.declared.render.line.page.style.Style.{Style}
 use Rattle.prodash_line.specs.declared.render.line.page.sign.Sign.TheVariants.{Char, LineFeed, CarriageReturn, Up, EraseLine, EraseBelow, Open, Reset}
@@ -32,12 +32,12 @@ first_width (width ∷ widths) = width
 -- what the row of a line begins with
 abbrev pub row_start : Layout → List Sign
 row_start Overwriting = []
-row_start (Clearing height) = EraseLine ∷ []
+row_start (Erasing height) = EraseLine ∷ []
 
 -- the widths of the lines on screen that lines are written over, by those of all: on rows that are erased there is none
 abbrev pub covered : Layout → List ℕ → List ℕ
 covered Overwriting widths = widths
-covered (Clearing height) widths = []
+covered (Erasing height) widths = []
 
 -- the lines, each over the line on screen in its row, of which these are the widths
 abbrev pub lines_over : Layout → List ℕ → List Line → List Sign
@@ -65,9 +65,9 @@ left_over height n lines = min (n - lines) (height - 1 - lines)
 abbrev pub redraw : Layout → List ℕ → List Line → List Sign
 redraw Overwriting widths lines =
     overwrite widths (lines ++ replicate (length widths - length lines) []) ++ cursor_up (max (length lines) (length widths))
-redraw (Clearing height) widths lines =
+redraw (Erasing height) widths lines =
     let rest = left_over height (length widths) (length lines) in
-    lines_over (Clearing height) [] lines ++ (erased_rows rest ++ EraseBelow ∷ cursor_up (length lines + rest))
+    lines_over (Erasing height) [] lines ++ (erased_rows rest ++ EraseBelow ∷ cursor_up (length lines + rest))
 
 -- what a frame does after its messages
 pub data Body : Type 0 where
@@ -93,9 +93,9 @@ body_signs layout widths (Closes ending) = redraw layout widths [] ++ ending
 -- where a frame is to erase rows, it begins at the beginning of the cursor's row
 abbrev pub frame_start : Layout → Body → List Sign
 frame_start Overwriting body = []
-frame_start (Clearing height) Unchanged = []
-frame_start (Clearing height) (Draws lines) = CarriageReturn ∷ []
-frame_start (Clearing height) (Closes ending) = CarriageReturn ∷ []
+frame_start (Erasing height) Unchanged = []
+frame_start (Erasing height) (Draws lines) = CarriageReturn ∷ []
+frame_start (Erasing height) (Closes ending) = CarriageReturn ∷ []
 
 -- the signs of a frame, by the widths of the lines on screen before it
 abbrev pub frame_signs : List ℕ → Frame → List Sign

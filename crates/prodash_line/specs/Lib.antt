@@ -21,6 +21,6 @@ pub mod Reading
 pub mod Shows
 pub mod Fits
 pub mod Renderings
-pub mod ClearedPages
+pub mod ErasedPages
 pub mod ControlCharacters
 pub mod plumbing

@@ -12,7 +12,7 @@ use Rattle.prodash_line.specs.declared.render.line.draw.input.Options.{Options}
 use Rattle.prodash_line.specs.declared.render.line.page.style.Style.{Style}
 use Rattle.prodash_line.specs.Lines.{Line, piece, styled, spaces, columns_of}
 use Rattle.prodash_line.specs.declared.render.line.draw.layout.Layout.{Layout}
-use Rattle.prodash_line.specs.declared.render.line.draw.layout.Layout.TheVariants.{Overwriting, Clearing}
+use Rattle.prodash_line.specs.declared.render.line.draw.layout.Layout.TheVariants.{Overwriting, Erasing}
 use Rattle.prodash_line.specs.DrawnLines.{drawn_chars, as_drawn}
 use Rattle.prodash_line.specs.TextStyles.{dimmed, name_style, values_style, row_style}
 
@@ -150,7 +150,7 @@ with_throughputs (Some tracker) at rows = zip rows (frame_throughputs tracker at
 -- how many of n rows are drawn: all, or in a window of this height two fewer than it has rows, if they don't fit above its last row
 abbrev pub fitting_count : Layout → ℕ → ℕ
 fitting_count Overwriting n = n
-fitting_count (Clearing height) n = if nat_lt n height then n else height - 2
+fitting_count (Erasing height) n = if nat_lt n height then n else height - 2
 
 -- of rows those that are drawn
 abbrev pub fitting : Layout → List DrawnRow → List DrawnRow

@@ -21,7 +21,7 @@ use Rattle.prodash_line.specs.declared.render.line.draw.layout.Layout.{Layout}
 use Rattle.prodash_line.specs.declared.render.line.draw.action.Action.{Action}
 use Rattle.prodash_line.specs.declared.render.line.draw.action.Action.TheVariants.{Leave, Redraw, Erase, Close}
 use Rattle.prodash_line.specs.Frames.{Body, Unchanged, Draws, Closes, Frame, body_signs, frame_signs, widths_of}
-use Rattle.prodash_line.specs.DrawnLines.{clears, layout_of}
+use Rattle.prodash_line.specs.DrawnLines.{erases_rows, layout_of}
 use Rattle.prodash_line.specs.ProgressRows.{DrawnRow, filtered, with_throughputs, fitting, more_lines, row_lines, greatest_midpoint}
 use Rattle.prodash_line.specs.MessageLines.{message_lines, latest_origin_widths}
 use Rattle.prodash_line.specs.Screens.{ScreenState, WritesFrame, BreaksDuring}
@@ -40,7 +40,7 @@ pub record Renderer : Type 0 where
   pub seen : Option ℕ
   -- the tracker of throughput, if throughput is shown
   pub tracker : Option Tracker
-  -- whether a frame that cleared its rows has erased the rows of tasks since they were last drawn
+  -- whether a frame has erased the rows of tasks since they were last drawn
   pub rows_erased : Bool
   -- whether a frame has hidden the cursor
   pub cursor_hidden : Bool
@@ -116,9 +116,9 @@ rows_changed (Some before) rows = not (same_rows before rows)
 abbrev pub has_messages : List Message → Bool
 has_messages messages = not (nat_eq (length messages) 0)
 
--- must rows be drawn though they haven't changed? if the frame clears its rows and prints messages, or comes after one that erased them
+-- must rows be drawn though they haven't changed? if the frame erases rows and prints messages, or comes after one that erased those of tasks
 abbrev pub draws_again : Renderer → Bool → Bool
-draws_again r printed = clears r.options && (printed || r.rows_erased)
+draws_again r printed = erases_rows r.options && (printed || r.rows_erased)
 
 -- rows are drawn on a terminal if they are shown and have changed, or must be drawn again
 abbrev pub is_drawn : Renderer → Bool → Bool → List PathRow → Bool
@@ -195,9 +195,9 @@ moment_of (Quit at) = at
 abbrev pub drawing_at : Renderer → Input → Drawing
 drawing_at r input = let r' = remember r input in drawing_of r' (moment_of input) (latest_rows r'.last_rows)
 
--- what a tick without rows to draw does after its messages: they erase the lines on screen if the frame clears its rows
+-- what a tick without rows to draw does after its messages: they erase the lines on screen if the frame erases rows
 abbrev pub idle_action : Renderer → Bool → Action
-idle_action r printed = if clears r.options && printed then Erase else Leave
+idle_action r printed = if erases_rows r.options && printed then Erase else Leave
 
 -- what a tick with a root does after its messages: it closes the renderer, or draws the rows, or erases or leaves the lines on screen
 abbrev pub tick_action : Renderer → Bool → Bool → List PathRow → Action

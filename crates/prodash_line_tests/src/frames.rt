@@ -18,7 +18,7 @@ const TASK: Task = ("task", THREE_OF_TEN);
 
 const CLOSED: Result<&str, Refusal> = Err(Refusal::Closed);
 
-/// The line of `task` is cleared, and the renderer closes.
+/// The line of `task` is erased, and the renderer closes.
 const TASK_CLOSED: &str = "                                        \n\x1b[1A\x1b[2K\r";
 
 /// `a` and `long` on 30 columns, and `a` a step further.
@@ -103,7 +103,7 @@ const FRAMES: &[Drawing] = &[
         (Print(&[("test", "two")], &[TASK]), CLOSED),
         (Quit, CLOSED),
     ]),
-    // closing frames clear the rows on screen, shown or hidden
+    // closing frames erase the rows on screen, shown or hidden
     Drawing((40, 20), &[
         (Show(&[TASK, ("next", THREE_OF_TEN)]), Ok(NEXT_FRAME)),
         (Show(&[TASK]), Ok(NEXT_GONE_FRAME)),

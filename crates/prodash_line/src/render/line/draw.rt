@@ -2,13 +2,13 @@
 ghost use Rattle.std.specs.Prelude.{◌≡◌, ℕ, Bool, Some, None, IsOkUnless, OnOk, OnErr};
 ghost use Rattle.prodash_line.specs.Screens.{WritesFrame, BreaksDuring};
 ghost use Rattle.prodash_line.specs.Renderer.{Renders, begun, broken};
-ghost use Rattle.prodash_line.specs.ClearedPages.{ClearsPages};
+ghost use Rattle.prodash_line.specs.ErasedPages.{ErasesPages};
 ghost use Rattle.prodash_line.specs.ControlCharacters.{DrawsNoControls};
 
 mod action;
 mod bar;
-mod clearing;
 mod drawn_text;
+mod erasing;
 mod fitting;
 mod frame;
 mod input;
@@ -79,7 +79,7 @@ use tracker::keep;
 /// all(alloc, &mut screen, &mut state, tick)?;
 /// all(alloc, &mut screen, &mut state, Input::Quit { at: 1 })?;
 /// ```
-#[tactic(auto, using(crate::proofs::ClearedRenderings::clears_pages))]
+#[tactic(auto, using(crate::proofs::ErasedRenderings::erases_pages))]
 pub fn all<S: Screen>(
     alloc: Global,
     screen: &mut S,
@@ -90,7 +90,7 @@ pub fn all<S: Screen>(
         (S.state screen.new) }
 
     // Every page shows a frame that erases the rows that it writes on.
-    ensures page { ClearsPages state.old input }
+    ensures page { ErasesPages state.old input }
 
     // No line of a defensive frame has a control character.
     ensures controls { DrawsNoControls state.old input }

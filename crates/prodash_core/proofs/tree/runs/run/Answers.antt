@@ -3,9 +3,9 @@ use Rattle.std.proofs.lemmas.Grind.{common_steps}
 use Rattle.prodash_core.proofs.RunLaws.{completes_more, completes_all, pushed_is, run_renders, steps_at, run_with_memory, after_with_memory}
 use Rattle.prodash_core.proofs.AllSaid.{rings_of_prefixes}
 use Rattle.prodash_line.proofs.Renderings.{writes_attempts, breaks_exactly, flushes_each, stays_flushed}
-use Rattle.prodash_line.proofs.ClearedRenderings.{clears_each}
+use Rattle.prodash_line.proofs.ErasedRenderings.{erases_each}
 use Rattle.prodash_line.proofs.WithoutControls.{draws_no_controls_each}
-use Rattle.prodash_line.proofs.ClearedPrefixes.{shows_clearing}
+use Rattle.prodash_line.proofs.ErasedPrefixes.{shows_erasing}
 use Rattle.prodash_line.proofs.PageRenderings.{shows_on_page}
 use Rattle.prodash_core.proofs.tree.runs.run.Goals as goal
 
@@ -33,8 +33,8 @@ returns-clause-ok g c =
       flushes = flushes_each _ _ _ _ renders;
       bytes = writes_attempts _ _ _ _ [] renders refl;
       page = λ page above. shows_on_page _ _ _ _ above page renders refl refl (omega arith);
-      clears = clears_each _ _ _ _ renders;
-      cleared = λ page. shows_clearing _ _ _ _ page renders refl refl;
+      erases = erases_each _ _ _ _ renders;
+      erased = λ page. shows_erasing _ _ _ _ page renders refl refl;
       controls = draws_no_controls_each _ _ _ _ renders;
       flushed = stays_flushed _ _ _ _ renders;
     }

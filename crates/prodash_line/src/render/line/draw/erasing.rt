@@ -1,7 +1,7 @@
 //! Frames that erase the rows that they write on.
 ghost use Rattle.std.specs.Prelude.{◌≡◌, OnOk};
 ghost use Rattle.prodash_line.specs.Frames.{row_start, left_over, erased_rows};
-ghost use Rattle.prodash_line.specs.FrameWriting.{AppendsSigns, action_start, clearing_end};
+ghost use Rattle.prodash_line.specs.FrameWriting.{AppendsSigns, action_start, erasing_end};
 
 use crate::render::line::draw::action::Action;
 use crate::render::line::draw::frame::push_up;
@@ -21,7 +21,7 @@ pub(crate) fn start_frame(
 {
     match (layout, action) {
         (Layout::Overwriting, _) | (_, Action::Leave) => Ok(()),
-        (Layout::Clearing(_), _) => out.push_sign(Sign::CarriageReturn),
+        (Layout::Erasing(_), _) => out.push_sign(Sign::CarriageReturn),
     }
 }
 
@@ -31,20 +31,20 @@ pub(crate) fn start_row(out: &mut LineWriter, layout: Layout) -> Result<(), Allo
 {
     match layout {
         Layout::Overwriting => Ok(()),
-        Layout::Clearing(_) => out.push_sign(Sign::EraseLine),
+        Layout::Erasing(_) => out.push_sign(Sign::EraseLine),
     }
 }
 
 /// Ends a redraw of `drawn` lines in a window of this height: erases the rows of the lines on
 /// screen that are left over, as far as the window goes, and everything below, and moves the cursor
 /// up to the first line.
-pub(crate) fn finish_clearing(
+pub(crate) fn finish_erasing(
     out: &mut LineWriter,
     height: u16,
     on_screen: usize,
     drawn: usize,
 ) -> Result<(), AllocError>
-    ensures { OnOk result (AppendsSigns out.old (clearing_end height on_screen drawn) out.new) }
+    ensures { OnOk result (AppendsSigns out.old (erasing_end height on_screen drawn) out.new) }
 {
     let rest = left_over(height, on_screen, drawn);
     erase_rows(out, rest)?;

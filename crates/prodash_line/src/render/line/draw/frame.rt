@@ -11,8 +11,8 @@ ghost use Rattle.prodash_line.specs.DrawnLines.{layout_of};
 ghost use Rattle.prodash_line.specs.FrameWriting.{Composes, AppendsSigns, AppendsOver, AppendsBody, AppendsRedraw, BeginsFrame, FinishesRedraw, LeftBy, LeftByTick, LeftByAction, AddsRows, AddsFitting, ObservesRows, resize_to, shown_lines, fitting_lines};
 
 use crate::render::line::draw::action::{Action, Composed, Drawn};
-use crate::render::line::draw::clearing::{finish_clearing, start_frame, start_row};
 use crate::render::line::draw::drawn_text::drawn_text;
+use crate::render::line::draw::erasing::{finish_erasing, start_frame, start_row};
 use crate::render::line::draw::input::Options;
 use crate::render::line::draw::layout::Layout;
 use crate::render::line::draw::line_writer::LineWriter;
@@ -391,7 +391,7 @@ fn finish_redraw(
 {
     match layout {
         Layout::Overwriting => finish_overwriting(out, widths, drawn)?,
-        Layout::Clearing(height) => finish_clearing(out, height, widths.len(), drawn)?,
+        Layout::Erasing(height) => finish_erasing(out, height, widths.len(), drawn)?,
     }
     Ok(())
 }

@@ -1,6 +1,6 @@
 //! Inputs of the renderer, its options, and its answers.
 ghost use Rattle.std.specs.Prelude.{◌≡◌};
-ghost use Rattle.prodash_line.specs.DrawnLines.{limit_of, clears, layout_of};
+ghost use Rattle.prodash_line.specs.DrawnLines.{limit_of, erases_rows, layout_of};
 ghost use Rattle.prodash_line.specs.Renderer.{default_options};
 
 use crate::render::line::draw::layout::Layout;
@@ -74,8 +74,8 @@ impl Options {
     }
 
     /// Whether frames erase the rows that they write on.
-    pub(crate) fn clears(&self) -> bool
-        ensures { result ≡ clears self.now }
+    pub(crate) fn erases_rows(&self) -> bool
+        ensures { result ≡ erases_rows self.now }
     {
         self.defensive && self.output_is_terminal
     }
@@ -84,8 +84,8 @@ impl Options {
     pub(crate) fn layout(&self) -> Layout
         ensures { result ≡ layout_of self.now }
     {
-        if self.clears() {
-            Layout::Clearing(self.terminal_dimensions.1)
+        if self.erases_rows() {
+            Layout::Erasing(self.terminal_dimensions.1)
         } else {
             Layout::Overwriting
         }

@@ -8,7 +8,7 @@ pub(crate) enum Layout {
     /// Lines are written over those on screen, whose widths are known.
     Overwriting,
     /// Lines are written on rows that are erased first, in a window of this height.
-    Clearing(u16),
+    Erasing(u16),
 }
 
 impl Layout {
@@ -19,7 +19,7 @@ impl Layout {
     {
         match self {
             Layout::Overwriting => widths,
-            Layout::Clearing(_) => &[],
+            Layout::Erasing(_) => &[],
         }
     }
 }

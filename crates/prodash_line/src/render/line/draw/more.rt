@@ -12,7 +12,7 @@ ghost use Rattle.prodash_line.specs.Tracking.{kept_of, ahead_of};
 ghost use Rattle.prodash_line.specs.FrameWriting.{AppendsOver, SplitsFitting, CountsRows, count_of, more_of};
 
 use crate::render::line::draw::action::Drawn;
-use crate::render::line::draw::clearing::start_row;
+use crate::render::line::draw::erasing::start_row;
 use crate::render::line::draw::input::Options;
 use crate::render::line::draw::layout::Layout;
 use crate::render::line::draw::line_writer::LineWriter;
@@ -34,7 +34,7 @@ pub(crate) fn split_fitting(
 {
     match layout {
         Layout::Overwriting => (rows, &[]),
-        Layout::Clearing(height) => {
+        Layout::Erasing(height) => {
             let height = usize::from(height);
             if count_drawn(levels, rows) < height {
                 (rows, &[])

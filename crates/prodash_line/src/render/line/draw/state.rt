@@ -48,7 +48,7 @@ pub(crate) struct Past {
     pub(crate) origin_widths: Vec<u16>,
     /// What the latest accepted tick with a root saw of the messages.
     seen: Option<MessageCopyState>,
-    /// Whether a frame that clears its rows has erased those of tasks since they were last drawn.
+    /// Whether a frame has erased the rows of tasks since they were last drawn.
     rows_erased: bool,
     /// Whether a frame has hidden the cursor.
     cursor_hidden: bool,
@@ -236,11 +236,11 @@ impl Past {
     }
 
     /// Whether a tick that prints messages or not has to draw rows though they haven't changed: its
-    /// frame clears its rows, and prints messages or comes after one that has erased them.
+    /// frame erases rows, and prints messages or comes after one that has erased those of tasks.
     fn draws_again(&self, printed: bool) -> bool
         ensures { result ≡ draws_again self.now printed }
     {
-        self.options.clears() && (printed || self.rows_erased)
+        self.options.erases_rows() && (printed || self.rows_erased)
     }
 
     /// Whether a tick that prints messages or not draws these rows: they are shown on a terminal,
@@ -269,7 +269,7 @@ impl Past {
             Action::Close
         } else if self.draws(show, printed, rows) {
             Action::Redraw
-        } else if self.options.clears() && printed {
+        } else if self.options.erases_rows() && printed {
             Action::Erase
         } else {
             Action::Leave

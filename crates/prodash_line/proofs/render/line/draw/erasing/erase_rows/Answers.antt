@@ -2,7 +2,7 @@ use Rattle.std.proofs.Common.{◌≡◌, ℕ, suc, ◌+◌, ◌-◌, ◌++◌, a
 use Rattle.prodash_line.specs.Signs.{spelling}
 use Rattle.prodash_line.specs.Frames.{erased_rows}
 use Rattle.prodash_line.proofs.OverwriteBytes.{erased_more}
-use Rattle.prodash_line.proofs.render.line.draw.clearing.erase_rows.Goals as goal
+use Rattle.prodash_line.proofs.render.line.draw.erasing.erase_rows.Goals as goal
 
 pub loop-preserved : goal.loop-preserved
 loop-preserved c =

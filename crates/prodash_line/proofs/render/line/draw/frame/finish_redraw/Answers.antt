@@ -1,14 +1,14 @@
 use Rattle.std.proofs.Common.{subst, sym}
 use Rattle.prodash_line.specs.declared.render.line.draw.layout.Layout.{Layout}
 use Rattle.prodash_line.specs.FrameWriting.{FinishesRedraw}
-use Rattle.prodash_line.proofs.OverwriteBytes.{redrawn_clearing}
+use Rattle.prodash_line.proofs.OverwriteBytes.{redrawn_erasing}
 use Rattle.prodash_line.proofs.render.line.draw.frame.finish_redraw.Goals as goal
 
 pub returns-in_ok-finish_overwriting-in-Overwriting : goal.returns-in_ok-finish_overwriting-in-Overwriting
 returns-in_ok-finish_overwriting-in-Overwriting c =
     subst (λ (l : Layout). FinishesRedraw l c.args.out.now c.args.widths.now c.args.drawn c.finish_overwriting.new.out) (sym c.in-Overwriting.is) c.in_ok-finish_overwriting-in-Overwriting.ensures
 
-pub returns-in_ok-finish_clearing-in-Clearing : goal.returns-in_ok-finish_clearing-in-Clearing
-returns-in_ok-finish_clearing-in-Clearing c =
-    subst (λ (l : Layout). FinishesRedraw l c.args.out.now c.args.widths.now c.args.drawn c.finish_clearing.new.out) (sym c.in-Clearing.is)
-    (λ before lines n e. redrawn_clearing c.in-Clearing.height c.args.widths.now lines c.args.drawn before _ _ n e c.in_ok-finish_clearing-in-Clearing.ensures)
+pub returns-in_ok-finish_erasing-in-Erasing : goal.returns-in_ok-finish_erasing-in-Erasing
+returns-in_ok-finish_erasing-in-Erasing c =
+    subst (λ (l : Layout). FinishesRedraw l c.args.out.now c.args.widths.now c.args.drawn c.finish_erasing.new.out) (sym c.in-Erasing.is)
+    (λ before lines n e. redrawn_erasing c.in-Erasing.height c.args.widths.now lines c.args.drawn before _ _ n e c.in_ok-finish_erasing-in-Erasing.ensures)
