@@ -16,6 +16,8 @@ mod events;
 #[cfg(test)]
 mod fixtures;
 #[cfg(test)]
+mod hashed;
+#[cfg(test)]
 mod level_prefix;
 #[cfg(test)]
 mod options;

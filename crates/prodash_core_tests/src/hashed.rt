@@ -1,0 +1,184 @@
+//! The table beside a slow one, whose entries are hashed, and sorted at each snapshot.
+use crate::fixtures::assert_same;
+use prodash_base::Text;
+use prodash_base::progress::key::next_id;
+use prodash_base::progress::{Key, Row, Rows, State, Step, UNKNOWN, Value};
+use prodash_core::tree::{Counted, Counters, TreeCore};
+use std::alloc::{AllocError, Global};
+use std::collections::HashMap;
+use std::process::Abort;
+use std::test::Fail;
+
+/// Counters that are their own numbers.
+#[derive(Drop)]
+struct OwnNumbers;
+
+impl Counters<u64> for OwnNumbers {
+    ghost shows = { λ _ counter n. Unit {0} };
+
+    fn number(&self, counter: u64) -> Step {
+        counter
+    }
+}
+
+/// The slow table.
+#[derive(Drop)]
+struct Hashed {
+    rows: HashMap<Key, Row>,
+}
+
+impl Hashed {
+    fn insert(&mut self, alloc: Global, key: Key, name: &str) -> Result<(), AllocError> {
+        let name = Text::from_str(alloc, name)?;
+        let (id, progress) = (UNKNOWN, None);
+        self.rows.insert(
+            key,
+            Row {
+                key,
+                name,
+                id,
+                progress,
+            },
+        )?;
+        Ok(())
+    }
+
+    fn init(&mut self, key: Key, progress: Option<Value>) -> bool {
+        match self.rows.get_mut(&key) {
+            None => false,
+            Some(row) => {
+                row.progress = progress;
+                true
+            }
+        }
+    }
+
+    fn set_max(&mut self, key: Key, max: Option<Step>) -> Option<Step> {
+        let row = self.rows.get_mut(&key)?;
+        let value = row.progress.as_mut()?;
+        let before = value.done_at;
+        value.done_at = max;
+        before
+    }
+
+    fn rows(&self, alloc: Global) -> Result<Rows, AllocError> {
+        let mut rows = Vec::new(alloc);
+        for row in self.rows.values() {
+            rows.push(row.clone()?)?;
+        }
+        rows.sort_by(|a, b| a.key.cmp(&b.key))?;
+        Ok(Rows::new(rows))
+    }
+}
+
+/// Both tables, and the keys of the latest insertions.
+#[derive(Drop)]
+struct Both {
+    ordered: TreeCore<u64>,
+    hashed: Hashed,
+    latest: Vec<Key>,
+    /// The number of the next child.
+    number: u32,
+}
+
+/// How many keys are kept of the latest insertions.
+const LATEST: u64 = 64;
+
+/// The first of the numbers that children get in turn: the twentieth is 0 again.
+const FIRST: u32 = u32::MAX - 20;
+
+impl Both {
+    /// Returns one of the latest keys, or the root's a third of the time.
+    fn key(&self, word: u64) -> Key {
+        let place = (word / 16 % (LATEST + LATEST / 2)) as usize;
+        self.latest.get(place).copied().unwrap_or_default()
+    }
+
+    /// Inserts a child below the latest keys. Every forty-first child gets the first number again,
+    /// and may replace an earlier one.
+    fn insert(&mut self, alloc: Global, word: u64, name: &str) -> Result<(), Fail> {
+        let key = self.key(word).add_child(self.number);
+        self.number = if self.number == 20 {
+            FIRST
+        } else {
+            next_id(self.number)
+        };
+        self.ordered.insert(alloc, key, name, UNKNOWN)?;
+        self.hashed.insert(alloc, key, name)?;
+        if self.latest.len() as u64 == LATEST {
+            self.latest.swap_remove((word / 1024 % LATEST) as usize);
+        }
+        self.latest.push(key)?;
+        Ok(())
+    }
+
+    /// Makes one call on both, and asserts that both return the same.
+    fn call(&mut self, rt: &impl Abort, alloc: Global, word: u64) -> Result<(), Fail> {
+        let (key, step) = (self.key(word), word / 65536);
+        match word % 8 {
+            0 => self.insert(alloc, word, "a")?,
+            1 => self.insert(alloc, word, "b")?,
+            2 => self.insert(alloc, word, "c")?,
+            3 => self.init(rt, key, None),
+            4 => self.init(rt, key, Some(step)),
+            5 => {
+                let got = self.ordered.set_max(key, Some(step));
+                assert_same(rt, got, self.hashed.set_max(key, Some(step)), word);
+            }
+            _ => {
+                let got = self.ordered.remove(key);
+                assert_same(rt, got, self.hashed.rows.remove(&key).is_some(), word);
+            }
+        }
+        Ok(())
+    }
+
+    /// Begins the progress of a task in both, at a step that is its bound too, or ends it.
+    fn init(&mut self, rt: &impl Abort, key: Key, step: Option<Step>) {
+        let (done_at, unit, state) = (step, None, State::Running);
+        let counted = step.map(|counter| Counted {
+            counter,
+            done_at,
+            unit,
+            state,
+        });
+        let value = step.map(|step| Value {
+            step,
+            done_at,
+            unit,
+            state,
+        });
+        let got = self.ordered.init(key, counted);
+        assert_same(rt, got, self.hashed.init(key, value), step);
+    }
+}
+
+/// How many calls are made, and after how many both list their rows.
+const CALLS: u64 = 70_000;
+
+const LISTED: u64 = 500;
+
+#[test]
+fn both_tables_have_the_same_rows_after_70000_calls(rt: HostRuntime) -> Result<(), Fail> {
+    let alloc = rt.alloc();
+    let mut both = Both {
+        ordered: TreeCore::new(alloc),
+        hashed: Hashed {
+            rows: HashMap::new(alloc),
+        },
+        latest: Vec::new(alloc),
+        number: FIRST,
+    };
+    let mut word: u64 = 1;
+    for n in 0..CALLS {
+        word = word
+            .wrapping_mul(6364136223846793005)
+            .wrapping_add(1442695040888963407);
+        both.call(&rt, alloc, word >> 20)?;
+        if n % LISTED == 0 {
+            let got = both.ordered.rows(alloc, &OwnNumbers)?;
+            assert_same(&rt, got, both.hashed.rows(alloc)?, n);
+        }
+    }
+    Ok(())
+}
