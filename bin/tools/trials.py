@@ -91,9 +91,13 @@ class Trial:
         self.say(f"{edit.label}: {how}{': ' + where if where else ''}")
 
     def check(self, texts, kept, flags):
-        """Checks the crate with these texts. Of more than one function it takes two processors."""
+        """Checks the crate with these texts.
+
+        Of more than one function it takes two processors, or three quarters of what there are.
+        """
         self.checks += 1
-        words = ["--jobs", "1" if len(flags) == 2 else "2", *flags]
+        jobs = 1 if len(flags) == 2 else max(2, self.rt.processors() * 3 // 4)
+        words = ["--jobs", str(jobs), *flags]
         return Verdict(kit.checked(self.rt, self.crate, texts, words, kept))
 
     def check_over_copy(self, texts, *flags):
