@@ -2,6 +2,7 @@
 #![tactic(auto)]
 
 mod changes;
+mod command_line;
 mod display;
 mod feed;
 mod items;
@@ -11,10 +12,10 @@ mod output;
 mod program;
 mod record;
 
+use command_line::{Command, HELP, VERSION, parse};
 use feed::Outcome;
-use options::Options;
 use prodash::time::SystemClock;
-use prodash_programs::{Environment, Fault, arguments, report};
+use prodash_programs::{Environment, Fault, arguments, report, write_all};
 use program::live;
 use std::alloc::Global;
 use std::fs::File;
@@ -28,14 +29,14 @@ fn main(rt: HostRuntime) -> ExitCode {
         Ok(words) => words,
         Err(fault) => return ExitCode::from(report(&mut rt.stderr(), fault)),
     };
-    let options = match Options::parse(rt.alloc(), &words, Environment::read(&rt)) {
-        Ok(options) => options,
+    let options = match parse(&words, Environment::read(&rt)) {
+        Ok(Command::Run(options)) => options,
+        Ok(Command::Help) => return print(&rt, HELP),
+        Ok(Command::Version) => return print(&rt, VERSION),
         Err(error) => {
-            let status = error.exit_code() as u8;
-            return match error.print(&rt) {
-                Ok(()) => ExitCode::from(status),
-                Err(_) => ExitCode::from(1),
-            };
+            let hint = "For more information, try '--help'.";
+            let _ = writeln!(rt.stderr(), "error: {error}\n\n{hint}");
+            return ExitCode::from(2);
         }
     };
     let Ok(clock) = Arc::new(rt.alloc(), SystemClock::new(rt)) else {
@@ -78,6 +79,14 @@ fn main(rt: HostRuntime) -> ExitCode {
             let _ = writeln!(rt.stderr(), "{text}");
             ExitCode::from(2)
         }
+        Err(fault) => ExitCode::from(report(&mut rt.stderr(), fault)),
+    }
+}
+
+/// Prints a text, and returns the exit status.
+fn print(rt: &HostRuntime, text: &str) -> ExitCode {
+    match write_all(&mut rt.stdout(), text.as_bytes()) {
+        Ok(()) => ExitCode::from(0),
         Err(fault) => ExitCode::from(report(&mut rt.stderr(), fault)),
     }
 }

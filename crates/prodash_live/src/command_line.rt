@@ -1,0 +1,162 @@
+//! The command line.
+use crate::options::{Options, Terminal};
+use prodash_programs::{Environment, dimension};
+use std::fmt::{self, Write};
+
+/// What a command line asks for.
+#[derive(Clone, Copy, Debug)]
+pub enum Command<'a> {
+    /// To show the event lines of standard input.
+    Run(Options<'a>),
+    /// To print `HELP`.
+    Help,
+    /// To print `VERSION`.
+    Version,
+}
+
+/// What is wrong with a command line.
+#[derive(Clone, Copy, Debug)]
+pub enum UsageError<'a> {
+    /// This argument is no option.
+    Unexpected(&'a str),
+    /// This option has no value.
+    NoValue(&'a str),
+    /// An option has a value that it doesn't take.
+    BadValue {
+        /// The option.
+        option: &'a str,
+        /// Its value.
+        value: &'a str,
+    },
+}
+
+/// The version of the program.
+pub static VERSION: &str = "prodash-live 31.0.1\n";
+
+/// The help of the program.
+pub static HELP: &str = "Shows progress on a terminal from the event lines of standard input
+
+Usage: prodash-live [OPTIONS]
+
+Options:
+      --columns <N>           columns of the terminal [default: $COLUMNS, or 80]
+      --rows <N>              rows of the terminal [default: $LINES, or 20]
+      --fps <N>               frames in a second, 1 to 1000 [default: 6]
+      --delay <MILLISECONDS>  time until rows are drawn, up to a day [default: 0]
+      --no-color              no colours, as with $NO_COLOR
+      --timestamps            messages with their time of day, in UTC
+      --throughput            no effect: units that end in /s have their throughput
+      --stdout                draw on standard output, not on standard error
+      --strict                end at the first line that is faulty
+      --terminal <WHEN>       whether the output is a terminal: auto, always or never
+                              [default: auto]; if not, messages alone are written
+      --record <FILE>         record the run, for prodash-replay
+  -h, --help                  print help
+  -V, --version               print version
+";
+
+/// Parses a command line, whose first word is the program's name. An option's value is the next
+/// word, or follows `=`. Of an option that is given twice the last value counts.
+pub fn parse<'a>(words: &'a [String], env: Environment) -> Result<Command<'a>, UsageError<'a>> {
+    let mut options = Options::of_environment(env);
+    let mut awaits_value = None;
+    for word in words.iter().skip(1) {
+        let word = word.as_str();
+        if let Some(option) = awaits_value.take() {
+            if word.starts_with("--") {
+                return Err(UsageError::NoValue(option));
+            }
+            set(&mut options, option, word)?;
+            continue;
+        }
+        match (word, word.split_once('=')) {
+            (_, Some((option, value))) if takes_value(option) => set(&mut options, option, value)?,
+            (option, None) if takes_value(option) => awaits_value = Some(option),
+            ("--no-color", None) => options.is_colored = false,
+            ("--timestamps", None) => options.has_timestamps = true,
+            ("--throughput", None) => {}
+            ("--stdout", None) => options.to_stdout = true,
+            ("--strict", None) => options.is_strict = true,
+            ("--help" | "-h", None) => return Ok(Command::Help),
+            ("--version" | "-V", None) => return Ok(Command::Version),
+            _ => return Err(UsageError::Unexpected(word)),
+        }
+    }
+    match awaits_value {
+        Some(option) => Err(UsageError::NoValue(option)),
+        None => Ok(Command::Run(options)),
+    }
+}
+
+/// Returns whether this is an option with a value.
+fn takes_value(option: &str) -> bool {
+    matches!(
+        option,
+        "--columns" | "--rows" | "--fps" | "--delay" | "--terminal" | "--record"
+    )
+}
+
+/// Sets an option with a value.
+fn set<'a>(
+    options: &mut Options<'a>,
+    option: &'a str,
+    value: &'a str,
+) -> Result<(), UsageError<'a>> {
+    let bad = UsageError::BadValue { option, value };
+    match option {
+        "--columns" => options.dimensions.0 = dimension(value).ok_or(bad)?,
+        "--rows" => options.dimensions.1 = dimension(value).ok_or(bad)?,
+        "--fps" => options.frames = number(value, 1, 1000).ok_or(bad)?,
+        "--delay" => options.delay = number(value, 0, 86_400_000).ok_or(bad)?,
+        "--terminal" => options.terminal = terminal(value).ok_or(bad)?,
+        "--record" => options.record = Some(value),
+        _ => return Err(bad),
+    }
+    Ok(())
+}
+
+/// Parses a number from `least` to `greatest`.
+fn number(value: &str, least: u64, greatest: u64) -> Option<u64> {
+    let number = value.parse::<u64>().ok()?;
+    if least <= number && number <= greatest {
+        Some(number)
+    } else {
+        None
+    }
+}
+
+/// Parses whether the output is a terminal.
+fn terminal(value: &str) -> Option<Terminal> {
+    match value {
+        "auto" => Some(Terminal::Auto),
+        "always" => Some(Terminal::Always),
+        "never" => Some(Terminal::Never),
+        _ => None,
+    }
+}
+
+/// Returns which values an option takes.
+fn values_of(option: &str) -> &'static str {
+    match option {
+        "--fps" => "a number from 1 to 1000",
+        "--delay" => "a number from 0 to 86400000",
+        "--terminal" => "auto, always or never",
+        _ => "a number from 1 to 65535",
+    }
+}
+
+impl fmt::Display for UsageError<'_> {
+    fn fmt<W: Write>(&self, f: &mut fmt::Formatter<W>) -> fmt::Result {
+        match self {
+            UsageError::Unexpected(word) => write!(f, "unexpected argument '{word}'"),
+            UsageError::NoValue(option) => write!(f, "no value for '{option}'"),
+            UsageError::BadValue { option, value } => {
+                let values = values_of(option);
+                write!(
+                    f,
+                    "invalid value '{value}' for '{option}', which takes {values}"
+                )
+            }
+        }
+    }
+}

@@ -1,0 +1,98 @@
+The command line
+================
+
+An option's value is the next word, or follows `=`, and the last one counts.
+
+  $ unset COLUMNS LINES NO_COLOR
+  $ until_shown() {
+  >   text=$1; shift
+  >   { cat; until grep -qs "$text" frames; do sleep 0.02; done; } | "$@"
+  > }
+  $ printf 'add 0 task\ninit 1 10\nset 1 3\n' >one_task
+  $ until_shown 3/10 prodash-live --no-color --terminal=never --terminal always --fps=1000 \
+  >   --columns 9 --columns=40 --rows 20 <one_task 2>frames
+  $ grep -q 'task 3/10 \[=======>-------------------\]' frames
+  $ prodash-live --terminal always --terminal never <one_task
+
+The version, the help, and what is refused.
+
+  $ prodash-live --version
+  prodash-live 31.0.1
+  $ prodash-live --help
+  Shows progress on a terminal from the event lines of standard input
+  
+  Usage: prodash-live [OPTIONS]
+  
+  Options:
+        --columns <N>           columns of the terminal [default: $COLUMNS, or 80]
+        --rows <N>              rows of the terminal [default: $LINES, or 20]
+        --fps <N>               frames in a second, 1 to 1000 [default: 6]
+        --delay <MILLISECONDS>  time until rows are drawn, up to a day [default: 0]
+        --no-color              no colours, as with $NO_COLOR
+        --timestamps            messages with their time of day, in UTC
+        --throughput            no effect: units that end in /s have their throughput
+        --stdout                draw on standard output, not on standard error
+        --strict                end at the first line that is faulty
+        --terminal <WHEN>       whether the output is a terminal: auto, always or never
+                                [default: auto]; if not, messages alone are written
+        --record <FILE>         record the run, for prodash-replay
+    -h, --help                  print help
+    -V, --version               print version
+  $ prodash-live --rows 0
+  error: invalid value '0' for '--rows', which takes a number from 1 to 65535
+  
+  For more information, try '--help'.
+  [2]
+  $ prodash-live --columns=65536
+  error: invalid value '65536' for '--columns', which takes a number from 1 to 65535
+  
+  For more information, try '--help'.
+  [2]
+  $ prodash-live --fps 1001
+  error: invalid value '1001' for '--fps', which takes a number from 1 to 1000
+  
+  For more information, try '--help'.
+  [2]
+  $ prodash-live --fps=0
+  error: invalid value '0' for '--fps', which takes a number from 1 to 1000
+  
+  For more information, try '--help'.
+  [2]
+  $ prodash-live --delay 86400001
+  error: invalid value '86400001' for '--delay', which takes a number from 0 to 86400000
+  
+  For more information, try '--help'.
+  [2]
+  $ prodash-live --terminal sometimes
+  error: invalid value 'sometimes' for '--terminal', which takes auto, always or never
+  
+  For more information, try '--help'.
+  [2]
+  $ prodash-live --record --strict
+  error: no value for '--record'
+  
+  For more information, try '--help'.
+  [2]
+  $ prodash-live --strict --fps
+  error: no value for '--fps'
+  
+  For more information, try '--help'.
+  [2]
+  $ prodash-live --strict=yes
+  error: unexpected argument '--strict=yes'
+  
+  For more information, try '--help'.
+  [2]
+  $ prodash-live --color
+  error: unexpected argument '--color'
+  
+  For more information, try '--help'.
+  [2]
+  $ prodash-live script
+  error: unexpected argument 'script'
+  
+  For more information, try '--help'.
+  [2]
+  $ prodash-live "$(printf '\377')"
+  arguments are not UTF-8
+  [2]
