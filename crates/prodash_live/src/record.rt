@@ -130,7 +130,6 @@ impl<W: Write + Drop> Record<W> {
     ///
     /// `AllocError`, if there is no memory for their lines.
     pub fn end<K: Clock>(&mut self, clock: &K) -> Result<(), AllocError> {
-        self.frame(clock)?;
         let at = clock.now();
         self.tick(at)?;
         self.event(&Event::Quit { at })?;
