@@ -84,6 +84,15 @@ def say(text, stderr_is_output):
         pass
 
 
+def builds(*words):
+    """Runs bin/build with these words, and returns whether it built. Else it has said why."""
+    words = [f"{TOP}/bin/build", *words]
+    try:
+        return subprocess.run(words, stdin=subprocess.DEVNULL).returncode == 0
+    except KeyboardInterrupt:
+        return False
+
+
 def ready(name, stderr_is_output=False):
     """Returns the path of the proved program if it is up to date.
 
@@ -95,13 +104,8 @@ def ready(name, stderr_is_output=False):
     if not is_built(name):
         how = "building without proofs, in about a minute; bin/build proves and builds it"
         say(f"{name.replace('_', '-')}: {how}", stderr_is_output)
-        words = [f"{TOP}/bin/build", "--unproved", name]
-        words += ["--quiet"] if stderr_is_output and not os.isatty(2) else []
-        try:
-            if subprocess.run(words, stdin=subprocess.DEVNULL).returncode:
-                return None
-        except KeyboardInterrupt:
-            # the build says so
+        is_quiet = stderr_is_output and not os.isatty(2)
+        if not builds("--unproved", *["--quiet"] * is_quiet, name):
             return None
     return unproved(name)
 
