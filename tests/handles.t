@@ -10,7 +10,7 @@ shows the rows that were drawn last before the closing frame.
   > }
   $ last_rows() { tail -n $((2 * $1 + 1)) frames | head -n "$1" | sed 's/.*\[2K//'; }
 
-A task that is halted, one that is blocked, and one that runs again.
+A task that is halted, one that is blocked, and one that runs again and has got another bound.
 
   $ until_shown last prodash-live --terminal always --columns 30 2>frames <<END
   > add 0 a
@@ -22,7 +22,8 @@ A task that is halted, one that is blocked, and one that runs again.
   > set 2 3
   > blocked 2
   > add 0 c
-  > init 3 10 -
+  > init 3 5 -
+  > max 3 10
   > set 3 3
   > halted 3
   > running 3
