@@ -44,6 +44,9 @@ pub(crate) struct Past {
     last_progress_midpoint: u16,
     /// The rows at the latest accepted tick with a root.
     last_rows: Option<Rows>,
+    /// The rows that were remembered before those, for their memory alone. Contracts don't see
+    /// them.
+    spare_rows: Option<Rows>,
     /// The widths of the latest origins, at most as many as the terminal has rows.
     pub(crate) origin_widths: Vec<u16>,
     /// What the latest accepted tick with a root saw of the messages.
@@ -168,6 +171,17 @@ impl State {
         self.past.ended()
     }
 
+    /// Takes the rows that are remembered no longer, or an empty list if there are none. Their
+    /// memory may hold the rows of the next tick, whatever they are.
+    pub fn take_spare_rows(&mut self, alloc: Global) -> Rows
+        ensures { self.new ≡ self.old }
+    {
+        self.past
+            .spare_rows
+            .take()
+            .unwrap_or_else(|| Rows::new(Vec::new(alloc)))
+    }
+
     /// Returns an equal tracker, if there is one.
     fn copied_tracker(&self) -> Result<Option<FrameThroughput>, Refusal>
         ensures ok { IfOk result (λ tracker. kept_of tracker ≡ self.now.tracker) }
@@ -190,6 +204,7 @@ impl Past {
             widths: Vec::new(alloc),
             last_progress_midpoint: 0,
             last_rows: None,
+            spare_rows: None,
             origin_widths: Vec::new(alloc),
             seen: None,
             rows_erased: false,
@@ -208,6 +223,7 @@ impl Past {
             widths: self.widths.clone()?,
             last_progress_midpoint: self.last_progress_midpoint,
             last_rows: self.last_rows.clone()?,
+            spare_rows: None,
             origin_widths: self.origin_widths.clone()?,
             seen: self.seen,
             rows_erased: self.rows_erased,
@@ -348,7 +364,7 @@ impl Past {
     {
         let action = frame.drawn.action;
         self.keep(frame.drawn);
-        self.last_rows = Some(rows);
+        self.spare_rows = self.last_rows.replace(rows);
         self.origin_widths = frame.origin_widths;
         self.seen = Some(seen);
         match action {
