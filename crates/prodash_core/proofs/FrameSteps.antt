@@ -20,9 +20,10 @@ frame_refused w input s refusal ended (inr broken) =
     subst (λ (r : Refusal). RendersFrame w input s (replies.Refused r) w s) (sym broken) refused
 
 -- there is no memory for what the frame sees
-pub frame_out_of_memory : (w : SessionState) (input : Input) (s : ScreenState) (refusal : Refusal) → None ≡ w.renderer.ended → refusal ≡ refusals.Memory
-    → RendersFrame w input s (replies.Refused refusal) w s
-frame_out_of_memory w input s refusal running memory =
+pub frame_out_of_memory : (w : SessionState) (input : Input) (s : ScreenState) (refusal : Refusal) (w' : SessionState) → None ≡ w.renderer.ended → refusal ≡ refusals.Memory → w' ≡ w
+    → RendersFrame w input s (replies.Refused refusal) w' s
+frame_out_of_memory w input s refusal w' running memory same =
     let refused : RendersFrame w input s (replies.Refused refusals.Memory) w s =
     record { result = Err refusals.Memory; replied = refl; tree = refl; renders = record { running = sym running; renderer = refl; screen = refl } } in
-    subst (λ (r : Refusal). RendersFrame w input s (replies.Refused r) w s) (sym memory) refused
+    subst (λ (v : SessionState). RendersFrame w input s (replies.Refused refusal) v s) (sym same)
+    (subst (λ (r : Refusal). RendersFrame w input s (replies.Refused r) w s) (sym memory) refused)

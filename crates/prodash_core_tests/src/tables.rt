@@ -179,3 +179,29 @@ fn a_table_keeps_units(rt: HostRuntime) -> Result<(), Fail> {
     assert_unit(&rt, &table, b, None);
     Ok(())
 }
+
+const ALL: &[ShortRow] = &[(&[0], "a", None), (&[0, 1], "b", None), (&[1], "c", None)];
+
+/// Spare rows: none, fewer than tasks, as many with other names, and more.
+const SPARE: &[&[ShortRow]] = &[
+    &[],
+    &[(&[5], "a", Some((1, None)))],
+    &[(&[0], "x", None), (&[0, 1], "", None), (&[1], "c", None)],
+    &[
+        (&[0], "a", None),
+        (&[0], "a", None),
+        (&[0], "a", None),
+        (&[0], "a", None),
+    ],
+];
+
+#[test]
+fn spare_rows_become_those_of_the_table(rt: HostRuntime) -> Result<(), Fail> {
+    let alloc = rt.alloc();
+    let table = inserted(alloc)?;
+    for spare in SPARE {
+        let got = table.rows_reusing(&OwnNumbers, rows(alloc, spare)?)?;
+        assert_rows(&rt, alloc, &got, ALL)?;
+    }
+    Ok(())
+}

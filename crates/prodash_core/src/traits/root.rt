@@ -1,11 +1,12 @@
 ghost use Rattle.std.specs.Prelude.{◌≡◌, ℕ, List, None, IfOk, IfErr, OnOk, OnErr, IsOkUnless};
+ghost use Rattle.std.specs.Map.{keys_of};
 ghost use Rattle.prodash_base.specs.Refusals.{RefusesHandle};
 ghost use Rattle.prodash_base.specs.Adjacency.{IsAscending, paths_of};
 ghost use Rattle.prodash_base.specs.Rows.{PathRow, rows_of};
 
 use prodash_base::Refusal;
-use prodash_base::messages::{Message, MessageCopyState};
-use prodash_base::progress::Row;
+use prodash_base::messages::{Message, MessageCopyState, Messages};
+use prodash_base::progress::{Row, Rows};
 use std::alloc::Global;
 
 /// The root of a tree of tasks, as a renderer sees it.
@@ -85,7 +86,25 @@ pub trait Root {
         ensures err { OnErr result (out.new.items ≡ out.old.items) }
         ensures reason { IsOkUnless result Refusal.Memory };
 
-    /// Does what `sorted_snapshot` and `copy_new_messages` do, in one step.
+    /// Returns the rows, in strictly ascending order of their keys; the messages that are kept and
+    /// were sent since the look that returned `previous`, the oldest first, or all that are kept if
+    /// it is `None`; and the state for the next look. The contents of `spare` don't matter: its
+    /// memory may hold the rows.
+    ///
+    /// # Errors
+    ///
+    /// `Memory`, if there is no memory for the copies.
+    fn look(
+        &self,
+        alloc: Global,
+        spare: Rows,
+        previous: Option<MessageCopyState>,
+    ) -> Result<(Rows, Messages, MessageCopyState), Refusal>
+        ensures ok { IfOk result (λ seen. looks self.now previous seen.0 seen.1 seen.2) }
+        ensures ascending { IfOk result (λ seen. IsAscending (keys_of seen.0)) }
+        ensures reason { IsOkUnless result Refusal.Memory };
+
+    /// Does what `sorted_snapshot` and `copy_new_messages` do, in one look.
     ///
     /// # Errors
     ///
@@ -102,7 +121,14 @@ pub trait Root {
         ensures ascending { OnOk result (IsAscending (paths_of rows.new.items)) }
         ensures err_rows { OnErr result (rows.new.items ≡ rows.old.items) }
         ensures err_messages { OnErr result (messages.new.items ≡ messages.old.items) }
-        ensures reason { IsOkUnless result Refusal.Memory };
+        ensures reason { IsOkUnless result Refusal.Memory }
+    {
+        let spare = Rows::new(Vec::new(alloc));
+        let (seen_rows, seen_messages, state) = self.look(alloc, spare, previous)?;
+        *rows = seen_rows.into_vec();
+        *messages = seen_messages.into_vec();
+        Ok(state)
+    }
 
     /// Returns a weak handle of the root, which upgrades while the root has an owner.
     ///

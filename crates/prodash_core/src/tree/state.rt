@@ -169,7 +169,16 @@ impl TreeState {
         ensures each { IfOk result (λ rows. ListsEachOnce self.now.table rows) }
         ensures reason { IsOkUnless result Refusal.Memory }
     {
-        self.table.rows(alloc, &self.slots)
+        self.rows_reusing(Rows::new(Vec::new(alloc)))
+    }
+
+    /// Returns the rows as `rows` does, in the memory of `spare`, whose contents don't matter.
+    fn rows_reusing(&self, spare: Rows) -> Result<Rows, Refusal>
+        ensures ok { IfOk result (λ rows. rows ≡ tree_rows self.now) }
+        ensures each { IfOk result (λ rows. ListsEachOnce self.now.table rows) }
+        ensures reason { IsOkUnless result Refusal.Memory }
+    {
+        self.table.rows_reusing(&self.slots, spare)
     }
 
     /// Returns what a frame sees: the rows, the messages that are new since an earlier frame, and
@@ -186,10 +195,28 @@ impl TreeState {
         ensures ok { IfOk result (λ seen. seen ≡ snapshot_of self.now previous) }
         ensures reason { IsOkUnless result Refusal.Memory }
     {
+        self.look(alloc, Rows::new(Vec::new(alloc)), previous)
+    }
+
+    /// Returns what `snapshot_and_new_messages` returns, with the rows in the memory of `spare`,
+    /// whose contents don't matter. A name is copied only if `spare` has another one at its place.
+    ///
+    /// # Errors
+    ///
+    /// `Memory`, if there is no memory for the copies.
+    pub fn look(
+        &self,
+        alloc: Global,
+        spare: Rows,
+        previous: Option<MessageCopyState>,
+    ) -> Result<Option<(Rows, Messages, MessageCopyState)>, Refusal>
+        ensures ok { IfOk result (λ seen. seen ≡ snapshot_of self.now previous) }
+        ensures reason { IsOkUnless result Refusal.Memory }
+    {
         if self.root().is_err() {
             return Ok(None);
         }
-        let rows = self.rows(alloc)?;
+        let rows = self.rows_reusing(spare)?;
         let (messages, state) = self.new_messages(alloc, previous)?;
         Ok(Some((rows, messages, state)))
     }

@@ -339,7 +339,21 @@ impl<C: Copy> TreeCore<C> {
         ensures each { IfOk result (λ rows. ListsEachOnce self.now rows) }
         ensures reason { IsOkUnless result Refusal.Memory }
     {
-        let rows = rows_of_tasks(alloc, &self.tasks, counters)?;
+        self.rows_reusing(counters, Rows::new(Vec::new(alloc)))
+    }
+
+    /// Returns the rows as `rows` does, in the memory of `spare`, whose contents don't matter. A
+    /// name is copied only if `spare` has another one at its place.
+    ///
+    /// # Errors
+    ///
+    /// `Memory`, if there is no memory for the rows.
+    pub fn rows_reusing<N: Counters<C>>(&self, counters: &N, spare: Rows) -> Result<Rows, Refusal>
+        ensures shows { IfOk result (λ rows. RowsShow (N.shows counters.now) self.now rows) }
+        ensures each { IfOk result (λ rows. ListsEachOnce self.now rows) }
+        ensures reason { IsOkUnless result Refusal.Memory }
+    {
+        let rows = rows_of_tasks(&self.tasks, counters, spare.into_vec())?;
         Ok(Rows::new(rows))
     }
 }
@@ -376,19 +390,46 @@ fn row_of_task<C: Copy, N: Counters<C>>(
     })
 }
 
-/// Returns the rows of the tasks, in the order of the map.
+/// Makes a row that of a task. The name is copied only if it differs.
+fn update_row<C: Copy, N: Counters<C>>(
+    row: &mut Row,
+    key: Key,
+    task: &Task<C>,
+    counters: &N,
+) -> Result<(), AllocError>
+    ensures { OnOk result
+        (RowShows (N.shows counters.now) (pair_of (key, task.now)) (row_of row.new)) }
+{
+    if row.name != task.name {
+        row.name = task.name.clone()?;
+    }
+    row.key = key;
+    row.id = task.id;
+    row.progress = value_of(&task.progress, counters);
+    Ok(())
+}
+
+/// Returns the rows of the tasks, in the order of the map: `rows` with each row updated to that of
+/// the task at its place, and rows added or removed at the end.
 fn rows_of_tasks<C: Copy, N: Counters<C>>(
-    alloc: Global,
     tasks: &BTreeMap<Key, Task<C>>,
     counters: &N,
+    mut rows: Vec<Row>,
 ) -> Result<Vec<Row>, AllocError>
     ensures rows { IfOk result (λ rows.
         RowsShowTasks (N.shows counters.now) tasks.now.entries rows.items) }
     ensures ordered { IsOrdered path_cmp tasks.now }
 {
-    let mut rows = Vec::with_capacity(alloc, tasks.len())?;
+    rows.reserve(tasks.len().saturating_sub(rows.len()))?;
+    let mut updated = 0;
     for (key, task) in tasks.iter() {
-        rows.push(row_of_task(*key, task, counters)?)?;
+        if updated < rows.len() {
+            update_row(&mut rows[updated], *key, task, counters)?;
+        } else {
+            rows.push(row_of_task(*key, task, counters)?)?;
+        }
+        updated += 1;
     }
+    rows.truncate(updated);
     Ok(rows)
 }

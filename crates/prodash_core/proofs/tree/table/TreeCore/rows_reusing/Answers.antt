@@ -1,6 +1,6 @@
 use Rattle.prodash_base.specs.Rows.{rows_of}
 use Rattle.prodash_core.proofs.TableRows.{rows_in_order}
-use Rattle.prodash_core.proofs.tree.table.TreeCore.rows.Goals as goal
+use Rattle.prodash_core.proofs.tree.table.TreeCore.rows_reusing.Goals as goal
 
 pub returns-clause-shows : goal.returns-clause-shows
 returns-clause-shows g c =
