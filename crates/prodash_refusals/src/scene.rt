@@ -1,8 +1,8 @@
 //! A tree that is made up: it has a row, which changes from turn to turn, and a message of each turn.
 ghost use Rattle.std.specs.Prelude.{IsOkUnless};
 
-use prodash::messages::{Message, MessageCopyState, MessageLevel};
-use prodash::progress::{Key, Row, State, UNKNOWN, Value};
+use prodash::messages::{Message, MessageCopyState, MessageLevel, Messages};
+use prodash::progress::{Key, Row, Rows, State, UNKNOWN, Value};
 use prodash::unit::display::Mode;
 use prodash::unit::label_and_mode;
 use prodash::{Refusal, Root, Text, WeakRoot};
@@ -93,18 +93,17 @@ impl Root for Scene {
         Ok(MessageCopyState::new(self.turn.wrapping_add(1)))
     }
 
-    fn snapshot_and_new_messages(
+    fn look(
         &self,
         alloc: Global,
-        rows: &mut Vec<Row>,
-        messages: &mut Vec<Message>,
+        _spare: Rows,
         previous: Option<MessageCopyState>,
-    ) -> Result<MessageCopyState, Refusal> {
-        let mut list = Vec::new(alloc);
-        list.push(self.row(alloc)?)?;
-        *messages = self.messages(alloc, previous)?;
-        *rows = list;
-        Ok(MessageCopyState::new(self.turn.wrapping_add(1)))
+    ) -> Result<(Rows, Messages, MessageCopyState), Refusal> {
+        let mut rows = Vec::new(alloc);
+        rows.push(self.row(alloc)?)?;
+        let messages = Messages::new(self.messages(alloc, previous)?);
+        let state = MessageCopyState::new(self.turn.wrapping_add(1));
+        Ok((Rows::new(rows), messages, state))
     }
 
     fn downgrade(&self) -> Result<WeakScene, Refusal> {

@@ -6,8 +6,8 @@ use crate::fixtures::{FakeScreen, TASK_FRAME, TERMINAL, assert_same, key_at, row
 use crate::waiting::{
     Collected, Collector, SteppedClock, is_collected_soon, is_set_soon, is_so_soon,
 };
-use prodash::messages::{Message, MessageCopyState};
-use prodash::progress::Row;
+use prodash::messages::{Message, MessageCopyState, Messages};
+use prodash::progress::{Row, Rows};
 use prodash::render::line::draw::Answer;
 use prodash::render::line::engine::{Engine, EngineEvent};
 use prodash::render::line::{JoinHandle, Options, StreamKind, render};
@@ -85,21 +85,19 @@ impl Root for OneTask {
         Ok(MessageCopyState::new(0))
     }
 
-    fn snapshot_and_new_messages(
+    fn look(
         &self,
         alloc: Global,
-        rows: &mut Vec<Row>,
-        messages: &mut Vec<Message>,
+        _spare: Rows,
         _previous: Option<MessageCopyState>,
-    ) -> Result<MessageCopyState, Refusal> {
+    ) -> Result<(Rows, Messages, MessageCopyState), Refusal> {
         if !self.has_memory {
             return Err(Refusal::Memory);
         }
-        let mut list = Vec::new(alloc);
-        list.push(self.row.clone()?)?;
-        *rows = list;
-        *messages = Vec::new(alloc);
-        Ok(MessageCopyState::new(0))
+        let mut rows = Vec::new(alloc);
+        rows.push(self.row.clone()?)?;
+        let messages = Messages::new(Vec::new(alloc));
+        Ok((Rows::new(rows), messages, MessageCopyState::new(0)))
     }
 
     fn downgrade(&self) -> Result<WeakTask, Refusal> {

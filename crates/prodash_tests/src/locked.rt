@@ -2,7 +2,7 @@
 use crate::fixtures::{ShortRow, assert_same, key_at, messages as messages_of, rows as rows_of};
 use prodash::Refusal;
 use prodash::messages::{Message, MessageCopyState, MessageLevel};
-use prodash::progress::{Row, UNKNOWN};
+use prodash::progress::{Row, Rows, UNKNOWN};
 use prodash::tree::root::Options;
 use prodash::tree::{Item, Root, Steps};
 use std::alloc::Global;
@@ -279,6 +279,17 @@ fn snapshot_with_new_messages(rt: HostRuntime) -> Result<(), Fail> {
     let sizes = (rows.len(), said.len(), next.pushed());
     assert_same(&rt, sizes, (2, 2, 3), "second look");
     drop(child);
+    let (rows, said, last) = root.look(alloc, Rows::new(rows), Some(next))?;
+    assert_holds(
+        &rt,
+        alloc,
+        &root,
+        rows.as_slice(),
+        said.as_slice(),
+        Some(next),
+    )?;
+    let sizes = (rows.as_slice().len(), said.as_slice().len(), last.pushed());
+    assert_same(&rt, sizes, (1, 0, 3), "look with spare rows");
     Ok(())
 }
 

@@ -1,5 +1,6 @@
 //! Owners of the tree.
 ghost use Rattle.std.specs.Prelude.{◌≡◌, ◌<◌, ◌↔◌, ℕ, [], Err, is_some, IfOk, IfErr, OnOk, OnErr, IsOkUnless};
+ghost use Rattle.std.specs.Map.{keys_of};
 ghost use Rattle.prodash_base.specs.Refusals.{RefusesHandle};
 ghost use Rattle.prodash_base.specs.Adjacency.{IsAscending, paths_of};
 ghost use Rattle.prodash_base.specs.Path.{child, child_limit};
@@ -8,8 +9,8 @@ ghost use Rattle.prodash_base.specs.Rows.{rows_of, unknown_id};
 ghost use Rattle.prodash.specs.Locks.{with_owner};
 ghost use Rattle.prodash.specs.Turns.{Finds, Changes, HasTasks, KeepsAtMost, HasRows, HasMessages, HasNews, HasRowsAndNews, AddsChild, GetsOwner, Upgrades};
 
-use crate::messages::{Message, MessageCopyState};
-use crate::progress::{Id, Row, UNKNOWN};
+use crate::messages::{Message, MessageCopyState, Messages};
+use crate::progress::{Id, Row, Rows, UNKNOWN};
 use crate::tree::item::Item;
 use crate::tree::locked::Locked;
 use crate::tree::turns::TakesTurns;
@@ -206,8 +207,34 @@ impl<R: TakesTurns> Root<R> {
         ensures err_messages { OnErr result (messages.new.items ≡ messages.old.items) }
         ensures reason { IsOkUnless result Refusal.Memory }
     {
+        let spare = Rows::new(Vec::new(alloc));
+        let (seen_rows, seen_messages, state) = self.look(alloc, spare, previous)?;
+        *rows = seen_rows.into_vec();
+        *messages = seen_messages.into_vec();
+        Ok(state)
+    }
+
+    /// Returns the rows, the new messages and the state that `snapshot_and_new_messages` gives. The
+    /// rows are in the memory of `spare`, whose contents don't matter. A name is copied only if
+    /// `spare` has another one at its place: if those are rows of an earlier look, and the tasks are
+    /// still the same, nothing is allocated for them.
+    ///
+    /// # Errors
+    ///
+    /// `Memory`, if there is no memory for the copies.
+    pub fn look(
+        &self,
+        alloc: Global,
+        spare: Rows,
+        previous: Option<MessageCopyState>,
+    ) -> Result<(Rows, Messages, MessageCopyState), Refusal>
+        ensures ok { IfOk result (λ seen.
+            Finds R.found (HasRowsAndNews previous seen.0 seen.1 seen.2)) }
+        ensures ascending { IfOk result (λ seen. IsAscending (keys_of seen.0)) }
+        ensures reason { IsOkUnless result Refusal.Memory }
+    {
         let (tree, _turn) = self.rt.begin_turn(&self.shared);
-        tree.rows_and_new_messages(alloc, rows, messages, previous)
+        tree.look(alloc, spare, previous)
     }
 
     /// Returns an owner of a copy of the tree, with the same tasks, messages and capacity. Its

@@ -4,8 +4,8 @@ ghost use Rattle.std.specs.Prelude.{◌≡◌, is_some};
 ghost use Rattle.prodash.specs.Items.{new_place, next_path, with_child};
 ghost use Rattle.prodash.specs.Turns.{Finds, Changes, HasTasks, KeepsAtMost, HasRows, HasMessages, HasNews, HasRowsAndNews, HasName, HasId, HasBound, HasUnit, Begins, SetsName, SetsBound, Sends, Adds, Upgrades};
 
-use crate::messages::{Message, MessageCopyState, MessageLevel};
-use crate::progress::{Id, Row, Step, StepShared};
+use crate::messages::{Message, MessageCopyState, MessageLevel, Messages};
+use crate::progress::{Id, Row, Rows, Step, StepShared};
 use crate::time::Moment;
 use crate::tree::item::Item;
 use crate::tree::root::{Root, WeakHandle};
@@ -167,6 +167,15 @@ impl<R: TakesTurns> traits::Root for Root<R> {
         previous: Option<MessageCopyState>,
     ) -> Result<MessageCopyState, Refusal> {
         Root::copy_new_messages(self, alloc, out, previous)
+    }
+
+    fn look(
+        &self,
+        alloc: Global,
+        spare: Rows,
+        previous: Option<MessageCopyState>,
+    ) -> Result<(Rows, Messages, MessageCopyState), Refusal> {
+        Root::look(self, alloc, spare, previous)
     }
 
     fn snapshot_and_new_messages(

@@ -1,6 +1,7 @@
 //! The calls on a tree, made by the thread that holds its lock.
 ghost use Rattle.std.specs.Prelude.{◌≡◌, ◌↔◌, ◌-◌, [], Err, IsTrue, OnOk, OnErr, IfOk, IfErr, is_some, option_map, string_bytes, IsOkUnless};
 ghost use Rattle.std.specs.FinMap as finite;
+ghost use Rattle.std.specs.Map.{keys_of};
 ghost use Rattle.prodash_base.specs.Adjacency.{IsAscending, paths_of};
 ghost use Rattle.prodash_base.specs.Path.{child, next_id};
 ghost use Rattle.prodash_base.specs.Refusals.{RefusesMessage};
@@ -9,8 +10,8 @@ ghost use Rattle.prodash_base.specs.Rows.{rows_of};
 ghost use Rattle.prodash_core.specs.Tables.{new_entry};
 ghost use Rattle.prodash.specs.Locks.{NoSlots, SameFreeSlots, Inserts, Removes, ChangesNothing, ListsTasks, name_in, message_from, with_message, begun_at};
 
-use crate::messages::{Message, MessageCopyState, MessageLevel, MessageRingBuffer};
-use crate::progress::{AtomicStep, Id, Key, Row, Step, key};
+use crate::messages::{MessageCopyState, MessageLevel, MessageRingBuffer, Messages};
+use crate::progress::{AtomicStep, Id, Key, Row, Rows, Step, key};
 use crate::time::Moment;
 use crate::tree::locked::Locked;
 use crate::tree::slots::{Slot, Slots};
@@ -131,29 +132,25 @@ impl Locked {
         Ok(())
     }
 
-    /// Replaces the contents of `rows` as the call `rows` does, and those of `messages` with the
-    /// messages that are new since an earlier copy. Returns the state for the next copy.
-    pub(crate) fn rows_and_new_messages(
+    /// Returns the rows, in ascending order of their keys, in the memory of `spare`, whose contents
+    /// don't matter; the messages that are new since an earlier copy; and the state for the next
+    /// copy.
+    pub(crate) fn look(
         &self,
         alloc: Global,
-        rows: &mut Vec<Row>,
-        messages: &mut Vec<Message>,
+        spare: Rows,
         previous: Option<MessageCopyState>,
-    ) -> Result<MessageCopyState, Refusal>
-        ensures ascending { OnOk result (IsAscending (paths_of rows.new.items)) }
-        ensures tasks { OnOk result (ListsTasks self.now (rows_of rows.new.items)) }
-        ensures messages { OnOk result
-            (messages.new.items ≡ messages_since self.now.ring previous) }
-        ensures state { IfOk result (λ state. state ≡ self.now.ring.pushed) }
-        ensures err_rows { OnErr result (rows.new.items ≡ rows.old.items) }
-        ensures err_messages { OnErr result (messages.new.items ≡ messages.old.items) }
+    ) -> Result<(Rows, Messages, MessageCopyState), Refusal>
+        ensures ascending { IfOk result (λ seen. IsAscending (keys_of seen.0)) }
+        ensures tasks { IfOk result (λ seen. ListsTasks self.now seen.0) }
+        ensures messages { IfOk result (λ seen. seen.1 ≡ messages_since self.now.ring previous) }
+        ensures state { IfOk result (λ seen. seen.2 ≡ self.now.ring.pushed) }
         ensures reason { IsOkUnless result Refusal.Memory }
     {
-        let mut snapshot = Vec::new(alloc);
-        self.rows(alloc, &mut snapshot)?;
-        let state = self.ring.copy_new(alloc, messages, previous)?;
-        *rows = snapshot;
-        Ok(state)
+        let rows = self.table.rows_reusing(&self.slots, spare)?;
+        let mut messages = Vec::new(alloc);
+        let state = self.ring.copy_new(alloc, &mut messages, previous)?;
+        Ok((rows, Messages::new(messages), state))
     }
 
     /// Begins the progress of the task at a key, whose item has a slot. Returns whether there is a

@@ -135,21 +135,16 @@ where
 
     /// Looks at the root: returns its rows, its messages that are new since the latest tick, and
     /// the state after them; or `None` if there is no root.
-    fn look(&self) -> Result<Option<(Rows, Messages, MessageCopyState)>, Refusal>
-        ensures ok { IfOk result (EngineSees W.finds W.Root.looks self.now) }
+    fn look(&mut self) -> Result<Option<(Rows, Messages, MessageCopyState)>, Refusal>
+        ensures ok { IfOk result (EngineSees W.finds W.Root.looks self.old) }
+        ensures kept { self.new ≡ self.old }
         ensures reason { IfErr result RefusesHandle }
     {
         let Some(root) = self.weak.upgrade()? else {
             return Ok(None);
         };
-        let mut rows = Vec::new(self.alloc);
-        let mut messages = Vec::new(self.alloc);
-        let state = root.snapshot_and_new_messages(
-            self.alloc,
-            &mut rows,
-            &mut messages,
-            self.renderer.seen(),
-        )?;
-        Ok(Some((Rows::new(rows), Messages::new(messages), state)))
+        let spare = self.renderer.take_spare_rows(self.alloc);
+        let seen = root.look(self.alloc, spare, self.renderer.seen())?;
+        Ok(Some(seen))
     }
 }
