@@ -1,7 +1,6 @@
 use crate::workloads::{add_groups, add_tasks, set_all};
 use prodash::Refusal;
-use prodash::messages::{MessageLevel, Messages};
-use prodash::progress::Rows;
+use prodash::messages::MessageLevel;
 use prodash::render::line::draw::{self, Input, OverWrite};
 use prodash::tree::{Item, Root};
 use prodash::unit::display::Mode;
@@ -133,12 +132,12 @@ fn draw_frame<R: Wait + Clone + Drop>(
     state: &mut draw::State,
     n: u64,
 ) -> Result<(), Refusal> {
-    let (mut rows, mut messages) = (Vec::new(alloc), Vec::new(alloc));
-    let seen = root.snapshot_and_new_messages(alloc, &mut rows, &mut messages, state.seen())?;
+    let spare = state.take_spare_rows(alloc);
+    let seen = root.look(alloc, spare, state.seen())?;
     let input = Input::Tick {
         at: n.saturating_mul(PERIOD),
         show: true,
-        seen: Some((Rows::new(rows), Messages::new(messages), seen)),
+        seen: Some(seen),
     };
     draw::all(alloc, &mut OverWrite::new(io::sink()), state, input)?;
     Ok(())
