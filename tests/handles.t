@@ -58,6 +58,10 @@ the place of the first.
    second
    last
 
+The word of a dropped item may name another one.
+
+  $ printf 'add @a 0 a\ndrop @a\nadd @a 0 a\n' | prodash-live --strict
+
 The root is dropped once, and has no children from then on.
 
   $ printf 'add 0 a\ndroproot\n' | prodash-live
