@@ -156,7 +156,7 @@ impl Both {
 /// How many calls are made, and after how many both list their rows.
 const CALLS: u64 = 70_000;
 
-const LISTED: u64 = 500;
+const LISTED: u64 = 7000;
 
 #[test]
 fn both_tables_have_the_same_rows_after_70000_calls(rt: HostRuntime) -> Result<(), Fail> {
@@ -170,7 +170,7 @@ fn both_tables_have_the_same_rows_after_70000_calls(rt: HostRuntime) -> Result<(
         number: FIRST,
     };
     let mut word: u64 = 1;
-    for n in 0..CALLS {
+    for n in 1..=CALLS {
         word = word
             .wrapping_mul(6364136223846793005)
             .wrapping_add(1442695040888963407);
