@@ -1,5 +1,5 @@
 -- The order of paths is that of their words, and of their lengths if all words are the same.
-use Rattle.std.proofs.Common.{◌≡◌, ℕ, zero, suc, ◌+◌, ◌<◌, ◌≤◌, [], ◌∷◌, length, refl, sym, ◌∙◌, ap, arith, inl, inr}
+use Rattle.std.proofs.Common.{◌≡◌, ◌≢◌, ℕ, zero, suc, ◌+◌, ◌<◌, ◌≤◌, [], ◌∷◌, length, refl, sym, ◌∙◌, ap, arith, inl, inr}
 use Rattle.std.proofs.lemmas.Bool.{cases_lt}
 use Rattle.std.proofs.lemmas.Cmp.{ranked, by_ranked}
 use Rattle.std.proofs.lemmas.List.{get_or_past}
@@ -89,7 +89,7 @@ number_bound p h i = elim (cases_lt i (length p)) [
   | inr ge ↦ let e : number_at p i ≡ 0 = get_or_past p i 0 ge in omega arith
 ]
 
-pub paths_by_words : (p q : Path) → IsPath p → IsPath q
+paths_by_words : (p q : Path) → IsPath p → IsPath q
     → ordering_then (ordering_then (ordering_then (nat_cmp (word_at p 0) (word_at q 0)) (nat_cmp (word_at p 2) (word_at q 2))) (nat_cmp (word_at p 4) (word_at q 4))) (nat_cmp (length p) (length q)) ≡ path_cmp p q
 paths_by_words p q hp hq =
     let halves = λ (i : ℕ). words_by_halves (number_at p i) (number_at p (i + 1)) (number_at q i) (number_at q (i + 1)) (number_bound p hp (i + 1)) (number_bound q hq (i + 1)) in
@@ -102,3 +102,33 @@ paths_by_words p q hp hq =
     ∙ ap (λ t. ordering_then (o 0) (ordering_then (o 1) t)) (then_assoc (o 2) (o 3) (ordering_then (ordering_then (o 4) (o 5)) last))
     ∙ ap (λ t. ordering_then (o 0) (ordering_then (o 1) (ordering_then (o 2) (ordering_then (o 3) t)))) (then_assoc (o 4) (o 5) last)
     ∙ paths_by_numbers 6 p q hp.levels hq.levels
+
+-- the first words decide if they aren't the same
+decided : (o : Ordering) → o ≢ Equal → (later : Ordering) → o ≡ ordering_then o later
+decided Less h later = refl
+decided Equal h later = absurd (h refl)
+decided Greater h later = refl
+
+by_first_word : (p q : Path) → IsPath p → IsPath q → (o : Ordering) → o ≡ nat_cmp (word_at p 0) (word_at q 0) → o ≢ Equal → o ≡ path_cmp p q
+by_first_word p q hp hq o is h =
+    let second = nat_cmp (word_at p 2) (word_at q 2) in
+    let third = nat_cmp (word_at p 4) (word_at q 4) in
+    let last = nat_cmp (length p) (length q) in
+    decided o h second
+    ∙ decided (ordering_then o second) (λ e. h (decided o h second ∙ e)) third
+    ∙ decided (ordering_then (ordering_then o second) third) (λ e. h (decided o h second ∙ decided (ordering_then o second) (λ f. h (decided o h second ∙ f)) third ∙ e)) last
+    ∙ ap (λ first. ordering_then (ordering_then (ordering_then first second) third) last) is
+    ∙ paths_by_words p q hp hq
+
+pub less_by_first_word : (p q : Path) → IsPath p → IsPath q → word_at p 0 < word_at q 0 → Less ≡ path_cmp p q
+less_by_first_word p q hp hq h = by_first_word p q hp hq Less (sym (less _ _ h)) (λ e. cc)
+
+pub greater_by_first_word : (p q : Path) → IsPath p → IsPath q → word_at q 0 < word_at p 0 → Greater ≡ path_cmp p q
+greater_by_first_word p q hp hq h = by_first_word p q hp hq Greater (sym (greater _ _ h)) (λ e. cc)
+
+-- the later words decide if the first ones are the same
+pub paths_by_later_words : (p q : Path) → IsPath p → IsPath q → word_at p 0 ≡ word_at q 0
+    → ordering_then (ordering_then (nat_cmp (word_at p 2) (word_at q 2)) (nat_cmp (word_at p 4) (word_at q 4))) (nat_cmp (length p) (length q)) ≡ path_cmp p q
+paths_by_later_words p q hp hq same =
+    ap (λ first. ordering_then (ordering_then (ordering_then first (nat_cmp (word_at p 2) (word_at q 2))) (nat_cmp (word_at p 4) (word_at q 4))) (nat_cmp (length p) (length q))) (sym (equal _ _ same))
+    ∙ paths_by_words p q hp hq

@@ -120,16 +120,35 @@ impl Key {
         &self.numbers[..usize::from(self.level)]
     }
 
-    /// Returns the key's six numbers in words of two, zeros past its level, and its level.
-    fn words(&self) -> (u64, u64, u64, Level)
-        ensures first { result.0 ≡ word_at self.now 0 }
-        ensures second { result.1 ≡ word_at self.now 2 }
-        ensures third { result.2 ≡ word_at self.now 4 }
-        ensures level { result.3 ≡ length self.now }
+    /// Returns the key's first two numbers in a word, zeros past its level.
+    #[inline]
+    fn first_word(&self) -> u64
+        ensures value { result ≡ word_at self.now 0 }
         ensures path { IsPath self.now }
     {
-        let [a, b, c, d, e, f] = self.numbers;
-        (word_of(a, b), word_of(c, d), word_of(e, f), self.level)
+        let [a, b, _, _, _, _] = self.numbers;
+        word_of(a, b)
+    }
+
+    /// Returns the key's last four numbers in words of two, zeros past its level, and its level.
+    #[inline]
+    fn later_words(&self) -> (u64, u64, Level)
+        ensures second { result.0 ≡ word_at self.now 2 }
+        ensures third { result.1 ≡ word_at self.now 4 }
+        ensures level { result.2 ≡ length self.now }
+        ensures path { IsPath self.now }
+    {
+        let [_, _, c, d, e, f] = self.numbers;
+        (word_of(c, d), word_of(e, f), self.level)
+    }
+
+    /// Compares two keys that have the same first word.
+    #[inline(never)]
+    fn cmp_past_first_word(&self, other: &Key) -> Ordering
+        requires { word_at self.now 0 ≡ word_at other.now 0 }
+        ensures { result ≡ path_cmp self.now other.now }
+    {
+        self.later_words().cmp(&other.later_words())
     }
 
     /// Compares the first `level` numbers of both keys, or all numbers of one that has fewer.
@@ -149,6 +168,7 @@ impl Key {
 }
 
 /// Returns the word that has `high` in its higher half and `low` in its lower one.
+#[inline]
 fn word_of(high: u32, low: u32) -> u64
     ensures { result ≡ word_of high low }
 {
@@ -179,8 +199,16 @@ impl Ord for Key {
 
     /// Compares the numbers two by two. A number past a key's level counts as 0, so that the
     /// levels decide if all are the same.
+    #[inline]
     fn cmp(&self, other: &Key) -> Ordering {
-        self.words().cmp(&other.words())
+        let (own, others) = (self.first_word(), other.first_word());
+        if own < others {
+            Ordering::Less
+        } else if own > others {
+            Ordering::Greater
+        } else {
+            self.cmp_past_first_word(other)
+        }
     }
 }
 
