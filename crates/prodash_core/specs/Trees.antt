@@ -244,3 +244,8 @@ PlaysBy (OnRenderer input) t result t' = ⊥
 -- what an event that is no frame returns, and the tree that it leaves
 abbrev pub Plays : Tree → Event → Result Reply Refusal → Tree → Type 0
 Plays t e result t' = PlaysBy (play t e) t result t'
+
+-- what an event returns whose reply is `Done`, if it isn't refused
+abbrev pub done_if_ok : {A : Type 0} → Result A Refusal → Result Reply Refusal
+done_if_ok (Ok x) = Ok replies.Done
+done_if_ok (Err refusal) = Err refusal

@@ -1,6 +1,8 @@
 ghost use Rattle.std.specs.Prelude.{◌≡◌, IfOk, IsOkUnless};
+ghost use Rattle.std.specs.Result.{MatchResult};
 ghost use Rattle.prodash_core.specs.Sessions.{new_session, RendersFrame, Steps};
 ghost use Rattle.prodash_core.specs.declared.tree.event.Event.TheVariants.{Tick};
+ghost use Rattle.prodash_core.specs.declared.tree.event.Reply.TheVariants.{Done, Refused};
 
 use crate::tree::event::{Event, Reply};
 use crate::tree::options::SessionOptions;
@@ -77,6 +79,20 @@ impl Session {
             self.new (S.state screen.new) }
     {
         match event {
+            Event::Set { item, step } => done(self.tree.set(*item, *step)),
+            Event::IncBy { item, step } => done(self.tree.inc_by(*item, *step)),
+            _ => self.apply_any(alloc, event, screen),
+        }
+    }
+
+    /// Does what `apply` does. Its large locals are set up at each call, so `apply` calls it only
+    /// for events that take longer than that.
+    #[inline(never)]
+    fn apply_any<S: Screen>(&mut self, alloc: Global, event: &Event, screen: &mut S) -> Reply
+        ensures { Steps self.old (S.state screen.old) event.now result
+            self.new (S.state screen.new) }
+    {
+        match event {
             Event::Tick { at, show } => self.tick(alloc, *at, *show, screen),
             Event::Resize {
                 at,
@@ -122,5 +138,15 @@ impl Session {
             Ok(Answer::Ended) => Reply::Ended,
             Err(refusal) => Reply::Refused(refusal),
         }
+    }
+}
+
+/// Returns the reply `Done`, or the refusal.
+fn done(applied: Result<(), Refusal>) -> Reply
+    ensures { MatchResult applied (λ _. result ≡ Done) (λ refusal. result ≡ Refused refusal) }
+{
+    match applied {
+        Ok(()) => Reply::Done,
+        Err(refusal) => Reply::Refused(refusal),
     }
 }

@@ -2,7 +2,7 @@ ghost use Rattle.std.specs.Prelude.{◌≡◌, IfOk, false, IsOkUnless};
 ghost use Rattle.prodash_base.specs.Rings.{messages_since};
 ghost use Rattle.prodash_base.specs.Rows.{phase_of};
 ghost use Rattle.prodash_core.specs.Tables.{ListsEachOnce};
-ghost use Rattle.prodash_core.specs.Trees.{Tree, new_tree, slot_at, item_at, or_gone, tree_rows, snapshot_of, set_phase, is_frame, Returns, Plays};
+ghost use Rattle.prodash_core.specs.Trees.{Tree, new_tree, slot_at, item_at, or_gone, tree_rows, snapshot_of, set_phase, is_frame, Returns, Plays, done_if_ok};
 ghost use Rattle.prodash_core.specs.Refusals.{refusal_of, IsRefusalOfMessage};
 
 use crate::tree::event::{Event, Handle, Reply};
@@ -98,8 +98,14 @@ impl TreeState {
             Event::Init { item, max, unit } => self.init(*item, *max, *unit),
             Event::SetName { item, name } => self.set_name(alloc, *item, name.as_str()),
             Event::SetMax { item, max } => self.set_max(*item, *max),
-            Event::Set { item, step } => self.set(*item, *step),
-            Event::IncBy { item, step } => self.inc_by(*item, *step),
+            Event::Set { item, step } => {
+                self.set(*item, *step)?;
+                Ok(Reply::Done)
+            }
+            Event::IncBy { item, step } => {
+                self.inc_by(*item, *step)?;
+                Ok(Reply::Done)
+            }
             Event::Blocked { item, reason, eta } => {
                 self.set_state(*item, State::Blocked(reason, *eta))
             }
@@ -125,6 +131,24 @@ impl TreeState {
             Event::DropRoot => self.drop_root(),
             Event::Tick { .. } | Event::Resize { .. } | Event::Quit { .. } => unreachable!(),
         }
+    }
+
+    /// Applies a `Set`, whose reply is `Done`, as `apply` does.
+    pub(crate) fn set(&mut self, item: Handle, step: Step) -> Result<(), Refusal>
+        ensures { Plays self.old (Event.Set item step) (done_if_ok result) self.new }
+    {
+        let slot = self.item(item)?;
+        self.slots.put(item, slot.with_counter(step));
+        Ok(())
+    }
+
+    /// Applies an `IncBy`, whose reply is `Done`, as `apply` does.
+    pub(crate) fn inc_by(&mut self, item: Handle, step: Step) -> Result<(), Refusal>
+        ensures { Plays self.old (Event.IncBy item step) (done_if_ok result) self.new }
+    {
+        let slot = self.item(item)?;
+        self.slots.put(item, slot.with_steps(step));
+        Ok(())
     }
 
     /// Returns the refusal of an event that is no frame, if `apply` refuses it however much memory
@@ -335,22 +359,6 @@ impl TreeState {
     {
         let slot = self.item(item)?;
         Ok(Reply::Bound(self.table.set_max(slot.key, max)))
-    }
-
-    fn set(&mut self, item: Handle, step: Step) -> Result<Reply, Refusal>
-        ensures { Plays self.old (Event.Set item step) result self.new }
-    {
-        let slot = self.item(item)?;
-        self.slots.put(item, slot.with_counter(step));
-        Ok(Reply::Done)
-    }
-
-    fn inc_by(&mut self, item: Handle, step: Step) -> Result<Reply, Refusal>
-        ensures { Plays self.old (Event.IncBy item step) result self.new }
-    {
-        let slot = self.item(item)?;
-        self.slots.put(item, slot.with_steps(step));
-        Ok(Reply::Done)
     }
 
     fn set_state(&mut self, item: Handle, state: State) -> Result<Reply, Refusal>

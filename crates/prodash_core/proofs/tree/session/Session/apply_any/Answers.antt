@@ -1,5 +1,5 @@
 use Rattle.prodash_core.proofs.TreeSteps.{told, plays_step}
-use Rattle.prodash_core.proofs.tree.session.Session.apply.Goals as goal
+use Rattle.prodash_core.proofs.tree.session.Session.apply_any.Goals as goal
 
 pub returns-in_default : goal.returns-in_default
 returns-in_default g c =
