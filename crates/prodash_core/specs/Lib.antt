@@ -7,3 +7,4 @@ pub mod Runs
 pub mod Dashboard
 pub mod Prefixes
 pub mod Traits
+pub mod plumbing

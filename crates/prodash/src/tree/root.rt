@@ -136,7 +136,8 @@ impl<R: TakesTurns> Root<R> {
     }
 
     /// Replaces the contents of `out` with the rows, in ascending order of their keys, each key
-    /// once.
+    /// once. A name is copied only if `out` has another one at its place: if it has the rows of an
+    /// earlier snapshot, and the tasks are still the same, nothing is allocated.
     ///
     /// # Errors
     ///
@@ -207,11 +208,27 @@ impl<R: TakesTurns> Root<R> {
         ensures err_messages { OnErr result (messages.new.items ≡ messages.old.items) }
         ensures reason { IsOkUnless result Refusal.Memory }
     {
-        let spare = Rows::new(Vec::new(alloc));
-        let (seen_rows, seen_messages, state) = self.look(alloc, spare, previous)?;
-        *rows = seen_rows.into_vec();
-        *messages = seen_messages.into_vec();
+        let (news, state) = self.rows_and_news(alloc, rows, previous)?;
+        *messages = news.into_vec();
         Ok(state)
+    }
+
+    /// Replaces the contents of `rows` with the rows, and returns the new messages and the state
+    /// for the next copy.
+    fn rows_and_news(
+        &self,
+        alloc: Global,
+        rows: &mut Vec<Row>,
+        previous: Option<MessageCopyState>,
+    ) -> Result<(Messages, MessageCopyState), Refusal>
+        ensures ok { IfOk result (λ news. Finds R.found
+            (HasRowsAndNews previous (rows_of rows.new.items) news.0 news.1)) }
+        ensures ascending { OnOk result (IsAscending (paths_of rows.new.items)) }
+        ensures err { OnErr result (rows.new.items ≡ rows.old.items) }
+        ensures reason { IsOkUnless result Refusal.Memory }
+    {
+        let (tree, _turn) = self.rt.begin_turn(&self.shared);
+        tree.rows_and_news(alloc, rows, previous)
     }
 
     /// Returns the rows, the new messages and the state that `snapshot_and_new_messages` gives. The

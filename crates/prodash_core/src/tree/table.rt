@@ -1,16 +1,17 @@
-ghost use Rattle.std.specs.Prelude.{◌≡◌, ◌≢◌, ℕ, OnOk, OnErr, IfOk, Some, None, nat_eq, is_some, IsOkUnless};
+ghost use Rattle.std.specs.Prelude.{◌≡◌, ◌≢◌, ◌≤◌, ◌++◌, ℕ, List, length, vec_capacity, OnOk, OnErr, IfOk, Some, None, nat_eq, is_some, IsOkUnless};
 ghost use Rattle.std.specs.FinMap as finite;
 ghost use Rattle.std.specs.Option.{option_map};
 ghost use Rattle.std.specs.BTreeMap.{IsOrdered};
 ghost use Rattle.prodash_base.specs.Path.{Path, path_cmp};
-ghost use Rattle.prodash_base.specs.Rows.{phase_of, row_of};
+ghost use Rattle.prodash_base.specs.Rows.{phase_of, row_of, rows_of};
+ghost use Rattle.prodash_core.specs.plumbing.MissingNames.{missing_name, missing_names};
 ghost use Rattle.prodash_core.specs.Tables.{new_entry, change_at, with_name, with_progress, with_bound, with_phase, name_at, id_of, bound_of, unit_of, counted_of, ValueShows, RowShows, RowsShow, RowsShowTasks, ListsEachOnce, pair_of, entry_of};
 
 use prodash_base::progress::{Id, Key, Row, Rows, State, Step, UNKNOWN, Value};
 use prodash_base::unit::Unit;
 use prodash_base::{Refusal, Text};
 use std::alloc::{AllocError, Global};
-use std::collections::BTreeMap;
+use std::collections::{BTreeMap, VecDeque};
 use std::marker::Model;
 
 /// The progress of a task. A `C` names its counter.
@@ -356,6 +357,28 @@ impl<C: Copy> TreeCore<C> {
         let rows = rows_of_tasks(&self.tasks, counters, spare.into_vec())?;
         Ok(Rows::new(rows))
     }
+
+    /// Replaces the contents of `out` with the rows that `rows` returns. A name is copied only if
+    /// `out` has another one at its place.
+    ///
+    /// # Errors
+    ///
+    /// `Memory`, if there is no memory for the rows; then `out` stays as it was.
+    pub fn refill<N: Counters<C>>(
+        &self,
+        alloc: Global,
+        counters: &N,
+        out: &mut Vec<Row>,
+    ) -> Result<(), Refusal>
+        ensures shows { OnOk result
+            (RowsShow (N.shows counters.now) self.now (rows_of out.new.items)) }
+        ensures each { OnOk result (ListsEachOnce self.now (rows_of out.new.items)) }
+        ensures err { OnErr result (out.new.items ≡ out.old.items) }
+        ensures reason { IsOkUnless result Refusal.Memory }
+    {
+        refill_rows(alloc, &self.tasks, counters, out)?;
+        Ok(())
+    }
 }
 
 /// Returns the value of a progress.
@@ -390,6 +413,16 @@ fn row_of_task<C: Copy, N: Counters<C>>(
     })
 }
 
+/// Makes a row that of a task, but for its name.
+fn update_below_name<C: Copy, N: Counters<C>>(row: &mut Row, key: Key, task: &Task<C>, counters: &N)
+    ensures { row.old.name ≡ task.now.name
+        → RowShows (N.shows counters.now) (pair_of (key, task.now)) (row_of row.new) }
+{
+    row.key = key;
+    row.id = task.id;
+    row.progress = value_of(&task.progress, counters);
+}
+
 /// Makes a row that of a task. The name is copied only if it differs.
 fn update_row<C: Copy, N: Counters<C>>(
     row: &mut Row,
@@ -403,9 +436,7 @@ fn update_row<C: Copy, N: Counters<C>>(
     if row.name != task.name {
         row.name = task.name.clone()?;
     }
-    row.key = key;
-    row.id = task.id;
-    row.progress = value_of(&task.progress, counters);
+    update_below_name(row, key, task, counters);
     Ok(())
 }
 
@@ -432,4 +463,91 @@ fn rows_of_tasks<C: Copy, N: Counters<C>>(
     }
     rows.truncate(updated);
     Ok(rows)
+}
+
+/// Replaces rows with those of the tasks, in the order of the map. If out of memory, they stay as
+/// they were.
+fn refill_rows<C: Copy, N: Counters<C>>(
+    alloc: Global,
+    tasks: &BTreeMap<Key, Task<C>>,
+    counters: &N,
+    rows: &mut Vec<Row>,
+) -> Result<(), AllocError>
+    ensures rows { OnOk result
+        (RowsShowTasks (N.shows counters.now) tasks.now.entries rows.new.items) }
+    ensures ordered { OnOk result (IsOrdered path_cmp tasks.now) }
+    ensures err { OnErr result (rows.new.items ≡ rows.old.items) }
+{
+    let names = missing_names(alloc, tasks, rows)?;
+    rows.reserve(tasks.len().saturating_sub(rows.len()))?;
+    put_rows(tasks, counters, names, rows);
+    Ok(())
+}
+
+/// Returns copies of the names of tasks that rows lack at their places, in the order of the map.
+fn missing_names<C: Copy>(
+    alloc: Global,
+    tasks: &BTreeMap<Key, Task<C>>,
+    rows: &[Row],
+) -> Result<VecDeque<Text>, AllocError>
+    ensures { IfOk result (λ names. names.items ≡ missing_names tasks.now.entries rows.now) }
+{
+    let mut names = VecDeque::new(alloc);
+    let mut left = rows;
+    for (_, task) in tasks.iter() {
+        match left.split_first() {
+            Some((row, rest)) => {
+                if row.name != task.name {
+                    names.push_back(task.name.clone()?)?;
+                }
+                left = rest;
+            }
+            None => names.push_back(task.name.clone()?)?,
+        }
+    }
+    Ok(names)
+}
+
+/// Replaces rows with those of the tasks, in the order of the map, with the names that they lack.
+fn put_rows<C: Copy, N: Counters<C>>(
+    tasks: &BTreeMap<Key, Task<C>>,
+    counters: &N,
+    mut names: VecDeque<Text>,
+    rows: &mut Vec<Row>,
+)
+    requires names { names.items ≡ missing_names tasks.now.entries rows.old.items }
+    requires room { length tasks.now.entries ≤ vec_capacity rows.old }
+    ensures rows { RowsShowTasks (N.shows counters.now) tasks.now.entries rows.new.items }
+    ensures ordered { IsOrdered path_cmp tasks.now }
+{
+    let mut put = 0;
+    for (key, task) in tasks.iter() {
+        if put < rows.len() {
+            let row = &mut rows[put];
+            put_name(row, task, &mut names);
+            update_below_name(row, *key, task, counters);
+        } else if let Some(name) = names.pop_front() {
+            rows.push_reserved(Row {
+                key: *key,
+                name,
+                id: task.id,
+                progress: value_of(&task.progress, counters),
+            });
+        }
+        put += 1;
+    }
+    rows.truncate(put);
+}
+
+/// Makes the name of a row that of a task, by the first of the names if the row lacks it.
+fn put_name<C>(row: &mut Row, task: &Task<C>, names: &mut VecDeque<Text>)
+    ensures { (more : List (List ℕ))
+        → names.old.items ≡ missing_name row.old.name task.now.name ++ more
+        → (names.new.items ≡ more) × (row.new.name ≡ task.now.name) }
+{
+    if !names.is_empty() && row.name != task.name {
+        if let Some(name) = names.pop_front() {
+            row.name = name;
+        }
+    }
 }

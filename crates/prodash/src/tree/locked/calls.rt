@@ -121,15 +121,36 @@ impl Locked {
         self.owners = self.owners.saturating_sub(1);
     }
 
-    /// Replaces the contents of `out` with the rows, in ascending order of their keys.
+    /// Replaces the contents of `out` with the rows, in ascending order of their keys. A name is
+    /// copied only if `out` has another one at its place.
     pub(crate) fn rows(&self, alloc: Global, out: &mut Vec<Row>) -> Result<(), Refusal>
         ensures ascending { OnOk result (IsAscending (paths_of out.new.items)) }
         ensures tasks { OnOk result (ListsTasks self.now (rows_of out.new.items)) }
         ensures err { OnErr result (out.new.items ≡ out.old.items) }
         ensures reason { IsOkUnless result Refusal.Memory }
     {
-        *out = self.table.rows(alloc, &self.slots)?.into_vec();
+        self.table.refill(alloc, &self.slots, out)?;
         Ok(())
+    }
+
+    /// Does what `rows` does, and returns the messages that are new since an earlier copy and the
+    /// state for the next copy.
+    pub(crate) fn rows_and_news(
+        &self,
+        alloc: Global,
+        out: &mut Vec<Row>,
+        previous: Option<MessageCopyState>,
+    ) -> Result<(Messages, MessageCopyState), Refusal>
+        ensures ascending { OnOk result (IsAscending (paths_of out.new.items)) }
+        ensures tasks { OnOk result (ListsTasks self.now (rows_of out.new.items)) }
+        ensures messages { IfOk result (λ news. news.0 ≡ messages_since self.now.ring previous) }
+        ensures state { IfOk result (λ news. news.1 ≡ self.now.ring.pushed) }
+        ensures err { OnErr result (out.new.items ≡ out.old.items) }
+        ensures reason { IsOkUnless result Refusal.Memory }
+    {
+        let news = self.news(alloc, previous)?;
+        self.rows(alloc, out)?;
+        Ok(news)
     }
 
     /// Returns the rows, in ascending order of their keys, in the memory of `spare`, whose contents
@@ -148,9 +169,23 @@ impl Locked {
         ensures reason { IsOkUnless result Refusal.Memory }
     {
         let rows = self.table.rows_reusing(&self.slots, spare)?;
+        let (messages, state) = self.news(alloc, previous)?;
+        Ok((rows, messages, state))
+    }
+
+    /// Returns the messages that are new since an earlier copy, and the state for the next copy.
+    fn news(
+        &self,
+        alloc: Global,
+        previous: Option<MessageCopyState>,
+    ) -> Result<(Messages, MessageCopyState), Refusal>
+        ensures messages { IfOk result (λ news. news.0 ≡ messages_since self.now.ring previous) }
+        ensures state { IfOk result (λ news. news.1 ≡ self.now.ring.pushed) }
+        ensures reason { IsOkUnless result Refusal.Memory }
+    {
         let mut messages = Vec::new(alloc);
         let state = self.ring.copy_new(alloc, &mut messages, previous)?;
-        Ok((rows, Messages::new(messages), state))
+        Ok((Messages::new(messages), state))
     }
 
     /// Begins the progress of the task at a key, whose item has a slot. Returns whether there is a

@@ -1,8 +1,4 @@
-use Rattle.prodash_core.proofs.AscendingRows.{ascending_list}
 use Rattle.prodash.proofs.tree.root.Root.snapshot_and_new_messages.Goals as goal
 
 pub returns-clause-ok : goal.returns-clause-ok
-returns-clause-ok g c = rw (c.into_vec.ensures, c.into_vec-2.ensures) c.in_ok-seen_rows.ensures.ok
-
-pub returns-clause-ascending : goal.returns-clause-ascending
-returns-clause-ascending g c = ascending_list _ c.into_vec.result.items c.into_vec.ensures c.in_ok-seen_rows.ensures.ascending
+returns-clause-ok g c = rw (c.into_vec.ensures) c.in_ok-news.ensures.ok
