@@ -1,5 +1,5 @@
 -- The tree of tasks, and what an event does to it.
-use Rattle.std.specs.Prelude.{◌≡◌, ℕ, ◌+◌, ◌%◌, ◌^◌, Bool, true, false, nat_eq, List, [], ◌∷◌, ◌++◌, length, Option, Some, None, slice_get, slice_set, if◌then◌else◌, Result, Ok, Err, IsTrue, IsOk}
+use Rattle.std.specs.Prelude.{◌≡◌, ℕ, ◌+◌, ◌%◌, ◌^◌, Bool, true, false, nat_eq, List, [], ◌∷◌, ◌++◌, length, Option, Some, None, slice_get, slice_set, if◌then◌else◌, Result, Ok, Err, IsTrue, IsOk, MatchOption}
 use Rattle.std.specs.FinMap as finite
 use Rattle.prodash_base.specs.Path.{Path, child, next_id}
 use Rattle.prodash_base.specs.Rows.{Phase, PathRow}
@@ -62,6 +62,12 @@ counter_at slots n = counter_of (slice_get slots n)
 -- the rows of the tree: the entries in the order of paths, each counter's number in its place
 abbrev pub tree_rows : Tree → List PathRow
 tree_rows t = rows_at (counter_at t.slots) t.table
+
+-- the slot of a valid handle is changed, and nothing if the handle isn't valid
+abbrev pub SetsSlot : List Slot → ℕ → (Slot → Slot) → Bool → List Slot → Type 0
+SetsSlot slots n f found after =
+    MatchOption (if_valid (slice_get slots n)) ((found ≡ false) × (after ≡ slots))
+    (λ slot. (found ≡ true) × (after ≡ slice_set slots n (f slot)))
 
 -- the slot after it got a child
 abbrev pub with_child : Slot → Slot

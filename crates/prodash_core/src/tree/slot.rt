@@ -1,4 +1,4 @@
-ghost use Rattle.std.specs.Prelude.{◌≡◌, ◌+◌, ◌%◌, ◌^◌, false};
+ghost use Rattle.std.specs.Prelude.{◌≡◌, false};
 
 use prodash_base::progress::{Key, Step, key};
 
@@ -45,16 +45,6 @@ impl Slot {
         ensures { result ≡ record self { counter = counter } }
     {
         Slot { counter, ..self }
-    }
-
-    /// Returns the slot with this many steps added to its counter. The step after 2^64-1 is 0.
-    pub(crate) fn with_steps(self, step: Step) -> Slot
-        ensures { result ≡ record self { counter = (self.counter + step) % 2 ^ 64 } }
-    {
-        Slot {
-            counter: self.counter.wrapping_add(step),
-            ..self
-        }
     }
 
     /// Returns the slot of a handle that is no longer valid.

@@ -1,5 +1,5 @@
-ghost use Rattle.std.specs.Prelude.{◌≡◌, ◌-◌, ◌<◌, [], ◌∷◌, ◌++◌, length, take, slice_get, slice_set, OnOk, OnErr, IfOk};
-ghost use Rattle.prodash_core.specs.Trees.{if_valid, new_slot};
+ghost use Rattle.std.specs.Prelude.{◌≡◌, ◌+◌, ◌-◌, ◌%◌, ◌^◌, ◌<◌, [], ◌∷◌, ◌++◌, length, take, slice_get, slice_set, OnOk, OnErr, IfOk};
+ghost use Rattle.prodash_core.specs.Trees.{if_valid, new_slot, SetsSlot};
 
 use crate::tree::event::Handle;
 use crate::tree::slot::Slot;
@@ -48,6 +48,34 @@ impl Slots {
             Some(slot) if slot.is_valid => Some(*slot),
             _ => None,
         }
+    }
+
+    /// Sets the counter of a handle, and returns whether the handle is valid.
+    pub(crate) fn set_counter(&mut self, handle: Handle, counter: Step) -> bool
+        ensures { SetsSlot self.old handle (λ slot. record slot { counter = counter })
+            result self.new }
+    {
+        match self.slots.get(handle as usize) {
+            Some(slot) if slot.is_valid => {}
+            _ => return false,
+        }
+        self.slots[handle as usize].counter = counter;
+        true
+    }
+
+    /// Adds steps to the counter of a handle, and returns whether the handle is valid. The step
+    /// after 2^64-1 is 0.
+    pub(crate) fn add_steps(&mut self, handle: Handle, step: Step) -> bool
+        ensures { SetsSlot self.old handle
+            (λ slot. record slot { counter = (slot.counter + step) % 2 ^ 64 }) result self.new }
+    {
+        match self.slots.get(handle as usize) {
+            Some(slot) if slot.is_valid => {}
+            _ => return false,
+        }
+        let counter = &mut self.slots[handle as usize].counter;
+        *counter = counter.wrapping_add(step);
+        true
     }
 
     /// Replaces the slot of a handle.

@@ -137,8 +137,9 @@ impl TreeState {
     pub(crate) fn set(&mut self, item: Handle, step: Step) -> Result<(), Refusal>
         ensures { Plays self.old (Event.Set item step) (done_if_ok result) self.new }
     {
-        let slot = self.item(item)?;
-        self.slots.put(item, slot.with_counter(step));
+        if item == 0 || !self.slots.set_counter(item, step) {
+            return Err(Refusal::Gone);
+        }
         Ok(())
     }
 
@@ -146,8 +147,9 @@ impl TreeState {
     pub(crate) fn inc_by(&mut self, item: Handle, step: Step) -> Result<(), Refusal>
         ensures { Plays self.old (Event.IncBy item step) (done_if_ok result) self.new }
     {
-        let slot = self.item(item)?;
-        self.slots.put(item, slot.with_steps(step));
+        if item == 0 || !self.slots.add_steps(item, step) {
+            return Err(Refusal::Gone);
+        }
         Ok(())
     }
 
