@@ -413,6 +413,16 @@ fn row_of_task<C: Copy, N: Counters<C>>(
     })
 }
 
+/// Makes a value that of a progress, without a copy that is made first.
+fn update_value<C: Copy, N: Counters<C>>(value: &mut Value, counted: &Counted<C>, counters: &N)
+    ensures { ValueShows (N.shows counters.now) (Some counted.now) (Some value.new) }
+{
+    value.step = counters.number(counted.counter);
+    value.done_at = counted.done_at;
+    value.unit = counted.unit;
+    value.state = counted.state;
+}
+
 /// Makes a row that of a task, but for its name.
 fn update_below_name<C: Copy, N: Counters<C>>(row: &mut Row, key: Key, task: &Task<C>, counters: &N)
     ensures { row.old.name ≡ task.now.name
@@ -420,6 +430,12 @@ fn update_below_name<C: Copy, N: Counters<C>>(row: &mut Row, key: Key, task: &Ta
 {
     row.key = key;
     row.id = task.id;
+    if let Some(counted) = &task.progress {
+        if let Some(value) = &mut row.progress {
+            update_value(value, counted, counters);
+            return;
+        }
+    }
     row.progress = value_of(&task.progress, counters);
 }
 
