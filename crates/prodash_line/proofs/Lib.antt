@@ -9,6 +9,7 @@ pub mod Columns
 pub mod Coloring
 pub mod StyledLines
 pub mod RowLines
+pub mod RowStarts
 pub mod Observing
 pub mod MessageLines
 pub mod DrawnTexts

@@ -17,7 +17,7 @@ use Rattle.prodash_line.proofs.Cutting.{cut-last, after-last, cut-nil, columns-c
 -- ---- one call
 
 -- one piece more
-appends_piece : (old new : LineWriter) (p : Piece) → new.bytes.items ≡ old.bytes.items ++ line_bytes (styled p.style (written_in old.room p.text) ∷ [])
+appends_piece : (old new : LineWriter) (p : Piece) → new.bytes ≡ old.bytes ++ line_bytes (styled p.style (written_in old.room p.text) ∷ [])
     → new.width ≡ capped (old.width + width_of p) → new.limit ≡ old.limit → new.room ≡ room_after old.room p.text → Appends old (p ∷ []) new
 appends_piece old new p b w l r = record {
   writes = λ limit before line h.
@@ -32,10 +32,10 @@ appends_piece old new p b w l r = record {
       };
 }
 
-pub begins : (limit : Option ℕ) (old new : LineWriter) → new.bytes.items ≡ old.bytes.items → new.width ≡ 0 → new.limit ≡ limit → new.room ≡ room_of limit → Begun limit old [] new
+pub begins : (limit : Option ℕ) (old new : LineWriter) → new.bytes ≡ old.bytes → new.width ≡ 0 → new.limit ≡ limit → new.room ≡ room_of limit → Begun limit old [] new
 begins limit old new b w l r = record {
   writes = record {
-    bytes = b ∙ sym (append-nil old.bytes.items) ∙ ap (λ bs. old.bytes.items ++ bs) (sym (cut-nil limit));
+    bytes = b ∙ sym (append-nil old.bytes) ∙ ap (λ bs. old.bytes ++ bs) (sym (cut-nil limit));
     width = w;
     limit = l;
     room = r;
@@ -55,8 +55,8 @@ same_then h i = record { width = i.width ∙ h.width; limit = i.limit ∙ h.limi
 -- a text behind spaces, of which this many spaces and this prefix are written
 pub appends_indented : (old new : LineWriter) (style : Option Style) (n spaces size width : ℕ) (text prefix o spaced w : List ℕ) → IsUtf8 prefix → n ≤ 65535
     → replicate spaces 32 ++ chars prefix ≡ written_in old.room (replicate n 32 ++ chars text)
-    → size ≡ spaces + length prefix → width ≡ columns_of (piece (chars text) ∷ []) → o ≡ old.bytes.items ++ open_bytes (style_of_length style size)
-    → spaced ≡ o ++ replicate spaces 32 → w ≡ spaced ++ prefix → new.bytes.items ≡ w ++ reset_bytes (style_of_length style size)
+    → size ≡ spaces + length prefix → width ≡ columns_of (piece (chars text) ∷ []) → o ≡ old.bytes ++ open_bytes (style_of_length style size)
+    → spaced ≡ o ++ replicate spaces 32 → w ≡ spaced ++ prefix → new.bytes ≡ w ++ reset_bytes (style_of_length style size)
     → new.width ≡ capped (capped (old.width + n) + width) → new.limit ≡ old.limit → new.room ≡ room_after old.room (replicate n 32 ++ chars text)
     → Appends old (styled style (replicate n 32 ++ chars text) ∷ []) new
 appends_indented old new style n spaces size width text prefix o spaced w u fits is sized own eo s ew en columns limit room =
@@ -68,15 +68,15 @@ appends_indented old new style n spaces size width text prefix o spaced w u fits
     let long : size ≡ length (blanks ++ prefix) = omega (arith, sized, length-append blanks prefix, length-replicate {A = ℕ} spaces 32) in
     let wide : str_width false (replicate n 32 ++ chars text) ≡ n + str_width false (chars text) = width-indented n (chars text) in
     appends_piece old new (styled style (replicate n 32 ++ chars text))
-    (styled_bytes old.bytes.items o w new.bytes.items style (blanks ++ chars prefix) (blanks ++ prefix) size whole long eo (ew ∙ ap (λ t. t ++ prefix) s ∙ append_assoc o blanks prefix) en
-    ∙ ap (λ t. old.bytes.items ++ line_bytes (styled style t ∷ [])) is)
+    (styled_bytes old.bytes o w new.bytes style (blanks ++ chars prefix) (blanks ++ prefix) size whole long eo (ew ∙ ap (λ t. t ++ prefix) s ∙ append_assoc o blanks prefix) en
+    ∙ ap (λ t. old.bytes ++ line_bytes (styled style t ∷ [])) is)
     (omega (arith, columns, own)) limit room
 
 -- a text of printable characters that has been counted, between what begins a style and what ends it
 pub appends_counted : {a b o w d : LineWriter} (style : Option Style) (text : List ℕ) (n count : ℕ) → is_printable text ≡ true → length text ≡ n → Counts a n count b
-    → o.bytes.items ≡ b.bytes.items ++ open_bytes (style_of_length style count) → SameLine b o
-    → w.bytes.items ≡ o.bytes.items ++ take count text → SameLine o w
-    → d.bytes.items ≡ w.bytes.items ++ reset_bytes (style_of_length style count) → SameLine w d → Appends a (styled style text ∷ []) d
+    → o.bytes ≡ b.bytes ++ open_bytes (style_of_length style count) → SameLine b o
+    → w.bytes ≡ o.bytes ++ take count text → SameLine o w
+    → d.bytes ≡ w.bytes ++ reset_bytes (style_of_length style count) → SameLine w d → Appends a (styled style text ∷ []) d
 appends_counted {a} {b} {o} {w} {d} style text n count p size h eo so ew sw ed sd =
     let part = take count text in
     let fits = h.fits text p size in
@@ -84,9 +84,9 @@ appends_counted {a} {b} {o} {w} {d} style text n count p size h eo so ew sw ed s
     let long : count ≡ length part = omega (arith, length-take count text) in
     let wide : str_width false text ≡ length text = width-printable text p in
     appends_piece a d (styled style text)
-    (styled_bytes a.bytes.items o.bytes.items w.bytes.items d.bytes.items style part part count (line_bytes-printable part (printable-take count text p)) long
+    (styled_bytes a.bytes o.bytes w.bytes d.bytes style part part count (line_bytes-printable part (printable-take count text p)) long
     (eo ∙ ap (λ t. t ++ open_bytes (style_of_length style count)) h.bytes) ew ed
-    ∙ ap (λ t. a.bytes.items ++ line_bytes (styled style t ∷ [])) (sym fits.written))
+    ∙ ap (λ t. a.bytes ++ line_bytes (styled style t ∷ [])) (sym fits.written))
     (sd.width ∙ sw.width ∙ so.width ∙ h.width ∙ ap (λ k. capped (a.width + k)) (sym (wide ∙ size)))
     (sd.limit ∙ sw.limit ∙ so.limit ∙ h.limit)
     (sd.room ∙ sw.room ∙ so.room ∙ fits.after)
@@ -105,9 +105,9 @@ more_copies count left taken byte before out new within few fits o n =
 
 -- the same without a style
 pub appends_printable : {a b w : LineWriter} (text : List ℕ) (n count : ℕ) → is_printable text ≡ true → length text ≡ n → Counts a n count b
-    → w.bytes.items ≡ b.bytes.items ++ take count text → SameLine b w → Appends a (piece text ∷ []) w
+    → w.bytes ≡ b.bytes ++ take count text → SameLine b w → Appends a (piece text ∷ []) w
 appends_printable {a} {b} {w} text n count p size h ew sw =
-    appends_counted None text n count p size h (sym (append-nil b.bytes.items)) (same_line b) ew sw (sym (append-nil w.bytes.items)) (same_line w)
+    appends_counted None text n count p size h (sym (append-nil b.bytes)) (same_line b) ew sw (sym (append-nil w.bytes)) (same_line w)
 
 -- ---- one call after another
 
@@ -117,7 +117,7 @@ appends_then {a} {b} {c} {xs} {ys} h i = record {
 }
 
 pub begun_then : {limit : Option ℕ} {a b c : LineWriter} {xs ys : Line} → Begun limit a xs b → Appends b ys c → Begun limit a (xs ++ ys) c
-begun_then {limit} {a} {b} {c} {xs} {ys} h i = record { writes = i.writes limit a.bytes.items xs h.writes }
+begun_then {limit} {a} {b} {c} {xs} {ys} h i = record { writes = i.writes limit a.bytes xs h.writes }
 
 -- the same pieces, told in another way
 pub appends_as : {a b : LineWriter} {xs ys : Line} → xs ≡ ys → Appends a xs b → Appends a ys b

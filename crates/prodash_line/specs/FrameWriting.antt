@@ -29,7 +29,7 @@ use Rattle.prodash_line.specs.Tracking.{kept_of, ahead_of, tracked, tracker_by}
 
 -- the buffer holds the frame of an input
 abbrev pub HoldsFrame : Renderer → Input → LineWriter → Type 0
-HoldsFrame r input out = out.bytes.items ≡ frame_bytes r input
+HoldsFrame r input out = out.bytes ≡ frame_bytes r input
 
 -- the buffer holds the frame that an input has with this tracker
 abbrev pub Composes : Renderer → Option FrameTracker → Input → LineWriter → Type 0
@@ -37,11 +37,11 @@ Composes r tracker input out = HoldsFrame (tracked r tracker) input out
 
 -- these signs follow the bytes of old
 abbrev pub AppendsSigns : LineWriter → List Sign → LineWriter → Type 0
-AppendsSigns old signs new = new.bytes.items ≡ old.bytes.items ++ spelling signs
+AppendsSigns old signs new = new.bytes ≡ old.bytes ++ spelling signs
 
 -- these lines, over lines on screen of these widths, follow the bytes of old
 abbrev pub AppendsOver : Layout → LineWriter → List ℕ → List Line → LineWriter → Type 0
-AppendsOver layout old widths lines new = new.bytes.items ≡ old.bytes.items ++ lines_bytes layout widths lines
+AppendsOver layout old widths lines new = new.bytes ≡ old.bytes ++ lines_bytes layout widths lines
 
 -- what a frame that does this after its messages begins with where it is to erase rows
 abbrev pub action_start : Layout → Action → List Sign
@@ -51,7 +51,7 @@ action_start (Erasing height) _ = CarriageReturn ∷ []
 
 -- the buffer holds the beginning of a frame that does this after its messages
 abbrev pub BeginsFrame : Renderer → Layout → Action → LineWriter → Type 0
-BeginsFrame r layout action out = out.bytes.items ≡ spelling (opening_of r ++ action_start layout action)
+BeginsFrame r layout action out = out.bytes ≡ spelling (opening_of r ++ action_start layout action)
 
 -- what follows this many lines in a redraw that erases rows, if this many are on screen
 abbrev pub erasing_end : ℕ → ℕ → ℕ → List Sign
@@ -62,8 +62,8 @@ erasing_end height widths count =
 -- if this many lines, over lines on screen of these widths, end the bytes of old, those of new end with the whole redraw of the lines
 abbrev pub FinishesRedraw : Layout → LineWriter → List ℕ → ℕ → LineWriter → Type 0
 FinishesRedraw layout old widths count new =
-    (before : List ℕ) (lines : List Line) → length lines ≡ count → old.bytes.items ≡ before ++ lines_bytes layout (covered layout widths) lines
-    → new.bytes.items ≡ before ++ spelling (redraw layout widths lines)
+    (before : List ℕ) (lines : List Line) → length lines ≡ count → old.bytes ≡ before ++ lines_bytes layout (covered layout widths) lines
+    → new.bytes ≡ before ++ spelling (redraw layout widths lines)
 
 -- what a frame leaves: what its body has left, and the tracker that is kept then
 abbrev pub state_by : Drawn → Option FrameTracker → List PathRow → FrameState

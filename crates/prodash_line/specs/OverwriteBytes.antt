@@ -7,6 +7,10 @@ use Rattle.prodash_line.specs.Signs.{spelling}
 use Rattle.prodash_line.specs.Frames.{first_width, row_start}
 use Rattle.prodash_line.specs.Writing.{line_bytes, Begun}
 
+-- the writer at the beginning of a line's row, which is erased first where frames do that
+abbrev pub on_row : Layout → LineWriter → LineWriter
+on_row layout w = record w { bytes = w.bytes ++ spelling (row_start layout) }
+
 -- n spaces, and a line feed
 abbrev pub row_end : ℕ → List ℕ
 row_end n = replicate n 32 ++ 10 ∷ []
@@ -28,7 +32,7 @@ blank_bytes (width ∷ widths) = overwrite_line_bytes width [] ++ blank_bytes wi
 
 -- this line, over one of this width, follows the bytes of old
 pub record Overwrites (old : LineWriter) (width : ℕ) (line : Line) (new : LineWriter) : Type 0 where
-  pub bytes : new.bytes.items ≡ old.bytes.items ++ overwrite_line_bytes width line
+  pub bytes : new.bytes ≡ old.bytes ++ overwrite_line_bytes width line
 
 -- whatever line has been begun is ended, over one of this width
 abbrev pub EndsOver : LineWriter → ℕ → LineWriter → Type 0

@@ -22,7 +22,7 @@ line_bytes line = spelling (line_signs line)
 
 -- after these bytes, the writer has written this line, cut to these columns
 pub record Writes (columns : Option ℕ) (before : List ℕ) (line : Line) (w : LineWriter) : Type 0 where
-  pub bytes : w.bytes.items ≡ before ++ line_bytes (cut columns line)
+  pub bytes : w.bytes ≡ before ++ line_bytes (cut columns line)
   pub width : w.width ≡ columns_of line
   pub limit : w.limit ≡ columns
   pub room : w.room ≡ room_after_line (room_of columns) line
@@ -53,7 +53,7 @@ AppendsIn colored old pieces new = Appends old (in_color colored pieces) new
 
 -- this line, cut to the limit, follows the bytes of old
 pub record Begun (limit : Option ℕ) (old : LineWriter) (line : Line) (new : LineWriter) : Type 0 where
-  pub writes : Writes limit old.bytes.items line new
+  pub writes : Writes limit old.bytes line new
 
 -- this line, as it is drawn, follows the bytes of old
 abbrev pub DrawsLine : Options → LineWriter → Line → LineWriter → Type 0
@@ -67,7 +67,7 @@ pub record SameLine (old new : LineWriter) : Type 0 where
 
 -- A text of n printable characters is counted to the line, and nothing is written yet. This many of its characters are to be written.
 pub record Counts (old : LineWriter) (n count : ℕ) (new : LineWriter) : Type 0 where
-  pub bytes : new.bytes.items ≡ old.bytes.items
+  pub bytes : new.bytes ≡ old.bytes
   pub width : new.width ≡ capped (old.width + n)
   pub limit : new.limit ≡ old.limit
   pub within : count ≤ n

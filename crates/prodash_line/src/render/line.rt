@@ -1,2 +1,3 @@
+mod byte_buffer;
 pub mod draw;
 pub mod page;

@@ -108,7 +108,7 @@ fn push_unbounded_bar(
 fn push_numbered_cells(out: &mut LineWriter, step: Step, end: Step) -> Result<(), AllocError>
     requires { step ≤ end }
     ensures bytes { OnOk result
-        (out.new.bytes.items ≡ out.old.bytes.items ++ numbered_cells step (end - step)) }
+        (out.new.bytes ≡ out.old.bytes ++ numbered_cells step (end - step)) }
     ensures line { OnOk result (SameLine out.old out.new) }
 {
     for number in (step..end).rev() {

@@ -18,7 +18,7 @@ use crate::render::line::draw::layout::Layout;
 use crate::render::line::draw::line_writer::LineWriter;
 use crate::render::line::draw::message::{greatest_of, push_message};
 use crate::render::line::draw::more::{split_fitting, write_more};
-use crate::render::line::draw::row::{is_row_drawn, push_row};
+use crate::render::line::draw::row::{RowTexts, is_row_drawn, push_row};
 use crate::render::line::draw::state::{Past, keep_latest};
 use crate::render::line::draw::tracker::{begin, observe};
 use crate::render::line::page::Sign;
@@ -91,7 +91,7 @@ pub(crate) fn compose(
 
 /// Composes the closing frame without messages. Fails if out of memory.
 pub(crate) fn compose_closing(out: &mut LineWriter, past: &Past) -> Result<(), AllocError>
-    ensures { OnOk result (out.new.bytes.items ≡ closing_bytes past.now) }
+    ensures { OnOk result (out.new.bytes ≡ closing_bytes past.now) }
 {
     let layout = past.options.layout();
     begin_frame(out, past, layout, Action::Close)?;
@@ -296,7 +296,7 @@ fn redraw_rows(
     let options = &scene.options;
     let layout = options.layout();
     let mut drawn = Drawn {
-        widths: Vec::new(alloc),
+        widths: Vec::with_capacity(alloc, rows.len())?,
         midpoint: 0,
         rows_erased: false,
         action: Action::Redraw,
@@ -362,7 +362,7 @@ fn write_rows(
     ensures kept { kept_of tracker.new ≡ kept_of tracker.old }
     ensures reason { IsOkUnless result Refusal.Memory }
 {
-    let layout = options.layout();
+    let mut texts = RowTexts::new(alloc);
     let mut left = widths;
     for row in rows {
         if !is_row_drawn(options.level_filter, row) {
@@ -370,8 +370,7 @@ fn write_rows(
         }
         let (old_width, others) = split_row(left);
         let throughput = observe(alloc, tracker, row)?;
-        start_row(out, layout)?;
-        let own_midpoint = push_row(alloc, out, options, midpoint, row, throughput)?;
+        let own_midpoint = push_row(alloc, out, &mut texts, options, midpoint, row, throughput)?;
         drawn.midpoint = drawn.midpoint.max(own_midpoint);
         drawn.widths.push(out.end_over(old_width)?)?;
         left = others;
@@ -409,7 +408,7 @@ fn finish_overwriting(out: &mut LineWriter, widths: &[u16], drawn: usize) -> Res
 
 /// Writes an empty line over each line on screen.
 fn write_blanks(out: &mut LineWriter, widths: &[u16]) -> Result<(), AllocError>
-    ensures { OnOk result (out.new.bytes.items ≡ out.old.bytes.items ++ blank_bytes widths.now) }
+    ensures { OnOk result (out.new.bytes ≡ out.old.bytes ++ blank_bytes widths.now) }
 {
     for width in widths {
         out.begin(None);

@@ -4,18 +4,28 @@ ghost use Rattle.std.specs.Prelude.{◌≡◌, ◌-◌, ℕ, ◌∷◌, [], ◌+
 ghost use Rattle.prodash_line.specs.Signs.{spelling_of};
 ghost use Rattle.prodash_line.specs.Lines.{piece, styled, spaces, columns_of, indented};
 ghost use Rattle.prodash_line.specs.Writing.{is_printable, style_of_length, open_bytes, reset_bytes, Appends, Begun, SameLine, Counts};
-ghost use Rattle.prodash_line.specs.OverwriteBytes.{EndsOver, IsCutWidth};
+ghost use Rattle.prodash_base.specs.Path.{max_level};
+ghost use Rattle.prodash_line.specs.OverwriteBytes.{on_row, EndsOver, IsCutWidth};
 
+use crate::render::line::byte_buffer::ByteBuffer;
 use crate::render::line::draw::fitting::{fit_indented, fit_printable};
+use crate::render::line::draw::layout::Layout;
 use crate::render::line::draw::room::Room;
 use crate::render::line::draw::text::text_width;
 use crate::render::line::page::{Sign, Style, push_sign};
+use prodash_base::progress::Level;
 use std::alloc::{AllocError, Global};
 
+/// The bytes of `Sign::EraseLine`, and as many spaces after them as the deepest level has.
+const ROW_START: &[u8] = b"\x1b[2K      ";
+
+/// How many of these bytes are those of the sign.
+const ERASE_LINE: usize = 4;
+
 /// Writes lines into one buffer, one after another, and measures the line that it has begun last.
-#[derive(Debug, Drop)]
+#[derive(Drop)]
 pub(crate) struct LineWriter {
-    bytes: Vec<u8>,
+    bytes: ByteBuffer,
     /// The width of the line so far, before it is cut, at most 65535.
     width: u16,
     /// The columns to which the line is cut, if it is.
@@ -27,11 +37,11 @@ pub(crate) struct LineWriter {
 impl LineWriter {
     /// Returns a writer whose buffer is empty.
     pub(crate) fn new(alloc: Global) -> LineWriter
-        ensures bytes { result.bytes.items ≡ [] }
+        ensures bytes { result.bytes ≡ [] }
         ensures width { result.width ≡ 0 }
     {
         LineWriter {
-            bytes: Vec::new(alloc),
+            bytes: ByteBuffer::new(alloc),
             width: 0,
             limit: None,
             room: Room::Unlimited,
@@ -40,9 +50,9 @@ impl LineWriter {
 
     /// Returns the bytes written since the buffer was last cleared.
     pub(crate) fn bytes(&self) -> &[u8]
-        ensures { result.now ≡ self.now.bytes.items }
+        ensures { result.now ≡ self.now.bytes }
     {
-        &self.bytes
+        self.bytes.as_slice()
     }
 
     /// Returns the width of the line so far, before it is cut, in columns, at most 65535.
@@ -54,7 +64,7 @@ impl LineWriter {
 
     /// Empties the buffer and keeps its memory.
     pub(crate) fn clear(&mut self)
-        ensures { self.new.bytes.items ≡ [] }
+        ensures { self.new.bytes ≡ [] }
     {
         self.bytes.clear();
     }
@@ -69,6 +79,29 @@ impl LineWriter {
             Some(columns) => Room::Columns(columns),
             None => Room::Unlimited,
         };
+    }
+
+    /// Begins a line that is cut to `limit` columns, or written whole, with `indent` spaces. If
+    /// frames erase the rows that they write on, its row is erased first. Fails if out of memory.
+    pub(crate) fn begin_row(
+        &mut self,
+        layout: Layout,
+        limit: Option<u16>,
+        indent: Level,
+    ) -> Result<(), AllocError>
+        requires { indent ≤ max_level }
+        ensures { OnOk result
+            (Begun limit (on_row layout self.old) (spaces indent ∷ []) self.new) }
+    {
+        self.begin(limit);
+        let count = self.count(u16::from(indent));
+        let start = match layout {
+            Layout::Overwriting => ERASE_LINE,
+            Layout::Erasing(_) => 0,
+        };
+        self.bytes
+            .extend_from_slice(&ROW_START[start..ERASE_LINE + usize::from(count)])?;
+        Ok(())
     }
 
     /// Appends a text to the line, in this style if there is one. Fails if out of memory.
@@ -94,7 +127,7 @@ impl LineWriter {
         let (spaces, prefix, room) = fit_indented(self.room, padding, text, width);
         let style = style_of_length(style, usize::from(spaces) + prefix.len());
         self.open(style)?;
-        push_copies(&mut self.bytes, b' ', spaces)?;
+        self.bytes.push_copies(b' ', spaces)?;
         self.bytes.extend_from_slice(prefix.as_bytes())?;
         self.width = self.width.saturating_add(padding).saturating_add(width);
         self.room = room;
@@ -129,7 +162,7 @@ impl LineWriter {
     /// more are to be written after it. Fails if out of memory.
     pub(crate) fn push_prefix(&mut self, text: &[u8], count: u16) -> Result<u16, AllocError>
         ensures bytes { OnOk result
-            (self.new.bytes.items ≡ self.old.bytes.items ++ take count text.now) }
+            (self.new.bytes ≡ self.old.bytes ++ take count text.now) }
         ensures more { IfOk result (λ more. more ≡ count - length text.now) }
         ensures line { OnOk result (SameLine self.old self.new) }
     {
@@ -151,18 +184,34 @@ impl LineWriter {
         ensures { OnOk result
             (Appends self.old (styled style (replicate count character) ∷ []) self.new) }
     {
+        if style.is_none() {
+            return self.push_copies(character, count);
+        }
         let count = self.count(count);
         let style = style_of_length(style, usize::from(count));
         self.open(style)?;
-        push_copies(&mut self.bytes, character, count)?;
+        self.bytes.push_copies(character, count)?;
         self.reset(style)?;
+        Ok(())
+    }
+
+    /// Appends a printable ASCII character `count` times, without a style. Fails if out of memory.
+    #[inline]
+    fn push_copies(&mut self, character: u8, count: u16) -> Result<(), AllocError>
+        requires low { 32 ≤ character }
+        requires high { character ≤ 126 }
+        ensures { OnOk result
+            (Appends self.old (piece (replicate count character) ∷ []) self.new) }
+    {
+        let count = self.count(count);
+        self.bytes.push_copies(character, count)?;
         Ok(())
     }
 
     /// Begins a style, if there is one. Fails if out of memory.
     pub(crate) fn open(&mut self, style: Option<Style>) -> Result<(), AllocError>
         ensures bytes { OnOk result
-            (self.new.bytes.items ≡ self.old.bytes.items ++ open_bytes style) }
+            (self.new.bytes ≡ self.old.bytes ++ open_bytes style) }
         ensures line { OnOk result (SameLine self.old self.new) }
     {
         match style {
@@ -174,7 +223,7 @@ impl LineWriter {
     /// Ends a style, if there is one. Fails if out of memory.
     pub(crate) fn reset(&mut self, style: Option<Style>) -> Result<(), AllocError>
         ensures bytes { OnOk result
-            (self.new.bytes.items ≡ self.old.bytes.items ++ reset_bytes style) }
+            (self.new.bytes ≡ self.old.bytes ++ reset_bytes style) }
         ensures line { OnOk result (SameLine self.old self.new) }
     {
         match style {
@@ -187,7 +236,7 @@ impl LineWriter {
     pub(crate) fn push_spaces(&mut self, count: u16) -> Result<(), AllocError>
         ensures { OnOk result (Appends self.old (spaces count ∷ []) self.new) }
     {
-        self.push_repeated(None, b' ', count)
+        self.push_copies(b' ', count)
     }
 
     /// Returns the width of the line so far as it is cut, in columns, at most 65535.
@@ -208,14 +257,15 @@ impl LineWriter {
         ensures width { IfOk result (IsCutWidth self.old) }
     {
         let own_width = self.cut_width();
-        push_copies(&mut self.bytes, b' ', width.saturating_sub(own_width))?;
+        self.bytes
+            .push_copies(b' ', width.saturating_sub(own_width))?;
         self.bytes.push(b'\n')?;
         Ok(own_width)
     }
 
     /// Appends a sign after the lines. Fails if out of memory.
     pub(crate) fn push_sign(&mut self, sign: Sign) -> Result<(), AllocError>
-        ensures { OnOk result (self.new.bytes.items ≡ self.old.bytes.items ++ spelling_of sign) }
+        ensures { OnOk result (self.new.bytes ≡ self.old.bytes ++ spelling_of sign) }
     {
         push_sign(&mut self.bytes, sign)
     }
@@ -226,18 +276,4 @@ pub(crate) fn style_of_length(style: Option<Style>, length: usize) -> Option<Sty
     ensures { result ≡ style_of_length style length }
 {
     if length == 0 { None } else { style }
-}
-
-/// Appends a byte `count` times.
-fn push_copies(out: &mut Vec<u8>, byte: u8, count: u16) -> Result<(), AllocError>
-    ensures { OnOk result (out.new.items ≡ out.old.items ++ replicate count byte) }
-{
-    let block = [byte; 64];
-    let mut left = usize::from(count);
-    while left > 0 {
-        let taken = left.min(block.len());
-        out.extend_from_slice(&block[..taken])?;
-        left -= taken;
-    }
-    Ok(())
 }

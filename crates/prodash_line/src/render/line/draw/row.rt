@@ -1,9 +1,11 @@
 //! The line of a row: its name, and with progress its values and a bar.
-ghost use Rattle.std.specs.Prelude.{◌≡◌, ◌≤◌, ◌+◌, ◌++◌, true, length, OnOk, IfOk, IsOkUnless};
+ghost use Rattle.std.specs.Prelude.{◌≡◌, ◌≤◌, ◌+◌, ◌++◌, true, drop, length, OnOk, IfOk, IsOkUnless};
 ghost use Rattle.prodash_base.specs.Units.{measure_of};
 ghost use Rattle.prodash_base.specs.Rows.{row_of, progress_of};
 ghost use Rattle.prodash_line.specs.ProgressRows as rows;
 ghost use Rattle.prodash_line.specs.ProgressRows.{FollowsStep, fraction_values};
+ghost use Rattle.prodash_line.specs.DrawnLines.{layout_of};
+ghost use Rattle.prodash_line.specs.OverwriteBytes.{on_row};
 ghost use Rattle.prodash_line.specs.Padding.{end_of_values, Pads};
 ghost use Rattle.prodash_line.specs.Writing.{is_printable, AppendsIn, DrawsLine};
 
@@ -19,12 +21,31 @@ use prodash_base::unit::Unit;
 use prodash_base::unit::display::Throughput;
 use std::alloc::{AllocError, Global};
 
-/// Writes the line of a row, its values padded so that they end at this midpoint, with a throughput
-/// if there is one. Returns the row's own midpoint: the column at which its values end without
-/// padding, 0 if it has no progress. Fails if out of memory.
+/// Memory for the texts of one row, which that of the next row reuses.
+#[derive(Drop)]
+pub(crate) struct RowTexts {
+    values: String,
+    unit: String,
+}
+
+impl RowTexts {
+    /// Returns texts that are empty.
+    pub(crate) fn new(alloc: Global) -> RowTexts {
+        RowTexts {
+            values: String::new(alloc),
+            unit: String::new(alloc),
+        }
+    }
+}
+
+/// Writes the line of a row, on a row of the terminal that is erased first if frames do that. Its
+/// values are padded so that they end at this midpoint, with a throughput if there is one. Returns
+/// the row's own midpoint: the column at which its values end without padding, 0 if it has no
+/// progress. Fails if out of memory.
 pub(crate) fn push_row(
     alloc: Global,
     out: &mut LineWriter,
+    texts: &mut RowTexts,
     options: &Options,
     midpoint: u16,
     row: &Row,
@@ -32,19 +53,19 @@ pub(crate) fn push_row(
 ) -> Result<u16, Refusal>
     ensures line { OnOk result
         (let width = options.now.terminal_dimensions.0 in
-        DrawsLine options.now out.old
+        DrawsLine options.now (on_row (layout_of options.now) out.old)
         (rows.row_line options.now.defensive width midpoint (row_of row.now, throughput)) out.new) }
     ensures midpoint { IfOk result
         (λ n. n ≡ rows.midpoint_of options.now.defensive (row_of row.now, throughput)) }
     ensures reason { IsOkUnless result Refusal.Memory }
 {
     let (width, _) = options.terminal_dimensions;
-    out.begin(options.width_limit());
-    push_head(alloc, out, options, row)?;
+    out.begin_row(options.layout(), options.width_limit(), row.key.level())?;
+    push_name(alloc, out, options, row)?;
     let Some(value) = &row.progress else {
         return Ok(0);
     };
-    let own = push_values(alloc, out, options, midpoint, value, throughput)?;
+    let own = push_values(alloc, out, texts, options, midpoint, value, throughput)?;
     push_bar(
         out,
         options.colored,
@@ -61,6 +82,7 @@ pub(crate) fn push_row(
 fn push_values(
     alloc: Global,
     out: &mut LineWriter,
+    texts: &mut RowTexts,
     options: &Options,
     midpoint: u16,
     value: &Value,
@@ -76,7 +98,9 @@ fn push_values(
 {
     match value.unit {
         None => Ok(push_fraction(out, options.colored, midpoint, value.step, value.done_at)?),
-        Some(unit) => push_in_unit(alloc, out, options, midpoint, unit, value, throughput),
+        Some(unit) => push_in_unit(
+            alloc, out, texts, options, midpoint, unit, value, throughput,
+        ),
     }
 }
 
@@ -116,6 +140,7 @@ fn push_fraction(
 fn push_in_unit(
     alloc: Global,
     out: &mut LineWriter,
+    texts: &mut RowTexts,
     options: &Options,
     midpoint: u16,
     unit: Unit,
@@ -132,22 +157,19 @@ fn push_in_unit(
         n ≡ end_of_values out.old.width values) }
     ensures reason { IsOkUnless result Refusal.Memory }
 {
-    let mut values = String::new(alloc);
-    let mut name = String::new(alloc);
+    texts.values.clear();
+    texts.unit.clear();
     unit.display(alloc, value.step, value.done_at, throughput)
         .values()
-        .append_to(&mut values)?;
+        .append_to(&mut texts.values)?;
     unit.display(alloc, value.step, value.done_at, throughput)
         .unit()
-        .append_to(&mut name)?;
+        .append_to(&mut texts.unit)?;
     let mut replaced_values = String::new(alloc);
     let mut replaced_name = String::new(alloc);
-    let (values, values_width) = drawn_text(
-        options.defensive,
-        values.as_str(),
-        &mut replaced_values,
-    )?;
-    let (name, name_width) = drawn_text(options.defensive, name.as_str(), &mut replaced_name)?;
+    let (values, name) = (texts.values.as_str(), texts.unit.as_str());
+    let (values, values_width) = drawn_text(options.defensive, values, &mut replaced_values)?;
+    let (name, name_width) = drawn_text(options.defensive, name, &mut replaced_name)?;
     let own = out
         .width()
         .saturating_add(1)
@@ -187,8 +209,8 @@ fn format_bound(digits: &mut Buffer, done_at: Option<Step>) -> (&'static str, &s
     }
 }
 
-/// Appends as many spaces as the level of a row, then its name.
-fn push_head(
+/// Appends the name of a row.
+fn push_name(
     alloc: Global,
     out: &mut LineWriter,
     options: &Options,
@@ -196,12 +218,11 @@ fn push_head(
 ) -> Result<(), AllocError>
     ensures { OnOk result
         (let head = rows.head_of options.now.defensive (row_of row.now) in
-        AppendsIn options.now.colored out.old head out.new) }
+        AppendsIn options.now.colored out.old (drop 1 head) out.new) }
 {
     let mut replaced = String::new(alloc);
     let (name, width) = drawn_text(options.defensive, row.name.as_str(), &mut replaced)?;
     let style = options.colored.then_some(name_style(&row.progress));
-    out.push_spaces(u16::from(row.key.level()))?;
     out.push_indented(style, 0, name, width)?;
     Ok(())
 }

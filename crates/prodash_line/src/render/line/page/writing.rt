@@ -7,13 +7,14 @@ ghost use Rattle.prodash_line.specs.Styles.{style_parameters};
 use super::codes::codes_of;
 use super::sign::Sign;
 use super::style::Style;
+use crate::render::line::byte_buffer::ByteBuffer;
 use itoa::Buffer;
 use prodash_base::Refusal;
 use std::alloc::{AllocError, Global};
 
 /// Appends the control sequence that moves the cursor up by `rows` rows. Fails if out of memory.
-fn push_up(out: &mut Vec<u8>, rows: u16) -> Result<(), AllocError>
-    ensures { OnOk result (out.new.items ≡ out.old.items ++ sequence (decimal rows) 65) }
+fn push_up(out: &mut ByteBuffer, rows: u16) -> Result<(), AllocError>
+    ensures { OnOk result (out.new ≡ out.old ++ sequence (decimal rows) 65) }
 {
     let mut digits = Buffer::new();
     out.extend_from_slice(b"\x1b[")?;
@@ -23,8 +24,8 @@ fn push_up(out: &mut Vec<u8>, rows: u16) -> Result<(), AllocError>
 }
 
 /// Appends the codes of a style. Fails if out of memory.
-fn push_codes(out: &mut Vec<u8>, style: Style) -> Result<(), AllocError>
-    ensures { OnOk result (out.new.items ≡ out.old.items ++ style_parameters style) }
+fn push_codes(out: &mut ByteBuffer, style: Style) -> Result<(), AllocError>
+    ensures { OnOk result (out.new ≡ out.old ++ style_parameters style) }
 {
     let mut separator = b"".as_slice();
     for code in codes_of(style) {
@@ -38,9 +39,9 @@ fn push_codes(out: &mut Vec<u8>, style: Style) -> Result<(), AllocError>
 }
 
 /// Appends the control sequence that begins a style. Fails if out of memory.
-fn push_open(out: &mut Vec<u8>, style: Style) -> Result<(), AllocError>
+fn push_open(out: &mut ByteBuffer, style: Style) -> Result<(), AllocError>
     ensures { OnOk result
-        (out.new.items ≡ out.old.items ++ sequence (style_parameters style) 109) }
+        (out.new ≡ out.old ++ sequence (style_parameters style) 109) }
 {
     out.extend_from_slice(b"\x1b[")?;
     push_codes(out, style)?;
@@ -49,16 +50,16 @@ fn push_open(out: &mut Vec<u8>, style: Style) -> Result<(), AllocError>
 }
 
 /// Appends the bytes of a sign. Fails if out of memory.
-pub(crate) fn push_sign(out: &mut Vec<u8>, sign: Sign) -> Result<(), AllocError>
-    ensures { OnOk result (out.new.items ≡ out.old.items ++ spelling_of sign) }
+pub(crate) fn push_sign(out: &mut ByteBuffer, sign: Sign) -> Result<(), AllocError>
+    ensures { OnOk result (out.new ≡ out.old ++ spelling_of sign) }
 {
     match sign {
         Sign::Char(c) => {
             let mut buffer = [0; 4];
             out.extend_from_slice(c.encode_utf8(&mut buffer).as_bytes())
         }
-        Sign::LineFeed => Ok(out.push(b'\n')?),
-        Sign::CarriageReturn => Ok(out.push(b'\r')?),
+        Sign::LineFeed => out.push(b'\n'),
+        Sign::CarriageReturn => out.push(b'\r'),
         Sign::Up(n) => push_up(out, n),
         Sign::EraseLine => out.extend_from_slice(b"\x1b[2K"),
         Sign::EraseBelow => out.extend_from_slice(b"\x1b[J"),
@@ -76,9 +77,9 @@ pub fn spell(alloc: Global, signs: &[Sign]) -> Result<Vec<u8>, Refusal>
     ensures ok { IfOk result (λ bytes. bytes.items ≡ spelling signs.now) }
     ensures reason { IsOkUnless result Refusal.Memory }
 {
-    let mut out = Vec::new(alloc);
+    let mut out = ByteBuffer::new(alloc);
     for sign in signs {
         push_sign(&mut out, *sign)?;
     }
-    Ok(out)
+    Ok(out.into_vec())
 }

@@ -22,8 +22,8 @@ returns c =
     appends_as (ap (λ k. piece (codes " [") ∷ styled style (numbered_cells c.args.step k) ∷ piece (codes "]") ∷ []) n)
     (appends_then c.in_ok-push_printable.ensures
     (appends_then (appends_counted style cells length count (printable-numbered_cells c.args.step length) (length-numbered_cells c.args.step length) counted
-    (c.in_ok-open.ensures.bytes ∙ ap (λ s. c.count-count.new.self.bytes.items ++ open_bytes s) shown) c.in_ok-open.ensures.line
-    (c.in_ok-push_numbered_cells.ensures.bytes ∙ ap (λ t. c.open.new.self.bytes.items ++ t) (cells_counted c.args.step end count c.from-3.result c.from-3.ensures counted.within (omega (arith, c.saturating_add-end.ensures))))
+    (c.in_ok-open.ensures.bytes ∙ ap (λ s. c.count-count.new.self.bytes ++ open_bytes s) shown) c.in_ok-open.ensures.line
+    (c.in_ok-push_numbered_cells.ensures.bytes ∙ ap (λ t. c.open.new.self.bytes ++ t) (cells_counted c.args.step end count c.from-3.result c.from-3.ensures counted.within (omega (arith, c.saturating_add-end.ensures))))
     c.in_ok-push_numbered_cells.ensures.line
-    (c.in_ok-reset.ensures.bytes ∙ ap (λ s. c.push_numbered_cells.new.out.bytes.items ++ reset_bytes s) shown) c.in_ok-reset.ensures.line)
+    (c.in_ok-reset.ensures.bytes ∙ ap (λ s. c.push_numbered_cells.new.out.bytes ++ reset_bytes s) shown) c.in_ok-reset.ensures.line)
     c.in_ok-push_printable-2.ensures))

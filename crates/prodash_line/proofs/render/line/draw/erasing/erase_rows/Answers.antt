@@ -8,5 +8,5 @@ pub loop-preserved : goal.loop-preserved
 loop-preserved c =
     let left = c.args.count - (c.loop.counter + 1) in
     let one : c.args.count - c.loop.counter ≡ suc left = omega arith in
-    erased_more left c.loop.out.bytes.items _ _ _ c.in_ok-push_sign.ensures c.in_ok-push_sign-2.ensures
-    (ap (λ (n : ℕ). c.loop.out.bytes.items ++ spelling (erased_rows n)) (sym one) ∙ c.loop.invariant)
+    erased_more left c.loop.out.bytes _ _ _ c.in_ok-push_sign.ensures c.in_ok-push_sign-2.ensures
+    (ap (λ (n : ℕ). c.loop.out.bytes ++ spelling (erased_rows n)) (sym one) ∙ c.loop.invariant)

@@ -52,11 +52,11 @@ covered_is c =
     ∙ ap (λ (l : Layout). covered l c.deref-2.result.now) (layout_is c)
     ∙ ap (covered (layout_of c.args.past.now.options)) (c.deref-2.ensures.value ∙ ap (λ (x : Renderer). x.widths) c.past.view_is)
 
-over : (c : goal.In_ok-drawn) → c.write_messages.new.out.bytes.items
-    ≡ c.begin_frame.new.out.bytes.items ++ lines_bytes (layout_of c.args.past.now.options) (covered (layout_of c.args.past.now.options) c.args.past.now.widths) (printed_at c.args.past.now (input c))
+over : (c : goal.In_ok-drawn) → c.write_messages.new.out.bytes
+    ≡ c.begin_frame.new.out.bytes ++ lines_bytes (layout_of c.args.past.now.options) (covered (layout_of c.args.past.now.options) c.args.past.now.widths) (printed_at c.args.past.now (input c))
 over c =
     let r = c.args.past.now in
-    let before = c.begin_frame.new.out.bytes.items in
+    let before = c.begin_frame.new.out.bytes in
     let messages = c.as_slice-messages.result.now in
     let origins = c.in_ok-origin_widths.origin_widths.items in
     let widths = covered (layout_of r.options) r.widths in
@@ -70,11 +70,11 @@ over c =
 pub returns-clause-bytes : goal.returns-clause-bytes
 returns-clause-bytes c =
     let r = whole c in
-    let before = c.write_messages.new.out.bytes.items in
+    let before = c.write_messages.new.out.bytes in
     let left = c.below-left.result.now in
     let layout = layout_of r.options in
     let action = action_at r (input c) in
-    frame_bytes_of (frame_at r (input c)) _ r.widths left c.begin_frame.new.out.bytes.items before _ (length c.as_slice-messages.result.now)
+    frame_bytes_of (frame_at r (input c)) _ r.widths left c.begin_frame.new.out.bytes before _ (length c.as_slice-messages.result.now)
     c.in_ok-begin_frame.ensures
     (ap (λ (l : Layout). action_start l c.tick_action-action.result) (layout_is c) ∙ ap (action_start layout) (action_is c) ∙ action_starts layout action (drawing_at r (input c)) (ending_of r))
     (over c) (left_is c) (printed c)

@@ -42,7 +42,7 @@ left_is c = c.deref.ensures.value ∙ ap (λ (x : Renderer). x.widths) c.past.vi
 pub returns-clause-bytes : goal.returns-clause-bytes
 returns-clause-bytes c =
     let r = whole c in
-    let before = c.begin_frame.new.out.bytes.items in
+    let before = c.begin_frame.new.out.bytes in
     let left = c.deref.result.now in
     let layout = layout_of (remember r (input c)).options in
     let action = action_at r (input c) in

@@ -46,7 +46,7 @@ lines c =
 widths_are : (c : goal.In_ok-finish_redraw) → c.write_fitting.new.drawn.widths.items ≡ widths_of (drawing_in c.args.scene.now (before c)).lines
 widths_are c =
     c.in_ok-write_fitting.ensures.drawn.widths
-    ∙ ap (λ (old : List ℕ). old ++ widths_of (fitting_lines c.args.scene.now.options c.midpoint-midpoint.result (begun c) c.args.scene.now.rows.now)) c.new.ensures.items
+    ∙ ap (λ (old : List ℕ). old ++ widths_of (fitting_lines c.args.scene.now.options c.midpoint-midpoint.result (begun c) c.args.scene.now.rows.now)) c.in_ok-with_capacity.ensures.items
     ∙ ap widths_of (lines c)
 
 pub returns-clause-bytes : goal.returns-clause-bytes
@@ -54,9 +54,9 @@ returns-clause-bytes c =
     let drawn = (drawing_in c.args.scene.now (before c)).lines in
     let layout = layout_of c.args.scene.now.options in
     let finishes = subst (λ (l : Layout). FinishesRedraw l c.write_fitting.new.out c.args.widths.now c.len.result c.finish_redraw.new.out) c.layout-layout.ensures c.in_ok-finish_redraw.ensures in
-    finishes c.args.out.now.bytes.items drawn
+    finishes c.args.out.now.bytes drawn
     (search (rules, ap length (widths_are c), length-map drawn columns_of))
-    (c.in_ok-write_fitting.ensures.bytes ∙ ap (λ (ls : List Line). c.args.out.now.bytes.items ++ lines_bytes layout (covered layout c.args.widths.now) ls) (lines c))
+    (c.in_ok-write_fitting.ensures.bytes ∙ ap (λ (ls : List Line). c.args.out.now.bytes ++ lines_bytes layout (covered layout c.args.widths.now) ls) (lines c))
 
 pub returns-clause-state : goal.returns-clause-state
 returns-clause-state c =

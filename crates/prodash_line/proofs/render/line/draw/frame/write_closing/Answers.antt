@@ -7,7 +7,7 @@ use Rattle.prodash_line.proofs.render.line.draw.frame.write_closing.Goals as goa
 
 pub returns : goal.returns
 returns c =
-    let old = c.args.out.now.bytes.items in
+    let old = c.args.out.now.bytes in
     let blanks = redraw c.args.layout c.args.widths.now [] in
     let ending = ending_of c.args.past.now in
     c.in_ok-write_ending.ensures

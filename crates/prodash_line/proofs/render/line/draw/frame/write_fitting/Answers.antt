@@ -37,7 +37,7 @@ returns-clause-bytes c =
     let options = c.args.options.now in
     let layout = layout_of options in
     let shown = shown_lines options c.args.midpoint (ahead_of c.args.tracker.now) c.split_fitting.result.0.now in
-    let before = c.args.out.now.bytes.items in
+    let before = c.args.out.now.bytes in
     both_written layout options options.level_filter c.args.widths.now c.args.rows.now c.split_fitting.result.0.now c.split_fitting.result.1.now shown before _ _ (splits c)
     (c.in_ok-write_rows.ensures.bytes ∙ ap (λ (ws : List ℕ). before ++ lines_bytes layout ws shown)
     (c.covered-covered.ensures ∙ ap (λ (l : Layout). covered l c.args.widths.now) c.layout-layout.ensures))

@@ -15,8 +15,8 @@ invariant-loop-row l =
     let shown_left = shown_by (ahead_of l.tracker) left in
     let shown_all = shown_by (ahead_of l.fn.tracker) all in
     record {
-      bytes : l.out.bytes.items ++ lines_bytes (layout_of l.options) l.left (row_lines l.options l.midpoint shown_left)
-          ≡ l.fn.out.bytes.items ++ lines_bytes (layout_of l.options) l.widths (row_lines l.options l.midpoint shown_all);
+      bytes : l.out.bytes ++ lines_bytes (layout_of l.options) l.left (row_lines l.options l.midpoint shown_left)
+          ≡ l.fn.out.bytes ++ lines_bytes (layout_of l.options) l.widths (row_lines l.options l.midpoint shown_all);
       widths : l.drawn.widths.items ++ widths_of (row_lines l.options l.midpoint shown_left)
           ≡ l.fn.drawn.widths.items ++ widths_of (row_lines l.options l.midpoint shown_all);
       midpoint : max l.drawn.midpoint (greatest_midpoint l.options.defensive shown_left) ≡ max l.fn.drawn.midpoint (greatest_midpoint l.options.defensive shown_all);

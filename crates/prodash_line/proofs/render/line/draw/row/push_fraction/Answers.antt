@@ -47,8 +47,8 @@ returns-clause-line c =
     (returns-clause-end c) c.saturating_sub.ensures c.in_ok-push_spaces.ensures c.in_ok-push_spaces-2.ensures
     (appends_counted style text _ count printable
     (omega (arith, size, ap length c.as_bytes.ensures.value, ap length c.as_bytes-2.ensures.value, ap length c.as_bytes-3.ensures.value)) counted
-    (c.in_ok-open.ensures.bytes ∙ ap (λ s. c.count-count.new.self.bytes.items ++ open_bytes s) shown) c.in_ok-open.ensures.line
-    (parts_written c.open.new.self.bytes.items _ _ _ text c.as_bytes.result.now c.as_bytes-2.result.now c.as_bytes-3.result.now count _ _ (values_are c)
+    (c.in_ok-open.ensures.bytes ∙ ap (λ s. c.count-count.new.self.bytes ++ open_bytes s) shown) c.in_ok-open.ensures.line
+    (parts_written c.open.new.self.bytes _ _ _ text c.as_bytes.result.now c.as_bytes-2.result.now c.as_bytes-3.result.now count _ _ (values_are c)
     c.in_ok-count.ensures.bytes c.in_ok-count.ensures.more c.in_ok-count-2.ensures.bytes c.in_ok-count-2.ensures.more c.in_ok-push_prefix.ensures.bytes)
     (same_then c.in_ok-count.ensures.line (same_then c.in_ok-count-2.ensures.line c.in_ok-push_prefix.ensures.line))
-    (c.in_ok-reset.ensures.bytes ∙ ap (λ s. c.push_prefix-3.new.self.bytes.items ++ reset_bytes s) shown) c.in_ok-reset.ensures.line)
+    (c.in_ok-reset.ensures.bytes ∙ ap (λ s. c.push_prefix-3.new.self.bytes ++ reset_bytes s) shown) c.in_ok-reset.ensures.line)

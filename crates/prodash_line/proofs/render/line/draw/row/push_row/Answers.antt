@@ -3,7 +3,8 @@ use Rattle.std.specs.Option.{option_map}
 use Rattle.prodash_base.specs.Rows.{row_of, progress_of}
 use Rattle.prodash_line.specs.Lines.{in_color}
 use Rattle.prodash_line.specs.ProgressRows.{row_line_with, midpoint_with}
-use Rattle.prodash_line.proofs.LineWriting.{begun_then, begun_as, begun_to}
+use Rattle.prodash_line.proofs.LineWriting.{begun_as}
+use Rattle.prodash_line.proofs.RowStarts.{head_begun}
 use Rattle.prodash_line.proofs.RowLines.{row_midpoint, padded_begun, row_begun}
 use Rattle.prodash_line.proofs.render.line.draw.row.push_row.Goals as goal
 
@@ -11,7 +12,7 @@ pub returns-clause-line : goal.returns-clause-line
 returns-clause-line c =
     let row = row_of c.args.row.now in
     let p = progress_of c.in-Some.value in
-    let head = begun_then (begun_to _ _ c.width_limit.ensures c.begin.ensures) c.in_ok-push_head.ensures in
+    let head = head_begun c.args.out.now c.args.options.now.colored c.args.options.now.defensive (row_of c.args.row.now) _ _ c.width_limit.ensures c.layout.ensures c.level.ensures.value c.in_ok-begin_row.ensures c.in_ok-push_name.ensures in
     let colored = c.args.options.now.colored in
     let width = c.args.options.now.terminal_dimensions.0 in
     begun_as (ap (λ o. in_color colored (row_line_with c.args.options.now.defensive width c.args.midpoint row (option_map progress_of o) c.args.throughput)) (sym c.in-Some.is))
@@ -23,11 +24,11 @@ pub returns-clause-midpoint : goal.returns-clause-midpoint
 returns-clause-midpoint c =
     let row = row_of c.args.row.now in
     let p = progress_of c.in-Some.value in
-    c.in_ok-own.ensures.end ∙ row_midpoint c.args.options.now.colored c.args.options.now.defensive row p c.args.throughput (begun_then (begun_to _ _ c.width_limit.ensures c.begin.ensures) c.in_ok-push_head.ensures)
+    c.in_ok-own.ensures.end ∙ row_midpoint c.args.options.now.colored c.args.options.now.defensive row p c.args.throughput (head_begun c.args.out.now c.args.options.now.colored c.args.options.now.defensive (row_of c.args.row.now) _ _ c.width_limit.ensures c.layout.ensures c.level.ensures.value c.in_ok-begin_row.ensures c.in_ok-push_name.ensures)
     ∙ ap (λ o. midpoint_with c.args.options.now.defensive row (option_map progress_of o) c.args.throughput) (sym c.in-Some.is)
 
 pub returns-in_default-clause-line : goal.returns-in_default-clause-line
 returns-in_default-clause-line c =
     let o = c.args.options.now in
     begun_as (ap (λ v. in_color o.colored (row_line_with o.defensive o.terminal_dimensions.0 c.args.midpoint (row_of c.args.row.now) (option_map progress_of v) c.args.throughput)) (sym c.in_default.is))
-    (begun_then (begun_to _ _ c.width_limit.ensures c.begin.ensures) c.in_ok-push_head.ensures)
+    (head_begun c.args.out.now c.args.options.now.colored c.args.options.now.defensive (row_of c.args.row.now) _ _ c.width_limit.ensures c.layout.ensures c.level.ensures.value c.in_ok-begin_row.ensures c.in_ok-push_name.ensures)

@@ -3,4 +3,4 @@ use Rattle.prodash_line.specs.Signs.{spelling}
 use Rattle.prodash_line.proofs.render.line.page.writing.spell.Given as goal
 
 abbrev pub invariant-loop-sign : goal.invariant-loop-sign
-invariant-loop-sign l = l.out.items ≡ spelling (take l.sign-index l.signs)
+invariant-loop-sign l = l.out ≡ spelling (take l.sign-index l.signs)

@@ -11,7 +11,7 @@ returns c =
     let counted = c.count-count.ensures in
     let style = c.style_of_length-style.ensures ∙ ap (style_of_length c.args.style) c.from.ensures in
     appends_counted c.args.style text c.args.count c.count-count.result (printable-repeated c.args.count c.args.character c.requires.low c.requires.high) (length-replicate c.args.count c.args.character) counted
-    (c.in_ok-open.ensures.bytes ∙ ap (λ s. c.count-count.new.self.bytes.items ++ open_bytes s) style) c.in_ok-open.ensures.line
-    (c.in_ok-push_copies.ensures ∙ ap (λ t. c.open.new.self.bytes.items ++ t) (sym (take_copies c.count-count.result c.args.count c.args.character counted.within)))
+    (c.in_ok-open.ensures.bytes ∙ ap (λ s. c.count-count.new.self.bytes ++ open_bytes s) style) c.in_ok-open.ensures.line
+    (c.in_ok-push_copies.ensures ∙ ap (λ t. c.open.new.self.bytes ++ t) (sym (take_copies c.count-count.result c.args.count c.args.character counted.within)))
     (record { width = refl; limit = refl; room = refl })
-    (c.in_ok-reset.ensures.bytes ∙ ap (λ s. c.push_copies.new.out.items ++ reset_bytes s) style) c.in_ok-reset.ensures.line
+    (c.in_ok-reset.ensures.bytes ∙ ap (λ s. c.push_copies-2.new.self ++ reset_bytes s) style) c.in_ok-reset.ensures.line

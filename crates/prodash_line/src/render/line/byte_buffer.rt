@@ -1,0 +1,129 @@
+//! A buffer that bytes are appended to.
+ghost use Rattle.std.specs.Prelude.{◌≡◌, ◌+◌, ◌∷◌, [], ◌++◌, ◌≤◌, replicate, take, vec_len, OnOk, IfOk};
+
+use std::alloc::{AllocError, Global};
+use std::marker::Model;
+
+/// How many bytes are initialized ahead if there is memory for them.
+const AHEAD: usize = 4096;
+
+/// Bytes that others are appended to. Memory past them is initialized ahead, so that an append is
+/// one comparison and one copy. Contracts see the list of the bytes.
+#[derive(Drop)]
+pub(crate) struct ByteBuffer {
+    /// The bytes, and after them others that are written over.
+    initialized: Vec<u8>,
+    /// How many bytes there are.
+    length: usize,
+}
+
+impl Model for ByteBuffer {
+    ghost use Rattle.std.specs.Prelude.{◌≤◌, List, ℕ, take, vec_len};
+
+    ghost Value = { List ℕ };
+
+    ghost view = { λ b. take b.length b.initialized.items };
+
+    ghost invariant = { λ b. b.length ≤ vec_len b.initialized };
+}
+
+impl ByteBuffer {
+    /// Returns an empty buffer.
+    pub(crate) fn new(alloc: Global) -> ByteBuffer
+        ensures { result ≡ [] }
+    {
+        ByteBuffer {
+            initialized: Vec::new(alloc),
+            length: 0,
+        }
+    }
+
+    /// Returns the bytes.
+    pub(crate) fn as_slice(&self) -> &[u8]
+        ensures { result.now ≡ self.now }
+    {
+        &self.initialized[..self.length]
+    }
+
+    /// Returns the bytes without a copy.
+    pub(crate) fn into_vec(self) -> Vec<u8>
+        ensures { result.items ≡ self }
+    {
+        let ByteBuffer {
+            mut initialized,
+            length,
+        } = self;
+        initialized.truncate(length);
+        initialized
+    }
+
+    /// Empties the buffer and keeps its memory.
+    pub(crate) fn clear(&mut self)
+        ensures { self.new ≡ [] }
+    {
+        self.length = 0;
+    }
+
+    /// Appends a byte. Fails if out of memory.
+    #[inline]
+    pub(crate) fn push(&mut self, byte: u8) -> Result<(), AllocError>
+        ensures { OnOk result (self.new ≡ self.old ++ byte ∷ []) }
+    {
+        let end = grow(&mut self.initialized, self.length, 1)?;
+        self.initialized[self.length] = byte;
+        self.length = end;
+        Ok(())
+    }
+
+    /// Appends some bytes. Fails if out of memory.
+    #[inline]
+    pub(crate) fn extend_from_slice(&mut self, bytes: &[u8]) -> Result<(), AllocError>
+        ensures { OnOk result (self.new ≡ self.old ++ bytes.now) }
+    {
+        let end = grow(&mut self.initialized, self.length, bytes.len())?;
+        self.initialized[self.length..end].copy_from_slice(bytes);
+        self.length = end;
+        Ok(())
+    }
+
+    /// Appends a byte `count` times. Fails if out of memory.
+    #[inline]
+    pub(crate) fn push_copies(&mut self, byte: u8, count: u16) -> Result<(), AllocError>
+        ensures { OnOk result (self.new ≡ self.old ++ replicate count byte) }
+    {
+        let end = grow(&mut self.initialized, self.length, usize::from(count))?;
+        self.initialized[self.length..end].fill(byte);
+        self.length = end;
+        Ok(())
+    }
+}
+
+/// Makes room for `additional` bytes behind the first `length` ones, and returns where they end.
+#[inline]
+fn grow(initialized: &mut Vec<u8>, length: usize, additional: usize) -> Result<usize, AllocError>
+    requires { length ≤ vec_len initialized.old }
+    ensures end { IfOk result (λ end. end ≡ length + additional) }
+    ensures room { IfOk result (λ end. end ≤ vec_len initialized.new) }
+    ensures kept { take length initialized.new.items ≡ take length initialized.old.items }
+    ensures within { length ≤ vec_len initialized.new }
+{
+    let spare = initialized.len() - length;
+    if additional > spare {
+        initialize(initialized, additional - spare)?;
+    }
+    Ok(length + additional)
+}
+
+/// Initializes at least `missing` bytes more.
+#[cold]
+#[inline(never)]
+fn initialize(bytes: &mut Vec<u8>, missing: usize) -> Result<(), AllocError>
+    ensures more { OnOk result (vec_len bytes.old + missing ≤ vec_len bytes.new) }
+    ensures kept { take (vec_len bytes.old) bytes.new.items ≡ bytes.old.items }
+    ensures within { vec_len bytes.old ≤ vec_len bytes.new }
+{
+    bytes.reserve(missing)?;
+    let length = bytes.len();
+    let room = bytes.capacity() - length;
+    bytes.resize(length + missing.max(AHEAD).min(room), 0)
+}
