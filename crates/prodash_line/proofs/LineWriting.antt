@@ -1,7 +1,7 @@
 -- What a line writer has written, piece by piece.
 use Rattle.std.proofs.Common.{◌≡◌, ℕ, zero, suc, ◌+◌, ◌-◌, ◌≤◌, ◌<◌, ◌^◌, true, false, List, [], ◌∷◌, ◌++◌, Option, Some, None, length, take, replicate, chars, refl, sym, ap, subst, ◌∙◌, append_assoc, append-nil, arith, length-append}
 use Rattle.std.specs.Str.{IsUtf8}
-use Rattle.std.proofs.lemmas.List.{length-replicate, length-take, replicate-append-replicate}
+use Rattle.std.proofs.lemmas.List.{length-replicate, length-take}
 use Rattle.unicode_width.specs.Width.{str_width}
 use Rattle.prodash_line.specs.declared.render.line.draw.line_writer.LineWriter.{LineWriter}
 use Rattle.prodash_line.specs.declared.render.line.draw.room.Room.{Room}
@@ -95,13 +95,6 @@ pub take_copies : (k n c : ℕ) → k ≤ n → take k (replicate n c) ≡ repli
 take_copies zero n c l = refl
 take_copies (suc k) zero c l = absurd (omega arith)
 take_copies (suc k) (suc n) c l = ap (λ t. c ∷ t) (take_copies k n c (omega arith))
-
--- copies of a byte, and after them as many more
-pub more_copies : (count left taken byte : ℕ) (before out new : List ℕ) → left ≤ count → taken ≤ left → taken ≤ 64 → out ≡ before ++ replicate (count - left) byte
-    → new ≡ out ++ take taken (replicate 64 byte) → new ≡ before ++ replicate (count - (left - taken)) byte
-more_copies count left taken byte before out new within few fits o n =
-    n ∙ ap (λ t. out ++ t) (take_copies taken 64 byte fits) ∙ ap (λ t. t ++ replicate taken byte) o ∙ append_assoc before (replicate (count - left) byte) (replicate taken byte)
-    ∙ ap (λ t. before ++ t) (replicate-append-replicate (count - left) taken byte ∙ ap (λ k. replicate k byte) (let all : (count - left) + taken ≡ count - (left - taken) = omega arith in all))
 
 -- the same without a style
 pub appends_printable : {a b w : LineWriter} (text : List ℕ) (n count : ℕ) → is_printable text ≡ true → length text ≡ n → Counts a n count b
