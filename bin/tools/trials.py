@@ -3,7 +3,6 @@ import os
 import shutil
 import tempfile
 import threading
-import time
 from concurrent.futures import ThreadPoolExecutor
 
 import kit
@@ -15,41 +14,8 @@ REFUSED, LOST, NO_GOAL = "refused at a goal", "REFUSED ONLY BY A LOST NAME", "RE
 THROUGH, UNREAD, UNTOLD = "GOT THROUGH", "DOES NOT READ", "COULD NOT BE JUDGED"
 ENDS = (REFUSED, LOST, NO_GOAL, THROUGH, UNREAD, UNTOLD)
 
-# The most edits of a round, the bytes that a check is likely to take, and the seconds in which it
-# takes them.
-ROUND, CHECK_BYTES, GROWTH = 250, 2_500_000_000, 20
-
-
-class Slots:
-    """Lets checks begin: at most `most` at a time, and each only if there is memory for it.
-
-    Memory that is kept free is for other programs. If none is, the first check needs none free.
-    """
-
-    def __init__(self, rt, most, kept_free=0):
-        self.rt, self.most, self.kept_free = rt, most, kept_free
-        # When each check that runs began.
-        self.begun, self.changed = [], threading.Condition()
-
-    def has_room(self):
-        if not self.begun and not self.kept_free:
-            return True
-        young = sum(time.time() - it < GROWTH for it in self.begun)
-        needed = self.kept_free + (young + 2) * CHECK_BYTES
-        return len(self.begun) < self.most and self.rt.free() > needed
-
-    def __enter__(self):
-        with self.changed:
-            # what other programs leave of the memory changes without a notice
-            while not self.has_room():
-                self.changed.wait(1)
-            self.begun.append(time.time())
-
-    def __exit__(self, *_):
-        with self.changed:
-            # which of them ended makes no difference: the oldest takes no more memory
-            self.begun.pop(0)
-            self.changed.notify_all()
+# The most edits of a round.
+ROUND = 250
 
 
 class Trial:
@@ -102,7 +68,8 @@ class Trial:
 
     def check_over_copy(self, texts, *flags):
         """Checks the crate with these texts, over its own copy of the kept work."""
-        with self.slots, tempfile.TemporaryDirectory(prefix="kept-", dir=self.room) as kept:
+        slot, folder = self.slots.slot(len(self.edits)), {"prefix": "kept-", "dir": self.room}
+        with slot, tempfile.TemporaryDirectory(**folder) as kept:
             shutil.copytree(self.kept, kept, dirs_exist_ok=True)
             return self.check(texts, kept, flags)
 
@@ -111,7 +78,7 @@ class Trial:
 
         No other check of the crate may run beside it.
         """
-        with self.slots:
+        with self.slots.slot(len(self.edits)):
             return self.check(texts, self.kept, flags)
 
     def run(self):
