@@ -43,6 +43,16 @@ impl Text {
         })
     }
 
+    /// Returns a copy of `text` in this text's memory, or an `AllocError` if out of memory.
+    pub(crate) fn replaced_by(self, text: &str) -> Result<Text, AllocError>
+        ensures { IfOk result (λ t. t ≡ text.now) }
+    {
+        let mut copy = self.text;
+        copy.clear();
+        copy.push_str(text)?;
+        Ok(Text { text: copy })
+    }
+
     /// Returns the text as a string slice.
     pub fn as_str(&self) -> &str
         ensures { result.now ≡ self.now }

@@ -11,6 +11,7 @@ use crate::text::Text;
 use crate::time::Moment;
 use circular_buffer::HeapCircularBuffer;
 use std::alloc::{AllocError, Global};
+use std::fmt;
 use std::marker::Model;
 
 /// The number of pushes that a copy has seen. The next copy takes it and returns later messages
@@ -59,10 +60,12 @@ impl MessageCopyState {
 /// assert_eq!(rt; messages.len(), 1);
 /// assert_eq!(rt; messages[0].message.as_str(), "done");
 /// ```
-#[derive(Debug, Drop)]
+#[derive(Drop)]
 pub struct MessageRingBuffer {
     ring: HeapCircularBuffer<Message>,
     pushed: u64,
+    /// The message that was replaced last, whose memory the next one is copied into.
+    replaced: Option<Message>,
 }
 
 impl Model for MessageRingBuffer {
@@ -85,7 +88,11 @@ impl MessageRingBuffer {
         ensures reason { IsOkUnless result Refusal.Memory }
     {
         let ring = HeapCircularBuffer::with_capacity(alloc, capacity)?;
-        Ok(MessageRingBuffer { ring, pushed: 0 })
+        Ok(MessageRingBuffer {
+            ring,
+            pushed: 0,
+            replaced: None,
+        })
     }
 
     /// Returns the greatest number of messages that the ring keeps.
@@ -125,14 +132,8 @@ impl MessageRingBuffer {
         if self.pushed == u64::MAX {
             return Err(Refusal::TooManyMessages);
         }
-        let origin = Text::from_str(alloc, origin)?;
-        let message = Text::from_str(alloc, message)?;
-        self.ring.push_back(Message {
-            time: at,
-            level,
-            origin,
-            message,
-        });
+        let message = copied_into(alloc, self.replaced.take(), at, level, origin, message)?;
+        self.replaced = self.ring.push_back(message);
         self.pushed += 1;
         Ok(())
     }
@@ -180,8 +181,49 @@ impl MessageRingBuffer {
         Ok(MessageRingBuffer {
             ring: copied(alloc, &self.ring)?,
             pushed: self.pushed,
+            replaced: None,
         })
     }
+}
+
+impl fmt::Debug for MessageRingBuffer {
+    /// Writes the messages and the count of pushes.
+    fn fmt<W: fmt::Write>(&self, f: &mut fmt::Formatter<W>) -> fmt::Result {
+        f.debug_struct("MessageRingBuffer")
+            .field("ring", &self.ring)
+            .field("pushed", &self.pushed)
+            .finish()
+    }
+}
+
+/// Returns a message with copies of these texts, in the memory of another message if there is one,
+/// or an `AllocError` if out of memory.
+fn copied_into(
+    alloc: Global,
+    other: Option<Message>,
+    at: Moment,
+    level: MessageLevel,
+    origin: &str,
+    message: &str,
+) -> Result<Message, AllocError>
+    ensures { IfOk result (λ m. m ≡ message_of at level origin.now message.now) }
+{
+    let (origin, message) = match other {
+        Some(other) => (
+            other.origin.replaced_by(origin)?,
+            other.message.replaced_by(message)?,
+        ),
+        None => (
+            Text::from_str(alloc, origin)?,
+            Text::from_str(alloc, message)?,
+        ),
+    };
+    Ok(Message {
+        time: at,
+        level,
+        origin,
+        message,
+    })
 }
 
 /// Returns a buffer of the same capacity with copies of the messages, or an `AllocError` if out of
