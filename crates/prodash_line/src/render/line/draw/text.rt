@@ -11,7 +11,12 @@ use unicode_width::UnicodeWidthStr;
 fn is_all_printable(text: &[u8]) -> bool
     ensures { result ≡ is_printable text.now }
 {
-    text.iter().all(|byte| 0x20 <= *byte && *byte <= 0x7e)
+    for byte in text {
+        if *byte < 0x20 || 0x7e < *byte {
+            return false;
+        }
+    }
+    true
 }
 
 /// Returns the width of a text, in columns.
