@@ -2,6 +2,7 @@ pub mod ScreenTaken
 pub mod Prefixes
 pub mod Cutting
 pub mod LineWriting
+pub mod JoinedTexts
 pub mod OverwriteBytes
 pub mod Ticks
 pub mod Written

@@ -17,7 +17,7 @@ use Rattle.prodash_line.proofs.Cutting.{cut-last, after-last, cut-nil, columns-c
 -- ---- one call
 
 -- one piece more
-appends_piece : (old new : LineWriter) (p : Piece) → new.bytes ≡ old.bytes ++ line_bytes (styled p.style (written_in old.room p.text) ∷ [])
+pub appends_piece : (old new : LineWriter) (p : Piece) → new.bytes ≡ old.bytes ++ line_bytes (styled p.style (written_in old.room p.text) ∷ [])
     → new.width ≡ capped (old.width + width_of p) → new.limit ≡ old.limit → new.room ≡ room_after old.room p.text → Appends old (p ∷ []) new
 appends_piece old new p b w l r = record {
   writes = λ limit before line h.

@@ -19,7 +19,7 @@ use Rattle.prodash_line.proofs.LineWriting.{appends_as, appends_then, begun_then
 pub length-parts : (text first second third : List ℕ) → text ≡ first ++ (second ++ third) → length text ≡ length first + length second + length third
 length-parts text first second third e = omega (arith, ap length e, length-append first (second ++ third), length-append second third)
 
-take-parts : (k : ℕ) (xs ys : List ℕ) → take k (xs ++ ys) ≡ take k xs ++ take (k - length xs) ys
+pub take-parts : (k : ℕ) (xs ys : List ℕ) → take k (xs ++ ys) ≡ take k xs ++ take (k - length xs) ys
 take-parts zero xs ys = ap (λ n. take n ys) (let e : 0 ≡ 0 - length xs = omega arith in e)
 take-parts (suc k) [] ys = ap (λ n. take n ys) (let e : suc k ≡ suc k - 0 = omega arith in e)
 take-parts (suc k) (x ∷ xs) ys = ap (λ t. x ∷ t) (take-parts k xs ys) ∙ ap (λ n. x ∷ (take k xs ++ take n ys)) (let e : k - length xs ≡ suc k - length (x ∷ xs) = omega arith in e)
@@ -56,10 +56,10 @@ unit_end values unit before first second own f s o =
     omega arith
 
 -- a space, padding and values
-pub padded_appends : {a b c d : LineWriter} (colored : Bool) (midpoint own pad : ℕ) (values : Line) → own ≡ end_of_values a.width values → pad ≡ midpoint - own
-    → Appends a (spaces 1 ∷ []) b → Appends b (spaces pad ∷ []) c → Appends c (in_color colored values) d → Appends a (in_color colored (padded_values midpoint a.width values)) d
-padded_appends colored midpoint own pad values o p one two three =
-    appends_as (ap (λ n. spaces 1 ∷ spaces n ∷ in_color colored values) (p ∙ ap (λ n. midpoint - n) o)) (appends_then one (appends_then two three))
+pub padded_appends : {a b c : LineWriter} (colored : Bool) (midpoint own pad : ℕ) (values : Line) → own ≡ end_of_values a.width values → pad ≡ midpoint - own
+    → Appends a (spaces 1 ∷ spaces pad ∷ []) b → Appends b (in_color colored values) c → Appends a (in_color colored (padded_values midpoint a.width values)) c
+padded_appends colored midpoint own pad values o p gap shown =
+    appends_as (ap (λ n. spaces 1 ∷ spaces n ∷ in_color colored values) (p ∙ ap (λ n. midpoint - n) o)) (appends_then gap shown)
 
 -- the midpoint of a row, from where its values end behind its head
 pub row_midpoint : {limit : Option ℕ} {old w : LineWriter} (colored defensive : Bool) (row : PathRow) (p : RowProgress) (t : Option Throughput) → Begun limit old (in_color colored (head_of defensive row)) w

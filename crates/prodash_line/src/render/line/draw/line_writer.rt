@@ -1,6 +1,6 @@
 //! A writer of lines: each piece of a line is written straight into a buffer of bytes, as far as
 //! the line isn't cut.
-ghost use Rattle.std.specs.Prelude.{◌≡◌, ◌-◌, ℕ, ◌∷◌, [], ◌++◌, ◌≤◌, true, chars, length, replicate, take, OnOk, IfOk};
+ghost use Rattle.std.specs.Prelude.{◌≡◌, ◌-◌, ℕ, ◌∷◌, [], ◌++◌, ◌≤◌, ◌<◌, true, chars, length, replicate, take, OnOk, IfOk};
 ghost use Rattle.prodash_line.specs.Signs.{spelling_of};
 ghost use Rattle.prodash_line.specs.Lines.{piece, styled, spaces, columns_of, indented};
 ghost use Rattle.prodash_line.specs.Writing.{is_printable, style_of_length, open_bytes, reset_bytes, Appends, Begun, SameLine, Counts};
@@ -237,6 +237,15 @@ impl LineWriter {
         ensures { OnOk result (Appends self.old (spaces count ∷ []) self.new) }
     {
         self.push_copies(b' ', count)
+    }
+
+    /// Appends a space, and `padding` spaces as a piece of their own. Fails if out of memory.
+    pub(crate) fn push_gap(&mut self, padding: u16) -> Result<(), AllocError>
+        requires { padding < 65535 }
+        ensures { OnOk result (Appends self.old (spaces 1 ∷ spaces padding ∷ []) self.new) }
+    {
+        self.push_copies(b' ', 1 + padding)?;
+        Ok(())
     }
 
     /// Returns the width of the line so far as it is cut, in columns, at most 65535.

@@ -123,8 +123,7 @@ fn push_fraction(
     let (slash, bound) = format_bound(&mut bound_digits, done_at);
     let values = (step.len() + slash.len() + bound.len()) as u16;
     let own = out.width().saturating_add(1).saturating_add(values);
-    out.push_spaces(1)?;
-    out.push_spaces(midpoint.saturating_sub(own))?;
+    out.push_gap(midpoint.saturating_sub(own))?;
     let count = out.count(values);
     let style = style_of_length(colored.then_some(values_style()), usize::from(count));
     out.open(style)?;
@@ -176,8 +175,7 @@ fn push_in_unit(
         .saturating_add(values_width)
         .saturating_add(1)
         .saturating_add(name_width);
-    out.push_spaces(1)?;
-    out.push_spaces(midpoint.saturating_sub(own))?;
+    out.push_gap(midpoint.saturating_sub(own))?;
     let style = options.colored.then_some(values_style());
     out.push_indented(style, 0, values, values_width)?;
     out.push_spaces(1)?;

@@ -44,7 +44,7 @@ returns-clause-line c =
     let shown : c.style_of_length-style.result ≡ style_of_length style count =
     c.style_of_length-style.ensures ∙ ap (λ s. style_of_length s c.from.result) (c.then_some.ensures ∙ ap (then_some c.args.colored) c.values_style.ensures) ∙ ap (style_of_length style) c.from.ensures in
     padded_appends c.args.colored c.args.midpoint c.saturating_add-own.result c.saturating_sub.result (styled (Some values_style) text ∷ [])
-    (returns-clause-end c) c.saturating_sub.ensures c.in_ok-push_spaces.ensures c.in_ok-push_spaces-2.ensures
+    (returns-clause-end c) c.saturating_sub.ensures c.in_ok-push_gap.ensures
     (appends_counted style text _ count printable
     (omega (arith, size, ap length c.as_bytes.ensures.value, ap length c.as_bytes-2.ensures.value, ap length c.as_bytes-3.ensures.value)) counted
     (c.in_ok-open.ensures.bytes ∙ ap (λ s. c.count-count.new.self.bytes ++ open_bytes s) shown) c.in_ok-open.ensures.line
