@@ -112,7 +112,7 @@ joined x (y ∷ ys) = x ++ joined y ys
 abbrev pub ArePrintable : List (List ℕ) → Type 0
 ArePrintable texts = AllByRecursion (λ t. is_printable t ≡ true) texts
 
-printable-joined : (x : List ℕ) (xs : List (List ℕ)) → is_printable x ≡ true → ArePrintable xs → is_printable (joined x xs) ≡ true
+pub printable-joined : (x : List ℕ) (xs : List (List ℕ)) → is_printable x ≡ true → ArePrintable xs → is_printable (joined x xs) ≡ true
 printable-joined x [] h all = h
 printable-joined x (y ∷ ys) h all = printable-append x (joined y ys) h (printable-joined y ys all.0 all.1)
 

@@ -1,5 +1,5 @@
 //! The bar of a progress.
-ghost use Rattle.std.specs.Prelude.{◌≡◌, ◌-◌, ◌≤◌, ◌++◌, OnOk};
+ghost use Rattle.std.specs.Prelude.{◌≡◌, ◌-◌, ◌≤◌, ◌++◌, true, OnOk};
 ghost use Rattle.prodash_line.specs.ProgressRows as rows;
 ghost use Rattle.prodash_line.specs.ProgressRows.{numbered_cells};
 ghost use Rattle.prodash_line.specs.Writing.{AppendsIn, SameLine};
@@ -54,16 +54,35 @@ fn push_bar_with(
     cells: u16,
     filled: u16,
 ) -> Result<(), AllocError>
-    requires { filled ≤ cells }
+    requires within { filled ≤ cells }
+    requires short { cells ≤ 65531 }
     ensures { OnOk result
         (AppendsIn colored out.old (rows.bar_with style cells filled) out.new) }
 {
-    let bright = colored.then_some(style);
-    let dim = colored.then_some(style.dimmed());
+    if colored {
+        return push_colored_bar(out, style, cells, filled);
+    }
+    let count = out.count(cells + (BRACKETS + ARROW));
+    let count = out.push_prefix(b" [", count)?;
+    let count = out.push_run_prefix(b'=', filled, b'>', count)?;
+    out.push_run_prefix(b'-', cells - filled, b']', count)?;
+    Ok(())
+}
+
+/// Appends a bar in this style, of `cells` cells, of which the first `filled` are filled.
+fn push_colored_bar(
+    out: &mut LineWriter,
+    style: Style,
+    cells: u16,
+    filled: u16,
+) -> Result<(), AllocError>
+    requires { filled ≤ cells }
+    ensures { OnOk result (AppendsIn true out.old (rows.bar_with style cells filled) out.new) }
+{
     out.push_printable(b" [")?;
-    out.push_repeated(bright, b'=', filled)?;
-    out.push_repeated(bright, b'>', 1)?;
-    out.push_repeated(dim, b'-', cells - filled)?;
+    out.push_repeated(Some(style), b'=', filled)?;
+    out.push_repeated(Some(style), b'>', 1)?;
+    out.push_repeated(Some(style.dimmed()), b'-', cells - filled)?;
     out.push_printable(b"]")?;
     Ok(())
 }

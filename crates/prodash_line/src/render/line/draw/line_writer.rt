@@ -1,6 +1,6 @@
 //! A writer of lines: each piece of a line is written straight into a buffer of bytes, as far as
 //! the line isn't cut.
-ghost use Rattle.std.specs.Prelude.{◌≡◌, ◌-◌, ℕ, ◌∷◌, [], ◌++◌, ◌≤◌, ◌<◌, true, chars, length, replicate, take, OnOk, IfOk};
+ghost use Rattle.std.specs.Prelude.{◌≡◌, ◌+◌, ◌-◌, ℕ, ◌∷◌, [], ◌++◌, ◌≤◌, ◌<◌, true, chars, length, replicate, take, OnOk, IfOk};
 ghost use Rattle.prodash_line.specs.Signs.{spelling_of};
 ghost use Rattle.prodash_line.specs.Lines.{piece, styled, spaces, columns_of, indented};
 ghost use Rattle.prodash_line.specs.Writing.{is_printable, style_of_length, open_bytes, reset_bytes, Appends, Begun, SameLine, Counts};
@@ -171,6 +171,30 @@ impl LineWriter {
         Ok(count - written as u16)
     }
 
+    /// Writes the first `limit` bytes of a run that has been counted: a byte `count` times and then
+    /// another one. Returns how many bytes more are to be written after it. Fails if out of memory.
+    pub(crate) fn push_run_prefix(
+        &mut self,
+        byte: u8,
+        count: u16,
+        last: u8,
+        limit: u16,
+    ) -> Result<u16, AllocError>
+        ensures bytes { OnOk result
+            (self.new.bytes ≡ self.old.bytes ++ take limit (replicate count byte ++ last ∷ [])) }
+        ensures more { IfOk result (λ more. more ≡ limit - (count + 1)) }
+        ensures line { OnOk result (SameLine self.old self.new) }
+    {
+        if count < limit {
+            self.bytes.push_copies(byte, count)?;
+            self.bytes.push(last)?;
+            Ok(limit - count - 1)
+        } else {
+            self.bytes.push_copies(byte, limit)?;
+            Ok(0)
+        }
+    }
+
     /// Appends a printable ASCII character `count` times, in this style if there is one. Fails if
     /// out of memory.
     pub(crate) fn push_repeated(
@@ -184,9 +208,6 @@ impl LineWriter {
         ensures { OnOk result
             (Appends self.old (styled style (replicate count character) ∷ []) self.new) }
     {
-        if style.is_none() {
-            return self.push_copies(character, count);
-        }
         let count = self.count(count);
         let style = style_of_length(style, usize::from(count));
         self.open(style)?;

@@ -1,22 +1,35 @@
-use Rattle.std.proofs.Common.{◌≡◌, ℕ, [], ◌∷◌, Option, replicate, ap, ◌∙◌}
-use Rattle.std.specs.Bool.{then_some}
-use Rattle.prodash_line.specs.declared.render.line.draw.line_writer.LineWriter.{LineWriter}
-use Rattle.prodash_line.specs.declared.render.line.page.style.Style.{Style}
-use Rattle.prodash_line.specs.Lines.{styled}
-use Rattle.prodash_line.specs.TextStyles.{dimmed}
-use Rattle.prodash_line.specs.Writing.{Appends}
-use Rattle.prodash_line.proofs.LineWriting.{appends_as, appends_then}
+use Rattle.std.proofs.Common.{◌≡◌, Bool, ℕ, List, [], ◌∷◌, ◌++◌, ◌+◌, ◌-◌, codes, length, replicate, append_assoc, length-append, refl, ap, sym, subst, ◌∙◌, arith}
+use Rattle.std.proofs.lemmas.List.{length-replicate}
+use Rattle.prodash_line.specs.ProgressRows.{bar_with}
+use Rattle.prodash_line.specs.Writing.{AppendsIn}
+use Rattle.prodash_line.proofs.Columns.{printable-repeated}
+use Rattle.prodash_line.proofs.JoinedTexts.{joined, ArePrintable, printable-joined, appends_apart}
+use Rattle.prodash_line.proofs.LineWriting.{appends_printable, same_then}
+use Rattle.prodash_line.proofs.RowLines.{length-parts, parts_written}
 use Rattle.prodash_line.proofs.render.line.draw.bar.push_bar_with.Goals as goal
-
-in_style : {a b : LineWriter} (style shown : Option Style) (n character : ℕ) → style ≡ shown → Appends a (styled style (replicate n character) ∷ []) b → Appends a (styled shown (replicate n character) ∷ []) b
-in_style style shown n character e h = appends_as (ap (λ s. styled s (replicate n character) ∷ []) e) h
 
 pub returns : goal.returns
 returns c =
-    let colored = c.args.colored in
-    let bright = then_some colored c.args.style in
-    let dim = c.then_some-dim.ensures ∙ ap (then_some colored) c.dimmed.ensures in
-    appends_then c.in_ok-push_printable.ensures
-    (appends_then (in_style _ bright c.args.filled 61 c.then_some-bright.ensures c.in_ok-push_repeated.ensures)
-    (appends_then (in_style _ bright 1 62 c.then_some-bright.ensures c.in_ok-push_repeated-2.ensures)
-    (appends_then (in_style _ (then_some colored (dimmed c.args.style)) _ 45 dim c.in_ok-push_repeated-3.ensures) c.in_ok-push_printable-2.ensures)))
+    let n = c.args.cells - c.args.filled in
+    let filled : List ℕ = replicate c.args.filled 61 in
+    let others : List ℕ = replicate n 45 in
+    let texts = filled ∷ codes ">" ∷ others ∷ codes "]" ∷ [] in
+    let bar = joined (codes " [") texts in
+    let parts : bar ≡ codes " [" ++ ((filled ++ codes ">") ++ (others ++ codes "]")) = ap (λ t. codes " [" ++ t) (sym (append_assoc filled (codes ">") (others ++ codes "]"))) in
+    let printable : ArePrintable texts = (printable-repeated c.args.filled 61 (omega arith) (omega arith), (refl, (printable-repeated n 45 (omega arith) (omega arith), (refl, tt)))) in
+    let run : length (filled ++ codes ">") ≡ c.args.filled + 1 = omega (arith, length-append filled (codes ">"), length-replicate {A = ℕ} c.args.filled 61) in
+    let size : length bar ≡ c.args.cells + 4 =
+    omega (
+      arith,
+      length-parts bar (codes " [") (filled ++ codes ">") (others ++ codes "]") parts,
+      run,
+      length-append others (codes "]"),
+      length-replicate {A = ℕ} n 45,
+      c.requires.within,
+    ) in
+    subst (λ (colored : Bool). AppendsIn colored c.args.out.now (bar_with c.args.style c.args.cells c.args.filled) c.push_run_prefix-2.new.self) (sym c.if-colored.false)
+    (appends_apart (codes " [") texts refl printable
+    (appends_printable bar _ c.count-count.result (printable-joined (codes " [") texts refl printable) size c.count-count.ensures
+    (parts_written c.count-count.new.self.bytes _ _ _ bar (codes " [") (filled ++ codes ">") (others ++ codes "]") c.count-count.result _ _ parts
+    c.in_ok-count.ensures.bytes c.in_ok-count.ensures.more c.in_ok-count-2.ensures.bytes (c.in_ok-count-2.ensures.more ∙ ap (λ k. c.in_ok-count.count - k) (sym run)) c.in_ok-push_run_prefix.ensures.bytes)
+    (same_then c.in_ok-count.ensures.line (same_then c.in_ok-count-2.ensures.line c.in_ok-push_run_prefix.ensures.line))))

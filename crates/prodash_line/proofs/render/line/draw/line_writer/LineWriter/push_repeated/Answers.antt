@@ -14,4 +14,4 @@ returns c =
     (c.in_ok-open.ensures.bytes ∙ ap (λ s. c.count-count.new.self.bytes ++ open_bytes s) style) c.in_ok-open.ensures.line
     (c.in_ok-push_copies.ensures ∙ ap (λ t. c.open.new.self.bytes ++ t) (sym (take_copies c.count-count.result c.args.count c.args.character counted.within)))
     (record { width = refl; limit = refl; room = refl })
-    (c.in_ok-reset.ensures.bytes ∙ ap (λ s. c.push_copies-2.new.self ++ reset_bytes s) style) c.in_ok-reset.ensures.line
+    (c.in_ok-reset.ensures.bytes ∙ ap (λ s. c.push_copies.new.self ++ reset_bytes s) style) c.in_ok-reset.ensures.line
