@@ -171,6 +171,32 @@ impl LineWriter {
         Ok(count - written as u16)
     }
 
+    /// Writes the first `limit` bytes of a text that has been counted, given in three parts. Fails if
+    /// out of memory.
+    pub(crate) fn push_parts(
+        &mut self,
+        first: &[u8],
+        second: &[u8],
+        third: &[u8],
+        limit: u16,
+    ) -> Result<(), AllocError>
+        requires { length first.now + length second.now + length third.now ≤ 65535 }
+        ensures bytes { OnOk result (self.new.bytes
+            ≡ self.old.bytes ++ take limit (first.now ++ (second.now ++ third.now))) }
+        ensures line { OnOk result (SameLine self.old self.new) }
+    {
+        if first.len() + second.len() + third.len() <= usize::from(limit) {
+            self.bytes.extend_from_slice(first)?;
+            self.bytes.extend_from_slice(second)?;
+            self.bytes.extend_from_slice(third)?;
+            return Ok(());
+        }
+        let limit = self.push_prefix(first, limit)?;
+        let limit = self.push_prefix(second, limit)?;
+        self.push_prefix(third, limit)?;
+        Ok(())
+    }
+
     /// Writes the first `limit` bytes of a run that has been counted: a byte `count` times and then
     /// another one. Returns how many bytes more are to be written after it. Fails if out of memory.
     pub(crate) fn push_run_prefix(

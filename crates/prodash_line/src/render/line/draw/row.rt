@@ -127,9 +127,7 @@ fn push_fraction(
     let count = out.count(values);
     let style = style_of_length(colored.then_some(values_style()), usize::from(count));
     out.open(style)?;
-    let count = out.push_prefix(step.as_bytes(), count)?;
-    let count = out.push_prefix(slash.as_bytes(), count)?;
-    out.push_prefix(bound.as_bytes(), count)?;
+    out.push_parts(step.as_bytes(), slash.as_bytes(), bound.as_bytes(), count)?;
     out.reset(style)?;
     Ok(own)
 }

@@ -1,12 +1,12 @@
-use Rattle.std.proofs.Common.{◌≡◌, ◌+◌, length, true, [], ◌∷◌, ◌++◌, Some, ap, sym, ◌∙◌, arith}
+use Rattle.std.proofs.Common.{◌≡◌, ◌+◌, length, take, true, [], ◌∷◌, ◌++◌, Some, ap, sym, ◌∙◌, arith}
 use Rattle.prodash_line.specs.ProgressRows.{fraction_of}
 use Rattle.std.specs.Bool.{then_some}
 use Rattle.prodash_line.specs.Lines.{styled}
 use Rattle.prodash_line.specs.TextStyles.{values_style}
 use Rattle.prodash_line.specs.Writing.{is_printable, style_of_length, open_bytes, reset_bytes}
 use Rattle.prodash_line.proofs.Columns.{printable-append, printable-decimal}
-use Rattle.prodash_line.proofs.LineWriting.{appends_counted, same_then}
-use Rattle.prodash_line.proofs.RowLines.{length-parts, parts_written, fraction_end, padded_appends}
+use Rattle.prodash_line.proofs.LineWriting.{appends_counted}
+use Rattle.prodash_line.proofs.RowLines.{length-parts, fraction_end, padded_appends}
 use Rattle.prodash_line.proofs.render.line.draw.row.push_fraction.Goals as goal
 
 step_printable : (c : goal.In_ok-reset) → is_printable c.as_bytes.result.now ≡ true
@@ -48,7 +48,5 @@ returns-clause-line c =
     (appends_counted style text _ count printable
     (omega (arith, size, ap length c.as_bytes.ensures.value, ap length c.as_bytes-2.ensures.value, ap length c.as_bytes-3.ensures.value)) counted
     (c.in_ok-open.ensures.bytes ∙ ap (λ s. c.count-count.new.self.bytes ++ open_bytes s) shown) c.in_ok-open.ensures.line
-    (parts_written c.open.new.self.bytes _ _ _ text c.as_bytes.result.now c.as_bytes-2.result.now c.as_bytes-3.result.now count _ _ (values_are c)
-    c.in_ok-count.ensures.bytes c.in_ok-count.ensures.more c.in_ok-count-2.ensures.bytes c.in_ok-count-2.ensures.more c.in_ok-push_prefix.ensures.bytes)
-    (same_then c.in_ok-count.ensures.line (same_then c.in_ok-count-2.ensures.line c.in_ok-push_prefix.ensures.line))
-    (c.in_ok-reset.ensures.bytes ∙ ap (λ s. c.push_prefix-3.new.self.bytes ++ reset_bytes s) shown) c.in_ok-reset.ensures.line)
+    (c.in_ok-push_parts.ensures.bytes ∙ ap (λ t. c.open.new.self.bytes ++ take count t) (sym (values_are c))) c.in_ok-push_parts.ensures.line
+    (c.in_ok-reset.ensures.bytes ∙ ap (λ s. c.push_parts.new.self.bytes ++ reset_bytes s) shown) c.in_ok-reset.ensures.line)
