@@ -1,4 +1,4 @@
-use Rattle.std.proofs.Common.{◌≡◌, ap, sym}
+use Rattle.std.proofs.Common.{ap, sym}
 use Rattle.std.specs.Fmt.{digits}
 use Rattle.prodash_line.specs.declared.render.line.page.sign.Sign.TheVariants.{Open}
 use Rattle.prodash_line.specs.declared.render.line.page.style.Color.{Color}
