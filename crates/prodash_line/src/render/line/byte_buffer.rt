@@ -91,6 +91,9 @@ impl ByteBuffer {
     pub(crate) fn push_copies(&mut self, byte: u8, count: u16) -> Result<(), AllocError>
         ensures { OnOk result (self.new ≡ self.old ++ replicate count byte) }
     {
+        if count == 0 {
+            return Ok(());
+        }
         let end = grow(&mut self.initialized, self.length, usize::from(count))?;
         self.initialized[self.length..end].fill(byte);
         self.length = end;
