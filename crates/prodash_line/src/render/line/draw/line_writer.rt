@@ -160,15 +160,19 @@ impl LineWriter {
 
     /// Writes the first `count` bytes of a text that has been counted, and returns how many bytes
     /// more are to be written after it. Fails if out of memory.
+    #[inline]
     pub(crate) fn push_prefix(&mut self, text: &[u8], count: u16) -> Result<u16, AllocError>
         ensures bytes { OnOk result
             (self.new.bytes ≡ self.old.bytes ++ take count text.now) }
         ensures more { IfOk result (λ more. more ≡ count - length text.now) }
         ensures line { OnOk result (SameLine self.old self.new) }
     {
-        let written = usize::from(count).min(text.len());
-        self.bytes.extend_from_slice(&text[..written])?;
-        Ok(count - written as u16)
+        if text.len() <= usize::from(count) {
+            self.bytes.extend_from_slice(text)?;
+            return Ok(count - text.len() as u16);
+        }
+        self.bytes.extend_from_slice(&text[..usize::from(count)])?;
+        Ok(0)
     }
 
     /// Writes the first `limit` bytes of a text that has been counted, given in three parts. Fails if
