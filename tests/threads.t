@@ -4,7 +4,7 @@ A program with threads
 Off a terminal each message is a line.
 
   $ unset COLUMNS LINES NO_COLOR
-  $ prodash-threads 2>messages
+  $ prodash-examples threads 2>messages
   $ sed 's/^ *//' messages | sort
   compress is done
   fetch is done
@@ -17,16 +17,16 @@ On a terminal there are rows, of the size and with the colours that the environm
   $ on_terminal() {
   >     python3 -c 'import pty, sys; pty.spawn(["sh", "-c", sys.argv[1]])' "$1" </dev/null
   > }
-  $ on_terminal 'COLUMNS=30 NO_COLOR=1 exec prodash-threads' >frames
+  $ on_terminal 'COLUMNS=30 NO_COLOR=1 exec prodash-examples threads' >frames
   $ head -n 1 frames | tr -d '\r'
    job 0/4 [>------------------]
-  $ on_terminal 'exec prodash-threads' >frames
+  $ on_terminal 'exec prodash-examples threads' >frames
   $ head -n 1 frames | cut -c 1-9
    \x1b[1;36mj (esc)
 
 Standard error is asked, and not standard output.
 
-  $ on_terminal 'exec prodash-threads 2>messages' >frames
+  $ on_terminal 'exec prodash-examples threads 2>messages' >frames
   $ wc -c <frames | tr -d ' '
   0
   $ sed 's/^ *//' messages | sort | head -n 1

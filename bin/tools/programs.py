@@ -110,10 +110,11 @@ def ready(name, stderr_is_output=False):
     return unproved(name)
 
 
-def run(name, words, stderr_is_output=False):
+def run(name, words, stderr_is_output=False, first=()):
     """Runs a program with these words in place of this one, or returns a status if it isn't built.
 
-    Asked for help it prints what the script of the program says.
+    The words `first` go before the others. Asked for help it prints what the script of the program
+    says.
     """
     if words in (["-h"], ["--help"]):
         print(sys.modules["__main__"].__doc__.strip())
@@ -124,4 +125,9 @@ def run(name, words, stderr_is_output=False):
     # Python ignores these two signals, and the program would too
     for it in (signal.SIGPIPE, signal.SIGXFSZ):
         signal.signal(it, signal.SIG_DFL)
-    os.execv(program, [name.replace("_", "-"), *words])
+    os.execv(program, [name.replace("_", "-"), *first, *words])
+
+
+def run_example(name, words, stderr_is_output=False):
+    """Runs an example with these words, as `run` does a program."""
+    return run("prodash_examples", words, stderr_is_output, [name])
