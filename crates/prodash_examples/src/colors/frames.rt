@@ -2,7 +2,6 @@ ghost use Rattle.std.specs.Prelude.{◌≡◌, IfErr};
 ghost use Rattle.prodash_programs.specs.declared.fault.Fault.TheVariants.{Memory};
 
 use crate::colors::scene::events;
-use prodash::Refusal;
 use prodash::render::line::draw::{self, MemoryScreen};
 use prodash::tree::{Reply, RootOptions, SessionOptions, run};
 use prodash_programs::Fault;
