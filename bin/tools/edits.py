@@ -10,6 +10,8 @@ import switches
 
 # Where edits are: those that `rt ci` tries one by one, and the others.
 FOLDERS = ("must-fail", "edits")
+# The line of an edit that is to be made in a copy of its function.
+IN_COPY = "in: a copy"
 
 
 class Edit:
@@ -32,6 +34,8 @@ class Edit:
         # The name of the copy of its function that it changes, or None if it changes the function,
         # and the modules and type that have the copy.
         self.copy, self.owner = None, modules[:-1]
+        with open(file, encoding="utf-8", errors="replace") as it:
+            self.is_in_copy = IN_COPY in it.read().splitlines()
 
     def tried_as(self):
         """Returns the function that a round asks for, or the end of its name."""
@@ -155,23 +159,27 @@ def together(edits, read):
 def rounds_of(edits, most, read):
     """Puts edits together that can be made side by side, at most `most`.
 
-    A round has one edit in each function, and the others in copies of it. Edits of a function that
-    can't be copied are in rounds of their own.
+    A round has one edit in each function, and the others in copies of it; all are in copies if one
+    asks for that. Edits of a function that can't be copied are in rounds of their own.
     """
-    rounds = []
+    rounds, kept = [], {it.function for it in edits if it.is_in_copy}
     for edit in edits:
-        if not any(len(it.edits) < most and fits(edit, it) for it in rounds):
+        is_kept = edit.function in kept
+        if not any(len(it.edits) < most and fits(edit, it, is_kept) for it in rounds):
             rounds.append(Round(read))
-            if not fits(edit, rounds[-1]):
+            if not fits(edit, rounds[-1], is_kept):
                 # it changes nothing
                 rounds[-1].edits.append(edit)
     return [it.edits for it in rounds]
 
 
-def fits(edit, it):
-    """Makes an edit in a round, in a copy if there are rivals, and returns whether it can be."""
+def fits(edit, it, is_kept):
+    """Makes an edit in a round, and returns whether it can be.
+
+    It is made in a copy of its function if there are rivals, or if the function is kept as it is.
+    """
     rivals = sum(other.function == edit.function for other in it.edits)
-    edit.copy = f"{edit.names[-1]}_edited_{rivals}" if rivals else None
+    edit.copy = f"{edit.names[-1]}_edited_{rivals}" if rivals or is_kept else None
     return it.add(edit)
 
 

@@ -4,6 +4,7 @@ import os
 import tempfile
 
 import kit
+from edits import IN_COPY
 
 SOURCE = """\
 //! Functions to try edits on.
@@ -67,6 +68,7 @@ EDITS = {
     "edits/OneCounts/count/two": ("        1", "        2", REFUSED, "OneCounts::count"),
     "edits/OneCounts/count/three": ("        1", "        3", REFUSED, "OneCounts::count"),
     "edits/OneCounts/count/one": ("        1", "        3 - 2", THROUGH, ""),
+    "edits/same/in_a_copy": ("    x", "    x / 2", REFUSED, "small::same"),
     "edits/zero/names_nothing": ("absent", "x", UNREAD, "0 times"),
     "edits/zero/does_not_compile": ("    0", "    absent", UNREAD, "src/lib.rt"),
     "edits/none/names_no_function": ("result ≡ 0", "result ≡ 1", UNREAD, "small::none"),
@@ -82,6 +84,7 @@ BESIDE_CI = (
     "edits/least/wrong_caller",
     "edits/OneCounts/count/two",
     "edits/OneCounts/count/three",
+    "edits/same/in_a_copy",
     "edits/zero/names_nothing",
 )
 
@@ -109,6 +112,7 @@ def try_edits(rt, try_crates, jobs, names, how, when):
         for name in names:
             old, new, *_ = EDITS[name]
             text = f"file: src/lib.rt\nold: {old}\nnew: {new}\n"
+            text += f"{IN_COPY}\n" if name.endswith("/in_a_copy") else ""
             write(top, f"crates/small/{name}.edit", text)
         trials = try_crates(rt, kit.crates(rt, top), jobs, how) or []
     ends = {label: end for trial in trials for label, end in trial.ends.items()}
