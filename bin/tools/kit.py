@@ -33,7 +33,8 @@ def crates(rt, top, names=()):
 def checked(rt, crate, texts, flags, kept):
     """Checks a copy of a crate with these texts by their paths, over what was kept in a folder.
 
-    Returns the run, as the function of this name of `rt` does. The texts may be of new files.
+    Without a folder nothing is kept. Returns the run, as the function of this name of `rt` does.
+    The texts may be of new files.
     """
     lib = rt.rtlib
     with tempfile.TemporaryDirectory(prefix="rt-edit-") as room:
@@ -44,6 +45,7 @@ def checked(rt, crate, texts, flags, kept):
             os.makedirs(os.path.dirname(f"{room}/{path}"), exist_ok=True)
             with open(f"{room}/{path}", "w", encoding="utf-8") as it:
                 it.write(text)
-        words = [lib.RATTLE, "check", *crate.words(flags, keeps=False), "--incremental", kept]
+        words = [lib.RATTLE, "check", *crate.words(flags, keeps=False)]
+        words += ["--incremental", kept] if kept else []
         how = {"stdin": subprocess.DEVNULL, "stdout": subprocess.PIPE, "stderr": subprocess.STDOUT}
         return subprocess.run([*lib.guarded(), *words], cwd=room, errors="replace", **how)
