@@ -2,7 +2,7 @@ use crate::fixtures::{
     Progress, ShortRow, assert_ascending, assert_distinct, assert_hashed, assert_same, clones,
     key_at, message, messages, row, rows,
 };
-use prodash_base::messages::{Message, MessageCopyState, MessageLevel};
+use prodash_base::messages::{Message, MessageCopyState, MessageLevel, MessageRingBuffer};
 use prodash_base::progress::{Id, Row, State, UNKNOWN, Value};
 use prodash_base::unit::label;
 use prodash_base::{Refusal, Text};
@@ -224,6 +224,17 @@ fn assert_debug<T: Debug>(
 ) -> Result<(), AllocError> {
     let text = format!(in alloc; "{value:?}")?;
     assert_same(rt, text.as_str(), want, "Debug");
+    Ok(())
+}
+
+#[test]
+fn rings_show_the_messages_that_they_keep(rt: HostRuntime) -> Result<(), Fail> {
+    let alloc = rt.alloc();
+    let mut ring = MessageRingBuffer::with_capacity(alloc, 1)?;
+    ring.push_overwrite(alloc, 5, MessageLevel::Info, "task", "begins")?;
+    ring.push_overwrite(alloc, 9, MessageLevel::Success, "task", "ends")?;
+    let want = r#"MessageRingBuffer { ring: [Message 9 Success "task" "ends"], pushed: 2 }"#;
+    assert_debug(&rt, alloc, &ring, want)?;
     Ok(())
 }
 
