@@ -12,7 +12,7 @@ use crate::render::line::draw::fitting::{fit_indented, fit_printable};
 use crate::render::line::draw::layout::Layout;
 use crate::render::line::draw::room::Room;
 use crate::render::line::draw::text::text_width;
-use crate::render::line::page::{Sign, Style, push_sign};
+use crate::render::line::page::{Sign, Style, push_open, push_reset, push_sign};
 use prodash_base::progress::Level;
 use std::alloc::{AllocError, Global};
 
@@ -175,8 +175,8 @@ impl LineWriter {
         Ok(0)
     }
 
-    /// Writes the first `limit` bytes of a text that has been counted, given in three parts. Fails if
-    /// out of memory.
+    /// Writes the first `limit` bytes of a text that has been counted, given in three parts. Fails
+    /// if out of memory.
     pub(crate) fn push_parts(
         &mut self,
         first: &[u8],
@@ -266,7 +266,7 @@ impl LineWriter {
         ensures line { OnOk result (SameLine self.old self.new) }
     {
         match style {
-            Some(style) => push_sign(&mut self.bytes, Sign::Open(style)),
+            Some(style) => push_open(&mut self.bytes, style),
             None => Ok(()),
         }
     }
@@ -278,7 +278,7 @@ impl LineWriter {
         ensures line { OnOk result (SameLine self.old self.new) }
     {
         match style {
-            Some(_) => push_sign(&mut self.bytes, Sign::Reset),
+            Some(_) => push_reset(&mut self.bytes),
             None => Ok(()),
         }
     }

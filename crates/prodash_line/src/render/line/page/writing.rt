@@ -1,10 +1,9 @@
 //! Spells signs as bytes.
-ghost use Rattle.std.specs.Prelude.{◌≡◌, ◌++◌, IfOk, IfSome, IsOkUnless, OnOk};
+ghost use Rattle.std.specs.Prelude.{◌≡◌, ◌∷◌, [], ◌++◌, IfOk, IsOkUnless, OnOk};
 ghost use Rattle.std.specs.Fmt.{decimal};
 ghost use Rattle.prodash_line.specs.Signs.{sequence, spelling, spelling_of};
-ghost use Rattle.prodash_line.specs.Styles.{style_parameters};
-ghost use Rattle.prodash_line.specs.TextStyles.{of_color, bold, dimmed};
-ghost use Rattle.prodash_line.specs.declared.render.line.page.sign.Sign.TheVariants.{Open};
+ghost use Rattle.prodash_line.specs.Styles.{color_code, style_parameters};
+ghost use Rattle.prodash_line.specs.declared.render.line.page.sign.Sign.TheVariants.{Open, Reset};
 
 use super::codes::codes_of;
 use super::sign::Sign;
@@ -13,6 +12,9 @@ use crate::render::line::byte_buffer::ByteBuffer;
 use itoa::Buffer;
 use prodash_base::Refusal;
 use std::alloc::{AllocError, Global};
+
+/// The character ESC, which begins a control sequence.
+const ESCAPE: u8 = 0x1b;
 
 /// Appends the control sequence that moves the cursor up by `rows` rows. Fails if out of memory.
 fn push_up(out: &mut ByteBuffer, rows: u16) -> Result<(), AllocError>
@@ -40,74 +42,60 @@ fn push_codes(out: &mut ByteBuffer, style: Style) -> Result<(), AllocError>
     Ok(())
 }
 
-/// Returns the control sequence that begins this colour.
-fn open_color(color: Color) -> &'static [u8]
-    ensures { result.now ≡ spelling_of (Open (of_color color)) }
+/// Appends the control sequence that begins a style, code by code. Fails if out of memory.
+fn push_style(out: &mut ByteBuffer, style: Style) -> Result<(), AllocError>
+    ensures { OnOk result (out.new ≡ out.old ++ spelling_of (Open style)) }
 {
-    match color {
-        Color::Red => b"\x1b[31m",
-        Color::Green => b"\x1b[32m",
-        Color::Yellow => b"\x1b[33m",
-        Color::Cyan => b"\x1b[36m",
-        Color::White => b"\x1b[37m",
-    }
-}
-
-/// Returns the control sequence that begins this colour in bold.
-fn open_bold(color: Color) -> &'static [u8]
-    ensures { result.now ≡ spelling_of (Open (bold (of_color color))) }
-{
-    match color {
-        Color::Red => b"\x1b[1;31m",
-        Color::Green => b"\x1b[1;32m",
-        Color::Yellow => b"\x1b[1;33m",
-        Color::Cyan => b"\x1b[1;36m",
-        Color::White => b"\x1b[1;37m",
-    }
-}
-
-/// Returns the control sequence that begins this colour dimmed.
-fn open_dimmed(color: Color) -> &'static [u8]
-    ensures { result.now ≡ spelling_of (Open (dimmed (of_color color))) }
-{
-    match color {
-        Color::Red => b"\x1b[2;31m",
-        Color::Green => b"\x1b[2;32m",
-        Color::Yellow => b"\x1b[2;33m",
-        Color::Cyan => b"\x1b[2;36m",
-        Color::White => b"\x1b[2;37m",
-    }
-}
-
-/// Returns the control sequence that begins a style, if it is written out here, as that of each
-/// style of a row is.
-fn constant_open(style: Style) -> Option<&'static [u8]>
-    ensures { IfSome result (λ bytes. bytes.now ≡ spelling_of (Open style)) }
-{
-    if style.on_yellow {
-        return None;
-    }
-    match (style.bold, style.dim, style.color) {
-        (false, false, Some(color)) => Some(open_color(color)),
-        (false, true, Some(color)) => Some(open_dimmed(color)),
-        (true, false, Some(color)) => Some(open_bold(color)),
-        (true, true, None) => Some(b"\x1b[1;2m"),
-        _ => None,
-    }
-}
-
-/// Appends the control sequence that begins a style. Fails if out of memory.
-fn push_open(out: &mut ByteBuffer, style: Style) -> Result<(), AllocError>
-    ensures { OnOk result
-        (out.new ≡ out.old ++ sequence (style_parameters style) 109) }
-{
-    if let Some(bytes) = constant_open(style) {
-        return out.extend_from_slice(bytes);
-    }
     out.extend_from_slice(b"\x1b[")?;
     push_codes(out, style)?;
     out.push(b'm')?;
     Ok(())
+}
+
+/// Returns the last digit of the code of a colour, whose first is 3.
+#[inline]
+fn last_digit(color: Color) -> u8
+    ensures { decimal (color_code color) ≡ 51 ∷ result ∷ [] }
+{
+    match color {
+        Color::Red => b'1',
+        Color::Green => b'2',
+        Color::Yellow => b'3',
+        Color::Cyan => b'6',
+        Color::White => b'7',
+    }
+}
+
+/// Appends the control sequence that begins a style. Fails if out of memory.
+///
+/// Those of the styles of a row are written at once.
+pub(crate) fn push_open(out: &mut ByteBuffer, style: Style) -> Result<(), AllocError>
+    ensures { OnOk result (out.new ≡ out.old ++ spelling_of (Open style)) }
+{
+    if style.on_yellow {
+        return push_style(out, style);
+    }
+    match (style.bold, style.dim, style.color) {
+        (false, false, Some(color)) => {
+            out.extend_from_slice(&[ESCAPE, b'[', b'3', last_digit(color), b'm'])
+        }
+        (true, false, Some(color)) => {
+            out.extend_from_slice(&[ESCAPE, b'[', b'1', b';', b'3', last_digit(color), b'm'])
+        }
+        (false, true, Some(color)) => {
+            out.extend_from_slice(&[ESCAPE, b'[', b'2', b';', b'3', last_digit(color), b'm'])
+        }
+        (true, true, None) => out.extend_from_slice(b"\x1b[1;2m"),
+        _ => push_style(out, style),
+    }
+}
+
+/// Appends the control sequence that ends a style. Fails if out of memory.
+#[inline]
+pub(crate) fn push_reset(out: &mut ByteBuffer) -> Result<(), AllocError>
+    ensures { OnOk result (out.new ≡ out.old ++ spelling_of Reset) }
+{
+    out.extend_from_slice(b"\x1b[0m")
 }
 
 /// Appends the bytes of a sign. Fails if out of memory.
@@ -127,7 +115,7 @@ pub(crate) fn push_sign(out: &mut ByteBuffer, sign: Sign) -> Result<(), AllocErr
         Sign::HideCursor => out.extend_from_slice(b"\x1b[?25l"),
         Sign::ShowCursor => out.extend_from_slice(b"\x1b[?25h"),
         Sign::Open(style) => push_open(out, style),
-        Sign::Reset => out.extend_from_slice(b"\x1b[0m"),
+        Sign::Reset => push_reset(out),
     }
 }
 
