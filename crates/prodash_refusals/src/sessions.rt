@@ -27,22 +27,32 @@ struct Drawn {
     screen: MemoryScreen,
 }
 
-/// Applies all events to two sessions. At least one of them is refused no memory, and the other one
-/// must reply and write what it does.
+/// Applies all events to two sessions.
 pub(crate) fn run(alloc: Global, calls: &mut Calls) -> Result<(), Fault> {
     let mut first = new(alloc, calls)?;
     let mut second = new(alloc, calls)?;
     for place in 0..EVENTS {
-        let event = event(alloc, place)?;
-        let replies = (
-            apply(alloc, &mut first, &event, calls),
-            apply(alloc, &mut second, &event, calls),
-        );
-        calls.expect(replies.0 == replies.1 && !is_refused(&replies.0));
-        calls.expect(first.screen.bytes() == second.screen.bytes());
-        first = copy(alloc, first, calls)?;
+        apply_to_both(alloc, place, &mut first, &mut second, calls)?;
     }
     calls.expect(!first.screen.bytes().is_empty());
+    Ok(())
+}
+
+/// Applies the event at a place to two sessions, and goes on with a copy of the first. At least one
+/// of them is refused no memory, and the other one must reply and write what it does.
+fn apply_to_both(
+    alloc: Global,
+    place: u64,
+    first: &mut Drawn,
+    second: &mut Drawn,
+    calls: &mut Calls,
+) -> Result<(), Fault> {
+    let event = event(alloc, place)?;
+    let reply = apply(alloc, first, &event, calls);
+    let other = apply(alloc, second, &event, calls);
+    calls.expect(reply == other && !is_refused(&reply));
+    calls.expect(first.screen.bytes() == second.screen.bytes());
+    first.session = copy(alloc, &first.session, calls)?;
     Ok(())
 }
 
@@ -90,19 +100,16 @@ fn is_refused(reply: &Reply) -> bool {
     matches!(reply, Reply::Refused(_))
 }
 
-/// Copies the session, and goes on with the copy.
-fn copy(alloc: Global, drawn: Drawn, calls: &mut Calls) -> Result<Drawn, Fault> {
+/// Copies a session.
+fn copy(alloc: Global, session: &Session, calls: &mut Calls) -> Result<Session, Fault> {
     calls.begin("Session::deep_clone");
-    let Drawn { session, screen } = drawn;
-    let session = match session.deep_clone(alloc) {
-        Ok(copy) => copy,
-        Err(refusal) => {
-            let again = session.deep_clone(alloc);
-            calls.refuse(refusal, again.is_ok());
-            again?
-        }
+    let refusal = match session.deep_clone(alloc) {
+        Ok(copy) => return Ok(copy),
+        Err(refusal) => refusal,
     };
-    Ok(Drawn { session, screen })
+    let again = session.deep_clone(alloc);
+    calls.refuse(refusal, again.is_ok());
+    Ok(again?)
 }
 
 /// Returns the event at a place: a frame, a look at the tree, or a change of it.
