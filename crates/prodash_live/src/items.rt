@@ -7,7 +7,7 @@ use prodash::tree::{Event, Handle, Item, Root};
 use prodash::{Refusal, Text};
 use prodash_script::{Names, Request};
 use std::alloc::Global;
-use std::collections::BTreeMap;
+use std::collections::HashMap;
 use std::io::Write;
 use std::sync::Wait;
 
@@ -28,7 +28,7 @@ struct Named<R: Wait + Clone + Drop> {
 #[derive(Drop)]
 pub struct Items<R: Wait + Clone + Drop, W: Write + Drop> {
     root: Option<Root<R>>,
-    items: BTreeMap<Handle, Named<R>>,
+    items: HashMap<Handle, Named<R>>,
     names: Names,
     made: u64,
     /// Whether a sign says the severity of a message, as where there are no colours.
@@ -42,8 +42,8 @@ impl<R: Wait + Clone + Drop, W: Write + Drop> Items<R, W> {
     pub fn new(alloc: Global, root: Root<R>, has_signs: bool, record: Record<W>) -> Items<R, W> {
         Items {
             root: Some(root),
-            items: BTreeMap::new(alloc),
-            names: BTreeMap::new(alloc),
+            items: HashMap::new(alloc),
+            names: Names::new(alloc),
             made: 0,
             has_signs,
             record,

@@ -2,7 +2,7 @@
 use Rattle.std.specs.Prelude.{◌≡◌, ℕ, List, [], ◌∷◌, Option, Some, None, String, ◌&&◌, false, ⊤, bytes_eq, codes, unwrap_or, length, nat_eq, nat_lt, option_map, option_and_then, string_bytes, if◌then◌else◌}
 use Rattle.std.specs.Option.{option_map_or}
 use Rattle.std.specs.Str.{is_utf8}
-use Rattle.std.specs.BTreeMap.{BTreeMap, get_by_text}
+use Rattle.std.specs.HashMap.{HashMap, get_by_text}
 use Rattle.prodash_core.specs.Trees.{is_frame}
 use Rattle.prodash_base.specs.declared.unit.units.Unit.{Unit}
 use Rattle.prodash_core.specs.declared.tree.event.Event.{Event}
@@ -27,7 +27,7 @@ name_in [] = None
 name_in (c ∷ name) = if nat_eq c 64 && nat_lt 0 (length name) then Some name else None
 
 -- the handle that a word names: that of the item with the name after an `@`, or a number
-abbrev pub handle_in : {Z : Type 0} → BTreeMap (String Z) ℕ → List ℕ → Option ℕ
+abbrev pub handle_in : {Z S : Type 0} → HashMap (String Z) ℕ S → List ℕ → Option ℕ
 handle_in names word =
     option_map_or (λ name. Some (unwrap_or (get_by_text names name) NO_ITEM))
     (name_in word) (number_of word)
@@ -79,7 +79,7 @@ asked_by handle moment line =
     (unnamed_of handle moment line))
 
 -- the same of bytes, which ask for nothing if they are no text
-abbrev pub asked_by_bytes : {Z : Type 0} → BTreeMap (String Z) ℕ → ℕ → Reader Asked
+abbrev pub asked_by_bytes : {Z S : Type 0} → HashMap (String Z) ℕ S → ℕ → Reader Asked
 asked_by_bytes names now bytes =
     if is_utf8 bytes then asked_by (handle_in names) (moment_in now) bytes else None
 

@@ -10,11 +10,11 @@ use crate::words::{Words, number};
 use prodash_base::time::Moment;
 use prodash_core::tree::{Event, Handle};
 use std::alloc::{AllocError, Global};
-use std::collections::BTreeMap;
+use std::collections::HashMap;
 use std::str;
 
 /// The handle of each word, without its `@`.
-pub type Names = BTreeMap<String, Handle>;
+pub type Names = HashMap<String, Handle>;
 
 /// The words of a script: a handle is a number, or a word after `@`; a moment is a number, or `-`
 /// for now.
