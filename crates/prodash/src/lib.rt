@@ -1,8 +1,8 @@
 //! Progress of many tasks, drawn on a terminal: the crate that users depend on.
 //!
 //! Begin with a [`tree::Root`], which threads share, and with [`render::line::render`], which draws
-//! its tasks from threads of its own. A [`progress::Reporter`] is a task that is at hand: it counts
-//! its steps, sends messages and adds tasks below.
+//! its tasks from threads of its own. A [`progress::Reporter`] wraps a task with an allocator and a
+//! clock: it counts steps, sends messages and adds tasks below.
 //!
 //! ```
 //! use prodash::progress::Reporter;

@@ -32,11 +32,11 @@ pub const UNKNOWN: Id = [0; 4];
 /// The state of a task.
 #[derive(Clone, Copy, Debug, Default, PartialEq, Eq, PartialOrd, Ord, Hash)]
 pub enum State {
-    /// The task can't go on until something else happens. Holds the reason, and the moment at
-    /// which the task is expected to go on, if known.
+    /// The task can't continue and can't be interrupted. Holds the reason, and the moment at which
+    /// the task is expected to continue, if known.
     Blocked(&'static str, Option<Moment>),
-    /// The task has stopped, but may be resumed. Holds the reason, and the moment at which the
-    /// task is expected to go on, if known.
+    /// The task can't continue, but can be interrupted. Holds the reason, and the moment at which
+    /// the task is expected to continue, if known.
     Halted(&'static str, Option<Moment>),
     /// The task is running.
     #[default]

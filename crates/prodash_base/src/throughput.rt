@@ -91,7 +91,7 @@ impl Throughput {
         }
     }
 
-    /// Returns an equal tracker. `_rows` are those whose steps the copy is to observe next.
+    /// Returns an equal tracker. `_rows` is not used.
     ///
     /// # Errors
     ///

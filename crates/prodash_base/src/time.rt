@@ -12,7 +12,7 @@ use std::alloc::{AllocError, Global};
 /// A point in time: nanoseconds since 1970-01-01T00:00:00 in UTC.
 pub type Moment = u64;
 
-/// The length of a time of day in hours, minutes and seconds, as `23:34:33`.
+/// The length in bytes of the text of a time of day, such as `23:34:33`.
 pub const DATE_TIME_HMS: usize = 8;
 
 /// Tells the time and waits. Contracts say neither which moment a clock returns nor how long it

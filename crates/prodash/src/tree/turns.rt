@@ -10,7 +10,8 @@ pub struct Turn {
     number: u8,
 }
 
-/// A runtime whose threads take turns at the lock of a tree. Each type with the bounds is one.
+/// A runtime whose threads take turns at the lock of a tree. Every type that meets
+/// these bounds is one.
 ///
 /// What a turn found and left is known only of the turns that the calls give. So a clause that
 /// names a turn says what one thread did between taking the lock and releasing it.

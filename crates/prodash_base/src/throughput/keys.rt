@@ -1,4 +1,4 @@
-//! What is kept of all keys: a list sorted by key, searched by halving.
+//! What is kept of all keys: a list sorted by key, with binary search.
 ghost use Rattle.std.specs.Prelude.{◌≡◌, ◌<◌, true, length, is_some, IfOk, IfErr, OnOk, OnErr, slice_set, slice_index_or};
 ghost use Rattle.std.specs.FinMap as finite;
 ghost use Rattle.std.specs.List.{AllZip, filter};
@@ -47,7 +47,7 @@ pub(crate) fn add_observation(
 }
 
 /// Returns the index of a key, or else the one at which it belongs. It is looked for first at
-/// `likely`, and then by halving.
+/// `likely`, and then by binary search.
 fn position(kept: &[Kept], key: &Key, likely: usize) -> Result<usize, usize>
     requires { AreSorted kept.now }
     ensures found { IfOk result (λ index. IsAt kept.now key.now index) }
@@ -126,7 +126,7 @@ pub(crate) fn kept_samples(kept: &[Kept], key: &Key) -> usize
 }
 
 /// Keeps the keys of the rows, and no others. If some key isn't found by `are_listed`, and the rows
-/// ascend by key, halving finds each key; else they are searched one by one.
+/// ascend by key, binary search finds each key; else they are searched one by one.
 pub(crate) fn retain_listed(kept: &mut Vec<Kept>, rows: &[Row])
     ensures { kept.new.items ≡ filter (λ k. is_listed (rows_of rows.now) k.key) kept.old.items }
 {
@@ -155,7 +155,7 @@ fn are_listed(kept: &[Kept], rows: &[Row]) -> bool
     found == kept.len()
 }
 
-/// Returns whether halving finds the key in rows that ascend by key.
+/// Returns whether binary search finds the key in rows that ascend by key.
 fn is_found(rows: &[Row], key: &Key) -> bool
     ensures { NeverDescends rows.now → result ≡ is_listed (rows_of rows.now) key.now }
 {

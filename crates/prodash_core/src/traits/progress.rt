@@ -144,7 +144,7 @@ pub trait Progress: Count + Send + Sync {
     }
 
     /// Sends a message that says how fast the task's steps were done from `start` to `now`, at the
-    /// moment `now` and the level `Info`, as `done 10 items in 2.50s (4 items/s)`.
+    /// moment `now` and the severity `Info`, as `done 10 items in 2.50s (4 items/s)`.
     ///
     /// # Errors
     ///

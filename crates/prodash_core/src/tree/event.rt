@@ -74,7 +74,7 @@ pub enum Event {
         /// The moment at which the item is expected to continue, if known.
         eta: Option<Moment>,
     },
-    /// Marks the progress of an item, if it has any, as stopped.
+    /// Marks the progress of an item, if it has any, as halted.
     Halted {
         /// The handle of the item.
         item: Handle,

@@ -1,4 +1,4 @@
-//! Progress of any kind that this crate has.
+//! Progress of any kind in this crate.
 ghost use Rattle.std.specs.Prelude.{◌≡◌, None, List, ℕ};
 ghost use Rattle.prodash_base.specs.Rows.{unknown_id};
 ghost use Rattle.prodash.specs.Items.{new_place, next_path, with_child};

@@ -1,4 +1,4 @@
-//! Progress that brings the allocator and the clock of its calls.
+//! Progress that supplies the allocator and the clock of its calls.
 ghost use Rattle.std.specs.Prelude.{◌≡◌, OnOk, OnErr, IfOk, IfErr, option_map, string_bytes, IsOkUnless};
 ghost use Rattle.prodash_base.specs.Refusals.{RefusesMessage};
 ghost use Rattle.prodash_base.specs.Rows.{unknown_id};

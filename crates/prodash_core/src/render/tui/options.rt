@@ -10,7 +10,7 @@ use std::alloc::Global;
 pub struct Options {
     /// The initial title.
     pub title: String,
-    /// The time from frame to frame.
+    /// The interval between frames, in nanoseconds.
     pub nanoseconds_per_frame: u64,
     /// Whether the throughput of tasks is measured and shown.
     pub throughput: bool,

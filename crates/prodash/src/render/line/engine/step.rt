@@ -12,8 +12,8 @@ use prodash_core::traits::{Root, WeakRoot};
 use std::alloc::Global;
 use std::marker::Model;
 
-/// Draws the frames of the root of a weak root. Contracts see its renderer, its screen and the weak
-/// root. A function that steps an engine is generic in the type of the weak root.
+/// Draws frames of the tree that a weak root leads to. Contracts see its renderer, its screen and
+/// the weak root. A function that steps an engine is generic over the type of the weak root.
 ///
 /// ```rust
 /// fn last_frame<W: WeakRoot + Drop>(
