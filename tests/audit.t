@@ -3,7 +3,7 @@ A run of eight threads
 
 The receipts of all calls agree with the journal, which has a line for each call.
 
-  $ prodash-audit >journal
+  $ prodash-examples audit >journal
   160 receipts agree
   $ wc -l <journal | tr -d ' '
   160
@@ -35,20 +35,20 @@ The tree that the lines make again has all jobs at their last step, and a messag
 
 Without the journal.
 
-  $ prodash-audit check
+  $ prodash-examples audit check
   160 receipts agree
 
 Arguments that are not this word.
 
-  $ prodash-audit all
+  $ prodash-examples audit all
   usage: prodash-audit [check]
   [2]
-  $ prodash-audit check check
+  $ prodash-examples audit check check
   usage: prodash-audit [check]
   [2]
 
 An output that can't be written.
 
-  $ prodash-audit >/dev/full
+  $ prodash-examples audit >/dev/full
   output is broken
   [1]

@@ -1,6 +1,7 @@
 //! Small programs that show what the libraries do. The first argument names the one that is run.
 #![tactic(auto)]
 
+mod audit;
 mod colors;
 mod primes;
 mod threads;
@@ -12,7 +13,8 @@ use std::rt::Env;
 
 /// The fault of a first argument that names no example.
 const USAGE: Fault = Fault::Usage(
-    "prodash-examples threads | primes | workers SECONDS [messages] | colors colored|plain",
+    "prodash-examples threads | primes | workers SECONDS [messages] | audit [check] \
+     | colors colored|plain",
 );
 
 /// The bytes of the longest name.
@@ -23,6 +25,7 @@ fn main(rt: HostRuntime) -> anyhow::Result<ExitCode> {
         Some("threads") => Ok(threads::run(rt, rt.stderr())?),
         Some("primes") => Ok(primes::run(rt, rt.stderr())?),
         Some("workers") => workers::run(&rt, rt.stderr()),
+        Some("audit") => audit::run(rt, &mut rt.stdout()),
         Some("colors") => colors::run(&rt, &mut rt.stdout()),
         _ => Err(USAGE),
     };

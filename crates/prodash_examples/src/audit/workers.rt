@@ -23,13 +23,13 @@ const STEPS: u64 = 15;
 
 /// What a worker hands back: its share of the tree, and the receipts of its calls, in order.
 #[derive(Drop)]
-pub(crate) struct Worked<C: TreeLedger, S: Ledger> {
-    pub(crate) share: Share<C, S>,
-    pub(crate) receipts: Vec<Receipt<C>>,
+pub(super) struct Worked<C: TreeLedger, S: Ledger> {
+    pub(super) share: Share<C, S>,
+    pub(super) receipts: Vec<Receipt<C>>,
 }
 
 /// Runs a worker for each job, and returns what they hand back.
-pub(crate) fn run_workers<
+pub(super) fn run_workers<
     C: TreeLedger + Send + Sync + 'static,
     S: Ledger + Send + Sync + 'static,
     R: Threads + Wait + Copy + Send + Sync + 'static,

@@ -1,7 +1,7 @@
 //! The run of the workers on a new tree, and the check of their receipts.
 ghost use Rattle.std.specs.Prelude.{◌≡◌, true, IfOk, length};
 
-use crate::workers::{Worked, run_workers};
+use crate::audit::workers::{Worked, run_workers};
 use prodash::tree::recorded::{Journal, Ledgers, Receipt, RecordedRoot, TreeLedger};
 use prodash::tree::root::Options;
 use prodash_programs::Fault;
@@ -14,11 +14,11 @@ use std::thread::Threads;
 
 /// A run in which all receipts agreed.
 #[derive(Drop)]
-pub(crate) struct Audit {
+pub(super) struct Audit {
     /// The journal as event lines.
-    pub(crate) lines: String,
+    pub(super) lines: String,
     /// The number of receipts.
-    pub(crate) receipts: usize,
+    pub(super) receipts: usize,
 }
 
 /// Runs the workers on a new tree, and looks up their receipts in its journal.
@@ -26,7 +26,7 @@ pub(crate) struct Audit {
 /// # Errors
 ///
 /// `Journal`, if a receipt doesn't agree. `Thread` and `Memory`.
-pub(crate) fn run_audit<R: Threads + Wait + Copy + Send + Sync + 'static>(
+pub(super) fn run_audit<R: Threads + Wait + Copy + Send + Sync + 'static>(
     rt: R,
     alloc: Global,
 ) -> Result<Audit, Fault> {

@@ -1,4 +1,4 @@
-use Rattle.prodash_audit.proofs.audit.run_audit.Given as goal
+use Rattle.prodash_examples.proofs.audit.receipts.run_audit.Given as goal
 
 abbrev pub ghosts-on_tree-C-TreeLedger : goal.ghosts-on_tree-C-TreeLedger
 ghosts-on_tree-C-TreeLedger g a = record {
