@@ -1,7 +1,7 @@
 -- Lines that are cut, piece by piece.
 use Rattle.std.proofs.Common.{◌≡◌, ℕ, ◌^◌, ◌+◌, ◌-◌, ◌<◌, ◌≤◌, Bool, true, false, cond, nat_le, List, [], ◌∷◌, ◌++◌, length, take, refl, sym, ap, ◌∙◌, arith, append_assoc, append-nil, Option, Some, None}
 use Rattle.std.specs.Prelude.{sum_by, min, replicate}
-use Rattle.std.proofs.lemmas.Bool.{leb-true, le-leb, lt-leb}
+use Rattle.std.proofs.lemmas.Bool.{leb-true, leb-false, le-leb, lt-leb}
 use Rattle.std.proofs.lemmas.List.{take_all}
 use Rattle.std.proofs.lemmas.List.Sums.{sum_by-cons}
 use Rattle.unicode_width.specs.Width.{str_width}
@@ -59,35 +59,43 @@ prefix_after left text l =
 
 -- ---- a text behind spaces
 
--- all of it
-pub indented_whole : (left n whole : ℕ) (text : List ℕ) → whole ≡ min (n + str_width false text) (2 ^ 64 - 1) → whole ≤ left → left < 2 ^ 16
-    → (replicate n 32 ++ text ≡ written_in (Columns left) (replicate n 32 ++ text)) × (Columns (left - whole) ≡ room_after (Columns left) (replicate n 32 ++ text))
-indented_whole left n whole text e l low =
-    let all = replicate n 32 ++ text in
-    let wide : str_width false all ≡ n + str_width false text = width-indented n text in
-    let same : str_width false all ≡ whole = omega arith in
-    (sym (whole_written left all (omega arith)), ap (λ k. Columns (left - k)) (sym same) ∙ sym (whole_after left all (omega arith)))
-
 -- spaces alone
-pub indented_spaces : (left n whole : ℕ) (text none : List ℕ) → none ≡ [] → whole ≡ min (n + str_width false text) (2 ^ 64 - 1) → left < whole → left < n
+pub indented_spaces : (left n : ℕ) (text none : List ℕ) → none ≡ [] → left < n
     → (replicate left 32 ++ none ≡ written_in (Columns left) (replicate n 32 ++ text)) × (Full 0 ≡ room_after (Columns left) (replicate n 32 ++ text))
-indented_spaces left n whole text none empty e l few =
+indented_spaces left n text none empty few =
     let all = replicate n 32 ++ text in
     let wide : str_width false all ≡ n + str_width false text = width-indented n text in
     let is = prefix-spaces left n text few in
     let size : left - str_width false (longest_prefix left all) ≡ 0 = omega (arith, ap (str_width false) is, width-spaces left) in
     (ap (λ t. replicate left 32 ++ t) empty ∙ append-nil (replicate left 32) ∙ sym is ∙ sym (prefix_written left all (omega arith)), ap Full (sym size) ∙ sym (prefix_after left all (omega arith)))
 
--- all spaces and a prefix of the text
-pub indented_prefix : (left n whole width : ℕ) (text prefix : List ℕ) → whole ≡ min (n + str_width false text) (2 ^ 64 - 1) → left < whole → n ≤ left
-    → prefix ≡ longest_prefix (left - n) text → width ≡ str_width false prefix
-    → (replicate n 32 ++ prefix ≡ written_in (Columns left) (replicate n 32 ++ text)) × (Full (left - n - width) ≡ room_after (Columns left) (replicate n 32 ++ text))
-indented_prefix left n whole width text prefix e l some p own =
+-- all spaces, and what is written of the text in the room behind them
+indented_by : (whole : Bool) (left n : ℕ) (text : List ℕ) → nat_le (str_width false text) (left - n) ≡ whole → n ≤ left
+    → (replicate n 32 ++ written_in (Columns (left - n)) text ≡ written_in (Columns left) (replicate n 32 ++ text))
+    × (room_after (Columns (left - n)) text ≡ room_after (Columns left) (replicate n 32 ++ text))
+indented_by true left n text e some =
     let all = replicate n 32 ++ text in
     let wide : str_width false all ≡ n + str_width false text = width-indented n text in
-    let is : replicate n 32 ++ prefix ≡ longest_prefix left all = ap (λ t. replicate n 32 ++ t) p ∙ sym (prefix-indented left n text some) in
-    let size : left - n - width ≡ left - str_width false (longest_prefix left all) = omega (arith, ap (str_width false) is, width-indented n prefix) in
-    (is ∙ sym (prefix_written left all (omega arith)), ap Full size ∙ sym (prefix_after left all (omega arith)))
+    let fits : str_width false text ≤ left - n = leb-true (str_width false text) (left - n) e in
+    let rest : left - n - str_width false text ≡ left - str_width false all = omega arith in (
+      ap (λ t. replicate n 32 ++ t) (whole_written (left - n) text fits) ∙ sym (whole_written left all (omega arith)),
+      whole_after (left - n) text fits ∙ ap Columns rest ∙ sym (whole_after left all (omega arith)),
+    )
+indented_by false left n text e some =
+    let all = replicate n 32 ++ text in
+    let prefix = longest_prefix (left - n) text in
+    let wide : str_width false all ≡ n + str_width false text = width-indented n text in
+    let cut : left - n < str_width false text = leb-false (str_width false text) (left - n) e in
+    let is : replicate n 32 ++ prefix ≡ longest_prefix left all = sym (prefix-indented left n text some) in
+    let rest : left - n - str_width false prefix ≡ left - str_width false (longest_prefix left all) = omega (arith, ap (str_width false) is, width-indented n prefix) in (
+      ap (λ t. replicate n 32 ++ t) (prefix_written (left - n) text cut) ∙ is ∙ sym (prefix_written left all (omega arith)),
+      prefix_after (left - n) text cut ∙ ap Full rest ∙ sym (prefix_after left all (omega arith)),
+    )
+
+pub indented_rest : (left n : ℕ) (text : List ℕ) → n ≤ left
+    → (replicate n 32 ++ written_in (Columns (left - n)) text ≡ written_in (Columns left) (replicate n 32 ++ text))
+    × (room_after (Columns (left - n)) text ≡ room_after (Columns left) (replicate n 32 ++ text))
+indented_rest left n text some = indented_by (nat_le (str_width false text) (left - n)) left n text refl some
 
 -- ---- lines
 

@@ -72,6 +72,18 @@ appends_indented old new style n spaces size width text prefix o spaced w u fits
     ∙ ap (λ t. old.bytes ++ line_bytes (styled style t ∷ [])) is)
     (omega (arith, columns, own)) limit room
 
+-- a text of which this prefix is written
+pub appends_text : (old new : LineWriter) (style : Option Style) (width : ℕ) (text prefix o w : List ℕ) → IsUtf8 prefix
+    → chars prefix ≡ written_in old.room (chars text) → width ≡ columns_of (piece (chars text) ∷ [])
+    → o ≡ old.bytes ++ open_bytes (style_of_length style (length prefix)) → w ≡ o ++ prefix → new.bytes ≡ w ++ reset_bytes (style_of_length style (length prefix))
+    → new.width ≡ capped (old.width + width) → new.limit ≡ old.limit → new.room ≡ room_after old.room (chars text)
+    → Appends old (styled style (chars text) ∷ []) new
+appends_text old new style width text prefix o w u is own eo ew en columns limit room =
+    appends_piece old new (styled style (chars text))
+    (styled_bytes old.bytes o w new.bytes style (chars prefix) prefix (length prefix) (line_bytes-text prefix u) refl eo ew en
+    ∙ ap (λ t. old.bytes ++ line_bytes (styled style t ∷ [])) is)
+    (omega (arith, columns, own)) limit room
+
 -- a text of printable characters that has been counted, between what begins a style and what ends it
 pub appends_counted : {a b o w d : LineWriter} (style : Option Style) (text : List ℕ) (n count : ℕ) → is_printable text ≡ true → length text ≡ n → Counts a n count b
     → o.bytes ≡ b.bytes ++ open_bytes (style_of_length style count) → SameLine b o

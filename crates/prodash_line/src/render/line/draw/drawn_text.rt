@@ -25,6 +25,7 @@ fn without_control(c: char) -> char
 /// Returns a text as it is drawn, and its width in columns, at most 65535. A defensive renderer
 /// draws U+FFFD in place of each control character; such a text is written to `replaced`. Fails if
 /// out of memory.
+#[inline]
 pub(crate) fn drawn_text<'a>(
     defensive: bool,
     text: &'a str,
@@ -33,9 +34,23 @@ pub(crate) fn drawn_text<'a>(
     ensures text { IfOk result (λ x. chars x.0.now ≡ drawn_chars defensive text.now) }
     ensures width { IfOk result (λ x. x.1 ≡ columns_of (piece (chars x.0.now) ∷ [])) }
 {
-    if let Some(width) = printable_width(text) {
-        return Ok((text, width));
+    match printable_width(text) {
+        Some(width) => Ok((text, width)),
+        None => drawn_other(defensive, text, replaced),
     }
+}
+
+/// Returns what `drawn_text` does of a text with other characters than printable ASCII ones.
+#[cold]
+#[inline(never)]
+fn drawn_other<'a>(
+    defensive: bool,
+    text: &'a str,
+    replaced: &'a mut String,
+) -> Result<(&'a str, u16), AllocError>
+    ensures text { IfOk result (λ x. chars x.0.now ≡ drawn_chars defensive text.now) }
+    ensures width { IfOk result (λ x. x.1 ≡ columns_of (piece (chars x.0.now) ∷ [])) }
+{
     if !defensive || !has_control(text) {
         return Ok((text, text_width(text)));
     }

@@ -27,6 +27,28 @@ pub(crate) fn fit_printable(room: Room, count: u16) -> (u16, Room)
     }
 }
 
+/// Returns which prefix of a text is written, and the room after it. `width` is the width of the
+/// text, at most 65535.
+#[inline]
+pub(crate) fn fit_text(room: Room, text: &str, width: u16) -> (&str, Room)
+    requires { width ≡ columns_of (piece (chars text.now) ∷ []) }
+    ensures text { chars result.0.now ≡ written_in room (chars text.now) }
+    ensures room { result.1 ≡ room_after room (chars text.now) }
+{
+    match room {
+        Room::Unlimited => (text, room),
+        Room::Columns(left) => {
+            // a width below another one is less than 65535, so it is the whole width
+            if width < left {
+                (text, Room::Columns(left - width))
+            } else {
+                fit_columns(left, text, width)
+            }
+        }
+        Room::Full(_) => ("", room),
+    }
+}
+
 /// Returns how many of `padding` spaces and which prefix of the text after them are written, and
 /// the room after both. `width` is the width of the text, at most 65535.
 pub(crate) fn fit_indented(room: Room, padding: u16, text: &str, width: u16) -> (u16, &str, Room)
@@ -37,29 +59,31 @@ pub(crate) fn fit_indented(room: Room, padding: u16, text: &str, width: u16) -> 
 {
     match room {
         Room::Unlimited => (padding, text, room),
-        Room::Columns(left) => fit_columns(left, padding, text, width),
+        Room::Columns(left) => {
+            if left < padding {
+                return (left, "", Room::Full(0));
+            }
+            let (prefix, room) = fit_text(Room::Columns(left - padding), text, width);
+            (padding, prefix, room)
+        }
         Room::Full(_) => (0, "", room),
     }
 }
 
-/// Returns what `fit_indented` does where the line has `left` columns left.
-fn fit_columns(left: u16, padding: u16, text: &str, width: u16) -> (u16, &str, Room)
+/// Returns what `fit_text` does where the line has `left` columns left.
+#[cold]
+#[inline(never)]
+fn fit_columns(left: u16, text: &str, width: u16) -> (&str, Room)
     requires { width ≡ columns_of (piece (chars text.now) ∷ []) }
-    ensures text { indented result.0 (chars result.1.now)
-        ≡ written_in (Room.Columns left) (indented padding (chars text.now)) }
-    ensures room { result.2
-        ≡ room_after (Room.Columns left) (indented padding (chars text.now)) }
+    ensures text { chars result.0.now ≡ written_in (Room.Columns left) (chars text.now) }
+    ensures room { result.1 ≡ room_after (Room.Columns left) (chars text.now) }
 {
-    let whole = usize::from(padding).saturating_add(whole_width(text, width));
-    if whole <= usize::from(left) {
-        return (padding, text, Room::Columns(left - whole as u16));
+    if whole_width(text, width) <= usize::from(left) {
+        return (text, Room::Columns(left - width));
     }
-    if left < padding {
-        return (left, "", Room::Full(0));
-    }
-    let prefix = longest_prefix(text, left - padding);
-    let blank = left - padding - uncapped_width(prefix) as u16;
-    (padding, prefix, Room::Full(blank))
+    let prefix = longest_prefix(text, left);
+    let blank = left - uncapped_width(prefix) as u16;
+    (prefix, Room::Full(blank))
 }
 
 /// Returns the width of a text, in columns, given that width, at most 65535.

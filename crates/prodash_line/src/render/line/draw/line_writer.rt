@@ -8,7 +8,7 @@ ghost use Rattle.prodash_base.specs.Path.{max_level};
 ghost use Rattle.prodash_line.specs.OverwriteBytes.{on_row, EndsOver, IsCutWidth};
 
 use crate::render::line::byte_buffer::ByteBuffer;
-use crate::render::line::draw::fitting::{fit_indented, fit_printable};
+use crate::render::line::draw::fitting::{fit_indented, fit_printable, fit_text};
 use crate::render::line::draw::layout::Layout;
 use crate::render::line::draw::room::Room;
 use crate::render::line::draw::text::text_width;
@@ -108,7 +108,28 @@ impl LineWriter {
     pub(crate) fn push(&mut self, style: Option<Style>, text: &str) -> Result<(), AllocError>
         ensures { OnOk result (Appends self.old (styled style (chars text.now) ∷ []) self.new) }
     {
-        self.push_indented(style, 0, text, text_width(text))
+        self.push_measured(style, text, text_width(text))
+    }
+
+    /// Appends a text of this width to the line, in this style if there is one. Fails if out of
+    /// memory.
+    pub(crate) fn push_measured(
+        &mut self,
+        style: Option<Style>,
+        text: &str,
+        width: u16,
+    ) -> Result<(), AllocError>
+        requires { width ≡ columns_of (piece (chars text.now) ∷ []) }
+        ensures { OnOk result (Appends self.old (styled style (chars text.now) ∷ []) self.new) }
+    {
+        let (prefix, room) = fit_text(self.room, text, width);
+        let style = style_of_length(style, prefix.len());
+        self.open(style)?;
+        self.bytes.extend_from_slice(prefix.as_bytes())?;
+        self.width = self.width.saturating_add(width);
+        self.room = room;
+        self.reset(style)?;
+        Ok(())
     }
 
     /// Appends `padding` spaces and then a text of this width, as one piece in this style if there

@@ -87,7 +87,7 @@ fn push_text(
     let of_text = options.colored.then_some(message_style(message.level));
     out.push_indented(of_origin, padding, origin, own_width)?;
     out.push_spaces(1)?;
-    out.push_indented(of_text, 0, text, text_width)?;
+    out.push_measured(of_text, text, text_width)?;
     Ok(())
 }
 

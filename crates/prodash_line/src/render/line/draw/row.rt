@@ -175,9 +175,9 @@ fn push_in_unit(
         .saturating_add(name_width);
     out.push_gap(midpoint.saturating_sub(own))?;
     let style = options.colored.then_some(values_style());
-    out.push_indented(style, 0, values, values_width)?;
+    out.push_measured(style, values, values_width)?;
     out.push_spaces(1)?;
-    out.push_indented(None, 0, name, name_width)?;
+    out.push_measured(None, name, name_width)?;
     Ok(own)
 }
 
@@ -219,6 +219,6 @@ fn push_name(
     let mut replaced = String::new(alloc);
     let (name, width) = drawn_text(options.defensive, row.name.as_str(), &mut replaced)?;
     let style = options.colored.then_some(name_style(&row.progress));
-    out.push_indented(style, 0, name, width)?;
+    out.push_measured(style, name, width)?;
     Ok(())
 }

@@ -415,5 +415,8 @@ pub(crate) fn keep_latest(widths: &mut Vec<u16>, count: usize)
     ensures { widths.new.items ≡ keep_last count widths.old.items }
 {
     let gone = widths.len().saturating_sub(count);
-    widths.drain(..gone);
+    let left = widths.len() - gone;
+    // a drain would clear a buffer of its own first
+    widths.copy_within(gone.., 0);
+    widths.truncate(left);
 }

@@ -25,6 +25,7 @@ pub(crate) fn begin(tracker: &mut Option<FrameThroughput>, at: Moment)
 }
 
 /// Observes a row, and returns the throughput that it gives, if there is a tracker.
+#[inline]
 pub(crate) fn observe(
     alloc: Global,
     tracker: &mut Option<FrameThroughput>,

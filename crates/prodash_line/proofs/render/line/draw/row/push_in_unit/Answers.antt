@@ -48,4 +48,4 @@ returns-clause-line c =
     padded_appends o.colored c.args.midpoint c.saturating_add-own.result c.saturating_sub.result (values_in o.defensive (measure_of c.args.unit) (progress_of c.args.value.now) c.args.throughput)
     (returns-clause-end c) c.saturating_sub.ensures c.in_ok-push_gap.ensures
     (appends_as (texts o.defensive _ (then_some o.colored values_style) c.args.unit (progress_of c.args.value.now) c.args.throughput (chars c.in_ok-values.values.now) (chars c.in_ok-name.name.now)
-    (c.then_some-style.ensures ∙ ap (then_some o.colored) c.values_style.ensures) (values_are c) (name_is c)) (appends_then c.in_ok-push_indented.ensures (appends_then c.in_ok-push_spaces.ensures c.in_ok-push_indented-2.ensures)))
+    (c.then_some-style.ensures ∙ ap (then_some o.colored) c.values_style.ensures) (values_are c) (name_is c)) (appends_then c.in_ok-push_measured.ensures (appends_then c.in_ok-push_spaces.ensures c.in_ok-push_measured-2.ensures)))
