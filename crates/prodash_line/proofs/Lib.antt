@@ -1,4 +1,5 @@
 pub mod ScreenTaken
+pub mod PairedTexts
 pub mod Prefixes
 pub mod Cutting
 pub mod LineWriting

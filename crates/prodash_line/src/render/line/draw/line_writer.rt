@@ -132,6 +132,44 @@ impl LineWriter {
         Ok(())
     }
 
+    /// Appends a text in this style if there is one, a space, and a text without a style. The texts
+    /// have these widths. Fails if out of memory.
+    pub(crate) fn push_pair(
+        &mut self,
+        style: Option<Style>,
+        first: &str,
+        first_width: u16,
+        second: &str,
+        second_width: u16,
+    ) -> Result<(), AllocError>
+        requires first { first_width ≡ columns_of (piece (chars first.now) ∷ []) }
+        requires second { second_width ≡ columns_of (piece (chars second.now) ∷ []) }
+        ensures { OnOk result
+            (let second = piece (chars second.now) in
+            Appends self.old (styled style (chars first.now) ∷ spaces 1 ∷ second ∷ []) self.new) }
+    {
+        let width = first_width.saturating_add(1).saturating_add(second_width);
+        match self.room {
+            // both are written whole
+            Room::Columns(left) if width < left => {
+                let style = style_of_length(style, first.len());
+                self.open(style)?;
+                self.bytes.extend_from_slice(first.as_bytes())?;
+                self.reset(style)?;
+                self.bytes.push(b' ')?;
+                self.bytes.extend_from_slice(second.as_bytes())?;
+                self.width = self.width.saturating_add(width);
+                self.room = Room::Columns(left - width);
+                Ok(())
+            }
+            _ => {
+                self.push_measured(style, first, first_width)?;
+                self.push_spaces(1)?;
+                self.push_measured(None, second, second_width)
+            }
+        }
+    }
+
     /// Appends `padding` spaces and then a text of this width, as one piece in this style if there
     /// is one. Fails if out of memory.
     pub(crate) fn push_indented(

@@ -175,9 +175,7 @@ fn push_in_unit(
         .saturating_add(name_width);
     out.push_gap(midpoint.saturating_sub(own))?;
     let style = options.colored.then_some(values_style());
-    out.push_measured(style, values, values_width)?;
-    out.push_spaces(1)?;
-    out.push_measured(None, name, name_width)?;
+    out.push_pair(style, values, values_width, name, name_width)?;
     Ok(own)
 }
 

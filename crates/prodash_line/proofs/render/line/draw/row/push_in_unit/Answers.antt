@@ -12,7 +12,7 @@ use Rattle.prodash_line.specs.Lines.{piece, styled, spaces}
 use Rattle.prodash_line.specs.DrawnLines.{drawn_chars}
 use Rattle.prodash_line.specs.ProgressRows.{values_in}
 use Rattle.prodash_line.specs.Padding.{end_of_values}
-use Rattle.prodash_line.proofs.LineWriting.{appends_then, appends_as}
+use Rattle.prodash_line.proofs.LineWriting.{appends_as}
 use Rattle.prodash_line.proofs.RowLines.{unit_end, padded_appends}
 use Rattle.prodash_line.proofs.render.line.draw.row.push_in_unit.Goals as goal
 
@@ -48,4 +48,4 @@ returns-clause-line c =
     padded_appends o.colored c.args.midpoint c.saturating_add-own.result c.saturating_sub.result (values_in o.defensive (measure_of c.args.unit) (progress_of c.args.value.now) c.args.throughput)
     (returns-clause-end c) c.saturating_sub.ensures c.in_ok-push_gap.ensures
     (appends_as (texts o.defensive _ (then_some o.colored values_style) c.args.unit (progress_of c.args.value.now) c.args.throughput (chars c.in_ok-values.values.now) (chars c.in_ok-name.name.now)
-    (c.then_some-style.ensures ∙ ap (then_some o.colored) c.values_style.ensures) (values_are c) (name_is c)) (appends_then c.in_ok-push_measured.ensures (appends_then c.in_ok-push_spaces.ensures c.in_ok-push_measured-2.ensures)))
+    (c.then_some-style.ensures ∙ ap (then_some o.colored) c.values_style.ensures) (values_are c) (name_is c)) c.in_ok-push_pair.ensures)
