@@ -156,12 +156,9 @@ fn push_in_unit(
 {
     texts.values.clear();
     texts.unit.clear();
-    unit.display(alloc, value.step, value.done_at, throughput)
-        .values()
-        .append_to(&mut texts.values)?;
-    unit.display(alloc, value.step, value.done_at, throughput)
-        .unit()
-        .append_to(&mut texts.unit)?;
+    let mut display = unit.display(alloc, value.step, value.done_at, throughput);
+    display.values().append_to(&mut texts.values)?;
+    display.unit().append_to(&mut texts.unit)?;
     let mut replaced_values = String::new(alloc);
     let mut replaced_name = String::new(alloc);
     let (values, name) = (texts.values.as_str(), texts.unit.as_str());
