@@ -1,4 +1,4 @@
-use Rattle.std.proofs.Common.{◌-◌, ◌++◌, ap, sym, ◌∙◌, chars, replicate, arith}
+use Rattle.std.proofs.Common.{◌++◌, ap, sym, ◌∙◌, chars, replicate}
 use Rattle.std.proofs.lemmas.Str.{chars-nil}
 use Rattle.prodash_line.specs.Lines.{indented}
 use Rattle.prodash_line.specs.Cutting.{written_in}
