@@ -2,6 +2,7 @@
 ghost use Rattle.std.specs.Prelude.{◌≤◌, vec_len, length, IfOk};
 ghost use Rattle.prodash_script.specs.declared.stream.TheConstants.{LIMIT, CHUNK};
 
+use memchr::memchr;
 use std::alloc::{AllocError, Global};
 use std::io::Read;
 use std::{io, mem};
@@ -40,9 +41,21 @@ pub struct Lines<I: Read + Drop> {
     chunk: [u8; CHUNK],
     at: usize,
     end: usize,
+    /// Where the latest line lies in the chunk, if it is there as a whole.
+    place: Option<Place>,
+    /// The latest line otherwise.
     line: Part,
     ghost within: { at ≤ end },
     ghost inside: { end ≤ CHUNK },
+}
+
+/// Where a line begins and ends in the chunk.
+#[derive(Clone, Copy)]
+struct Place {
+    from: usize,
+    to: usize,
+    ghost ordered: { from ≤ to },
+    ghost inside: { to ≤ CHUNK },
 }
 
 /// The part of a line that was read so far. Bytes past the limit are dropped.
@@ -86,7 +99,7 @@ impl Part {
     fn take(&mut self, bytes: &[u8]) -> Result<(usize, bool), AllocError>
         ensures { IfOk result (λ taken. taken.0 ≤ length bytes.now) }
     {
-        match bytes.iter().position(|b| *b == b'\n') {
+        match memchr(b'\n', bytes) {
             Some(n) => {
                 self.push(&bytes[..n])?;
                 Ok((n + 1, true))
@@ -108,6 +121,7 @@ impl<I: Read + Drop> Lines<I> {
             chunk: [0; CHUNK],
             at: 0,
             end: 0,
+            place: None,
             line: Part::new(alloc),
         }
     }
@@ -116,12 +130,15 @@ impl<I: Read + Drop> Lines<I> {
     pub fn line(&self) -> &[u8]
         ensures { length result.now ≤ LIMIT }
     {
-        self.line.bytes.as_slice()
+        match self.place {
+            Some(Place { from, to }) => &self.chunk[from..to],
+            None => self.line.bytes.as_slice(),
+        }
     }
 
     /// Returns whether the next line has been read whole, so that `advance` doesn't wait for it.
     pub fn has_line(&self) -> bool {
-        self.chunk[self.at..self.end].contains(&b'\n')
+        memchr(b'\n', &self.chunk[self.at..self.end]).is_some()
     }
 
     /// Reads up to the end of the next line. Without a line feed what ends the stream is no line,
@@ -131,6 +148,10 @@ impl<I: Read + Drop> Lines<I> {
     ///
     /// That of the read that failed, or `OutOfMemory`. The bytes read of the line are dropped.
     pub fn advance(&mut self) -> io::Result<Next> {
+        if self.take_whole() {
+            return Ok(Next::Line);
+        }
+        self.place = None;
         self.line.clear();
         let mut is_some = false;
         for _ in 0..u64::MAX {
@@ -143,6 +164,18 @@ impl<I: Read + Drop> Lines<I> {
             }
         }
         Ok(Next::End)
+    }
+
+    /// Takes the next line if it lies in the chunk as a whole, where it is left. Returns whether it
+    /// does.
+    fn take_whole(&mut self) -> bool {
+        let Some(count) = memchr(b'\n', &self.chunk[self.at..self.end]) else {
+            return false;
+        };
+        let (from, to) = (self.at, self.at + count);
+        self.place = Some(Place { from, to });
+        self.at = to + 1;
+        true
     }
 
     /// Reads more bytes, once all are taken. Returns whether the stream may have more; a call that
