@@ -1,5 +1,5 @@
 ghost use Rattle.std.specs.Prelude.{◌≡◌};
-ghost use Rattle.prodash_script.specs.Words.{is_number, number_of};
+ghost use Rattle.prodash_script.specs.Words.{number_of};
 
 use prodash_base::time::Moment;
 use prodash_core::tree::Handle;
@@ -45,16 +45,8 @@ impl Words for Numbers {
 pub fn number(word: &str) -> Option<u64>
     ensures { result ≡ number_of word.now }
 {
-    if is_number(word) {
-        word.parse::<u64>().ok()
-    } else {
-        None
+    if word.len() > 20 || word.starts_with('+') {
+        return None;
     }
-}
-
-/// Returns whether a word is 1 to 20 decimal digits.
-fn is_number(word: &str) -> bool
-    ensures { result ≡ is_number word.now }
-{
-    !word.is_empty() && word.len() <= 20 && word.bytes().all(|b| b.is_ascii_digit())
+    word.parse().ok()
 }
