@@ -49,15 +49,15 @@ pub fn parse_with<W: Words>(
     let Some((word, rest)) = cut(line) else {
         return Ok(alone(line));
     };
-    match word {
-        "add" => add(alloc, words, rest),
-        "name" => set_name(alloc, words, rest),
-        "info" => message(alloc, words, MessageLevel::Info, rest),
-        "done" => message(alloc, words, MessageLevel::Success, rest),
-        "fail" => message(alloc, words, MessageLevel::Failure, rest),
-        "init" => init(alloc, words, labels, rest),
-        _ => Ok(without_text(words, word, rest)),
-    }
+    Ok(match word {
+        "add" => add(alloc, words, rest)?,
+        "name" => set_name(alloc, words, rest)?,
+        "info" => message(alloc, words, MessageLevel::Info, rest)?,
+        "done" => message(alloc, words, MessageLevel::Success, rest)?,
+        "fail" => message(alloc, words, MessageLevel::Failure, rest)?,
+        "init" => init(alloc, words, labels, rest)?,
+        _ => without_text(words, word, rest),
+    })
 }
 
 /// Parses an event that takes no memory.
