@@ -40,7 +40,7 @@ pub fn feed_lines<R: Wait + Threads + Clone + Drop, I: Read + Drop, K: Clock, W:
     let mut labels = Labels::new(alloc);
     let mut faults: u64 = 0;
     for number in 1..u64::MAX {
-        if !lines.has_line() {
+        if items.record().has_lines() && !lines.has_line() {
             items.record().write();
         }
         let next = match lines.advance() {
@@ -98,7 +98,9 @@ fn take<'a, R: Wait + Threads + Clone + Drop, K: Clock, W: Write + Drop>(
         items.record().resize(clock.now(), columns, rows)?;
         return Ok(None);
     }
-    let request = request_of(alloc, items.names(), labels, clock.now(), line)?;
+    // without a `-` it says no moment that is read from the clock
+    let now = if line.contains(&b'-') { clock.now() } else { 0 };
+    let request = request_of(alloc, items.names(), labels, now, line)?;
     if let Request::Fault = request {
         return Ok(Some(LineFault::of_line(line)));
     }

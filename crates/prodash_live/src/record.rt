@@ -47,6 +47,11 @@ impl<W: Write + Drop> Record<W> {
         self.is_broken
     }
 
+    /// Returns whether there are lines that aren't written yet.
+    pub fn has_lines(&self) -> bool {
+        !self.lines.is_empty()
+    }
+
     /// Records an item that was added below another one, and returns its handle in a replay. The
     /// handle of the root is 0.
     ///
