@@ -37,25 +37,36 @@ pub fn change<R: Wait + Clone + Drop, W: Write + Drop>(
     has_signs: bool,
     record: &mut Record<W>,
 ) -> Result<(), Refusal> {
-    let (handle, sign) = match event {
+    match event {
         Event::Message {
             item: handle,
             level: MessageLevel::Success,
             ..
-        } if has_signs => (*handle, "✓"),
+        } if has_signs => send(alloc, item, *handle, "✓", event, record),
         Event::Message {
             item: handle,
             level: MessageLevel::Failure,
             ..
-        } if has_signs => (*handle, "✗"),
-        _ => return apply(alloc, item, event, record),
-    };
+        } if has_signs => send(alloc, item, *handle, "✗", event, record),
+        _ => apply(alloc, item, event, record),
+    }
+}
+
+/// Sends a message whose origin has a sign before it.
+fn send<R: Wait + Clone + Drop, W: Write + Drop>(
+    alloc: Global,
+    item: &Item<R>,
+    handle: Handle,
+    sign: &str,
+    message: &Event,
+    record: &mut Record<W>,
+) -> Result<(), Refusal> {
     let Some(name) = item.name(alloc)? else {
         return Err(Refusal::Gone);
     };
     let origin = format!(in alloc; "{sign} {name}")?;
     rename(alloc, item, handle, Text::new(origin), record)?;
-    let sent = apply(alloc, item, event, record);
+    let sent = apply(alloc, item, message, record);
     rename(alloc, item, handle, Text::new(name), record)?;
     sent
 }

@@ -84,29 +84,29 @@ impl<R: Wait + Clone + Drop, W: Write + Drop> Items<R, W> {
     /// `Gone`, if the handle that it names is not valid. `Memory`, if there is no memory for it.
     pub fn serve(&mut self, alloc: Global, request: Request) -> Result<(), Refusal> {
         match request {
-            Request::Apply(event) => {
-                self.apply(alloc, event)?;
-                Ok(())
-            }
-            Request::Name(name, event) => match self.apply(alloc, event)? {
-                Some(handle) => self.set_name(alloc, name, handle),
-                None => Ok(()),
+            Request::Apply(event) => self.apply(alloc, event),
+            Request::Name(word, event) => match event {
+                Event::AddChild { parent, name, .. } => {
+                    let handle = self.add(alloc, parent, name)?;
+                    self.set_name(alloc, word, handle)
+                }
+                _ => Ok(()),
             },
             Request::Fault => Ok(()),
         }
     }
 
-    /// Applies an event. Returns the handle of the new item if the event adds one.
-    fn apply(&mut self, alloc: Global, event: Event) -> Result<Option<Handle>, Refusal> {
+    /// Applies an event.
+    fn apply(&mut self, alloc: Global, event: Event) -> Result<(), Refusal> {
         match event {
             Event::AddChild { parent, name, .. } => {
-                return Ok(Some(self.add(alloc, parent, name)?));
+                self.add(alloc, parent, name)?;
+                Ok(())
             }
-            Event::Drop { item } => self.remove(item)?,
-            Event::DropRoot => self.drop_root()?,
-            event => self.change(alloc, event)?,
+            Event::Drop { item } => self.remove(item),
+            Event::DropRoot => self.drop_root(),
+            event => self.change(alloc, event),
         }
-        Ok(None)
     }
 
     /// Drops the root.
