@@ -65,20 +65,20 @@ fn without_text<W: Words>(words: &W, word: &str, rest: &str) -> Option<Event>
     ensures { let table = without_text (W.handle_of words.now) (W.moment_of words.now) in
         option_map plain result ≡ read_by table word.now rest.now }
 {
-    match word {
-        "drop" => drop_item(words, rest),
-        "max" => set_max(words, rest),
-        "set" => set(words, rest),
-        "inc" => inc_by(words, rest),
-        "blocked" => blocked(words, rest),
-        "halted" => halted(words, rest),
-        "running" => running(words, rest),
-        "tick" => tick(words, rest, true),
-        "hold" => tick(words, rest, false),
-        "resize" => resize(words, rest),
-        "quit" => quit(words, rest),
-        _ => None,
-    }
+    Some(match word {
+        "drop" => drop_item(words, rest)?,
+        "max" => set_max(words, rest)?,
+        "set" => set(words, rest)?,
+        "inc" => inc_by(words, rest)?,
+        "blocked" => blocked(words, rest)?,
+        "halted" => halted(words, rest)?,
+        "running" => running(words, rest)?,
+        "tick" => tick(words, rest, true)?,
+        "hold" => tick(words, rest, false)?,
+        "resize" => resize(words, rest)?,
+        "quit" => quit(words, rest)?,
+        _ => return None,
+    })
 }
 
 /// Parses an event that is a single word.
