@@ -98,8 +98,7 @@ fn take<'a, R: Wait + Threads + Clone + Drop, K: Clock, W: Write + Drop>(
         items.record().resize(clock.now(), columns, rows)?;
         return Ok(None);
     }
-    // without a `-` it says no moment that is read from the clock
-    let now = if line.contains(&b'-') { clock.now() } else { 0 };
+    let now = if says_moment(line) { clock.now() } else { 0 };
     let request = request_of(alloc, items.names(), labels, now, line)?;
     if let Request::Fault = request {
         return Ok(Some(LineFault::of_line(line)));
@@ -120,6 +119,12 @@ fn take<'a, R: Wait + Threads + Clone + Drop, K: Clock, W: Write + Drop>(
 /// Returns whether a line does nothing: it is empty, or begins with `#`.
 fn is_comment(line: &[u8]) -> bool {
     matches!(line.first(), None | Some(b'#'))
+}
+
+/// Returns whether a line may say a moment, which is now for a `-`. Of all lines only those of
+/// messages do.
+fn says_moment(line: &[u8]) -> bool {
+    line.starts_with(b"info ") || line.starts_with(b"done ") || line.starts_with(b"fail ")
 }
 
 /// Parses the columns and the rows of a line that sets the size of the terminal.
