@@ -56,7 +56,7 @@ Options:
 ";
 
 /// Parses a command line, whose first word is the program's name. An option's value is the next
-/// word, or follows `=`. Of an option that is given twice the last value counts.
+/// word, or follows `=`. If an option is given twice, the last value counts.
 pub fn parse<'a>(words: &'a [String], env: Environment) -> Result<Command<'a>, UsageError<'a>> {
     let mut options = Options::of_environment(env);
     let mut awaits_value = None;

@@ -1,4 +1,4 @@
-//! The lines of an input, applied as they come.
+//! The lines of an input, applied as they arrive.
 use crate::display::Display;
 use crate::items::Items;
 use crate::line_fault::{LineFault, fault_text};
@@ -15,7 +15,7 @@ use std::thread::Threads;
 /// How an input was read.
 #[derive(Drop)]
 pub enum Outcome {
-    /// To its end, with so many faulty lines.
+    /// To its end. Holds the number of faulty lines.
     Ended(u64),
     /// Up to its first faulty line, of which this is said.
     Stopped(String),

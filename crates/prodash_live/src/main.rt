@@ -1,4 +1,4 @@
-//! Shows progress on a terminal from the event lines of standard input, as they come.
+//! Shows progress on a terminal from the event lines of standard input, as they arrive.
 #![tactic(auto)]
 
 mod changes;

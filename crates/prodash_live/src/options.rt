@@ -54,7 +54,8 @@ impl<'a> Options<'a> {
         }
     }
 
-    /// The options of the renderer. `is_terminal` says whether the output is one by the system.
+    /// Returns the options of the renderer. `is_terminal` is whether the system says that the output
+    /// is a terminal.
     pub fn render(&self, is_terminal: bool) -> line::Options
         ensures colors { result.colored ≡ (self.now.is_colored && result.output_is_terminal) }
         ensures size { result.terminal_dimensions ≡ self.now.dimensions }

@@ -28,7 +28,7 @@ pub struct Record<W: Write + Drop> {
 }
 
 impl<W: Write + Drop> Record<W> {
-    /// Returns a recording that begins now, with so many nanoseconds between frames.
+    /// Returns a recording that begins now, with `frame` nanoseconds between frames.
     pub fn new(alloc: Global, out: Option<W>, now: Moment, frame: u64) -> Record<W> {
         Record {
             alloc,
@@ -155,8 +155,8 @@ impl<W: Write + Drop> Record<W> {
     }
 }
 
-/// Returns the moment of the first frame after now, if one is due at a moment and another after
-/// each so many nanoseconds, of which zero count as one.
+/// Returns the moment of the first frame after now, if one is due at the moment `due` and another
+/// every `frame` nanoseconds, where 0 counts as 1.
 fn next_frame(due: Moment, frame: u64, now: Moment) -> Moment {
     let frame = frame.max(1);
     let passed = now.saturating_sub(due) / frame;

@@ -1,4 +1,4 @@
-//! The words of units, whose names may be any.
+//! The words of units, whose names are arbitrary.
 ghost use Rattle.std.specs.Prelude.{◌≡◌, IfOk, option_map};
 ghost use Rattle.std.specs.List.{list_all};
 ghost use Rattle.prodash_script.specs.Units.{is_name_byte, is_unit_name, is_unit_word, kind_in, name_and_mode, stripped_by, unit_in};
@@ -18,7 +18,7 @@ pub struct Labels {
 }
 
 impl Labels {
-    /// Returns the names of no units.
+    /// Returns an empty list of names.
     pub fn new(alloc: Global) -> Labels {
         Labels {
             names: Vec::new(alloc),
@@ -61,7 +61,7 @@ impl Labels {
         })
     }
 
-    /// Returns a name that is kept, after keeping it if it wasn't.
+    /// Returns the kept copy of a name, which it makes if there is none.
     fn keep(&mut self, alloc: Global, name: &str) -> Result<&'static str, AllocError>
         ensures { IfOk result (λ kept. kept.now ≡ name.now) }
     {

@@ -119,7 +119,8 @@ pub(crate) fn handle_and_text<'a, W: Words>(words: &W, rest: &'a str) -> Option<
     Some((words.handle(handle)?, text))
 }
 
-/// Parses the arguments `H NAME` of a line that adds an item. Returns `None` if they are not such.
+/// Parses the arguments `H NAME` of a line that adds an item. Returns `None` if they don't have this
+/// form.
 ///
 /// # Errors
 ///
