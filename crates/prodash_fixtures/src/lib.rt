@@ -88,7 +88,7 @@ pub fn message(
     })
 }
 
-/// These messages, in their order, all of the level `Info` and of the moment 0.
+/// These messages, in their order, all of the severity `Info` and of the moment 0.
 pub fn messages(alloc: Global, short: &[ShortMessage]) -> Result<Messages, AllocError> {
     let mut messages = Vec::new(alloc);
     for (origin, text) in short {
@@ -110,16 +110,22 @@ pub fn clones<T: Clone + Drop>(alloc: Global, values: &[T]) -> Result<Vec<T>, Al
 /// or when it is flushed.
 #[derive(Drop)]
 pub struct FakeScreen {
+    /// The bytes that it has taken.
     pub bytes: Vec<u8>,
     /// How many of the bytes were flushed.
     pub flushed: usize,
+    /// How many bytes it takes at a time.
     pub at_once: usize,
+    /// How many bytes it still takes before it breaks.
     pub left: usize,
+    /// Whether it can be flushed. If not, a flush breaks it.
     pub flushes: bool,
+    /// Whether it is broken.
     pub broken: bool,
 }
 
 impl FakeScreen {
+    /// Returns a screen that has taken nothing. Fails if out of memory.
     pub fn new(
         alloc: Global,
         at_once: usize,
