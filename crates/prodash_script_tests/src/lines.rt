@@ -259,7 +259,12 @@ fn tells_mistakes(rt: HostRuntime) -> Result<(), Fail> {
 }
 
 /// Asserts that a stream gives these in turn: of a line its text.
-fn assert_lines(rt: &impl Abort, alloc: Global, stream: &[u8], want: &str) -> Result<(), Fail> {
+fn assert_lines<I: Read + Drop>(
+    rt: &impl Abort,
+    alloc: Global,
+    stream: I,
+    want: &str,
+) -> Result<(), Fail> {
     let mut lines = Lines::new(alloc, stream);
     let mut got = String::new(alloc);
     for _ in 0..3 {
@@ -272,19 +277,38 @@ fn assert_lines(rt: &impl Abort, alloc: Global, stream: &[u8], want: &str) -> Re
     Ok(())
 }
 
+/// A stream of which a call reads at most `size` bytes.
+#[derive(Drop)]
+struct Pieces {
+    left: &'static [u8],
+    size: usize,
+}
+
+impl Read for Pieces {
+    fn read(&mut self, bytes: &mut [u8]) -> io::Result<usize> {
+        let size = self.size.min(bytes.len());
+        self.left.read(&mut bytes[..size])
+    }
+}
+
 /// Streams, and what they give.
-const STREAMS: &[[&str; 2]] = &[
+const STREAMS: &[[&'static str; 2]] = &[
     ["", "End\nEnd\nEnd\n"],
     ["\n", "Line \nEnd\nEnd\n"],
     ["a", "CutOff\nEnd\nEnd\n"],
     ["a\nb", "Line a\nCutOff\nEnd\n"],
     ["a\nb\n", "Line a\nLine b\nEnd\n"],
+    ["ab\ncd\ne", "Line ab\nLine cd\nCutOff\n"],
+    ["a\nb\ncd\n", "Line a\nLine b\nLine cd\n"],
 ];
 
 #[test]
 fn tells_a_last_line_that_is_cut_off(rt: HostRuntime) -> Result<(), Fail> {
     for [stream, want] in STREAMS {
-        assert_lines(&rt, rt.alloc(), stream.as_bytes(), want)?;
+        for size in 1..6 {
+            let left = stream.as_bytes();
+            assert_lines(&rt, rt.alloc(), Pieces { left, size }, want)?;
+        }
     }
     Ok(())
 }
@@ -309,7 +333,7 @@ fn two_lines(alloc: Global, bytes: usize) -> Result<Vec<u8>, AllocError> {
 #[test]
 fn drops_long_lines(rt: HostRuntime) -> Result<(), Fail> {
     let stream = two_lines(rt.alloc(), LIMIT + 1)?;
-    assert_lines(&rt, rt.alloc(), &stream, "TooLong\nLine b\nEnd\n")
+    assert_lines(&rt, rt.alloc(), stream.as_slice(), "TooLong\nLine b\nEnd\n")
 }
 
 #[test]
