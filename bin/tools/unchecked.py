@@ -1,0 +1,74 @@
+"""Compiles the module of a program that is built without proofs as if it were proved.
+
+A trial run checks what isn't proved: that an index is in range, that a sum fits, and more. It also
+fills memory before its first use. A proved program does neither. So these instructions are left out
+of the module, and it is optimized as one. Its front end also forgets which functions are `#[cold]`
+or `#[inline(never)]`, without which their callers are inlined less; these are marked again. What is
+built is for counting what it takes, and for nothing else: a bug that a check would have stopped
+goes on.
+"""
+import glob
+import os
+import re
+import subprocess
+import sys
+import tempfile
+
+# The processor that `rattle build` compiles for, unless it is told another.
+MARCH = "-march=x86-64-v2"
+CHECK = 'call void @"rattle-llvm-checks::'
+FILL = re.compile(r"call void @llvm\.memset\.p0\.i64\(.*, i8 -86,")
+TRAP = "call void @llvm.trap()"
+# What the attributes of a checked function have more than those of a proved one.
+OF_CHECKED = re.compile(r'sanitize_address |"frame-pointer"="all" |"target-cpu"="[^"]*" ?')
+# A cold function in a source, and the first and the last word of a function's path in a module.
+COLD = re.compile(
+    r"^ *#\[(?:cold|inline\(never\))\]\n(?: *#\[.*\]\n)*[^\n(]*?\bfn (\w+)", re.M
+)
+DEFINED = re.compile(r'^define [^\n]*?@"(\w+)::(?:[^"]*?::)?(\w+)(?:::<[^"]*>)?"\(')
+
+
+def cold_functions(crate, folder):
+    """Yields the names of a crate's functions that are cold, each after that of the crate."""
+    for path in glob.glob(f"{folder}/**/*.rt", recursive=True):
+        with open(path, encoding="utf-8") as it:
+            for name in COLD.findall(it.read()):
+                yield crate, name
+
+
+def unchecked(lines, cold):
+    """Yields the lines of a module without its checks. These functions are marked as cold."""
+    for line in lines:
+        if CHECK in line or FILL.search(line) or TRAP in line:
+            continue
+        defined = DEFINED.match(line)
+        if defined and defined.groups() in cold:
+            line = line.replace(" #", " noinline cold #", 1)
+        elif line.startswith("attributes #"):
+            # a group has one at least
+            line = OF_CHECKED.sub("", line).replace("{ }", "{ nounwind }")
+        yield line
+
+
+def compile_module(tools, names, words):
+    """Compiles as `clang` is asked to by these words, but without checks.
+
+    A file has the names of the functions that are cold.
+    """
+    source, to = words[words.index("-c") + 3], words[words.index("-o") + 1]
+    clang = f"{tools}/clang"
+    with open(names, encoding="utf-8") as it:
+        cold = {tuple(line.split()) for line in it}
+    with tempfile.TemporaryDirectory(dir=os.path.dirname(os.path.abspath(to))) as room:
+        shown = [clang, "-x", "ir", source, "-S", "-emit-llvm", "-Xclang", "-disable-llvm-passes"]
+        subprocess.run([*shown, "-o", f"{room}/all"], check=True)
+        with open(f"{room}/all", encoding="utf-8") as old:
+            with open(f"{room}/unchecked", "w", encoding="utf-8") as new:
+                new.writelines(unchecked(old, cold))
+        own = {source: f"{room}/unchecked"}
+        words = [MARCH if it.startswith("-march=") else own.get(it, it) for it in words]
+        return subprocess.run([clang, *words]).returncode
+
+
+if __name__ == "__main__":
+    sys.exit(compile_module(sys.argv[1], sys.argv[2], sys.argv[3:]))
