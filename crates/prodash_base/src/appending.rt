@@ -52,6 +52,7 @@ pub(crate) fn push_decimal(out: &mut String, n: u64) -> Result<(), AllocError>
 }
 
 /// Appends a number in decimal digits, or nothing.
+#[inline(always)]
 pub(crate) fn append_decimal(out: &mut String, n: u128) -> Result<(), AllocError>
     ensures ok { OnOk result (Appends out.old (decimal n) out.new) }
     ensures err { OnErr result (string_bytes out.new ≡ string_bytes out.old) }

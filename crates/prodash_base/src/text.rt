@@ -44,13 +44,20 @@ impl Text {
     }
 
     /// Returns a copy of `text` in this text's memory, or an `AllocError` if out of memory.
-    pub(crate) fn replaced_by(self, text: &str) -> Result<Text, AllocError>
+    pub(crate) fn replaced_by(mut self, text: &str) -> Result<Text, AllocError>
         ensures { IfOk result (λ t. t ≡ text.now) }
     {
-        let mut copy = self.text;
-        copy.clear();
-        copy.push_str(text)?;
-        Ok(Text { text: copy })
+        self.replace(text)?;
+        Ok(self)
+    }
+
+    /// Replaces the text with a copy of another, in the memory that it has. Fails if out of
+    /// memory.
+    pub(crate) fn replace(&mut self, text: &str) -> Result<(), AllocError>
+        ensures { OnOk result (self.new ≡ text.now) }
+    {
+        self.text.clear();
+        self.text.push_str(text)
     }
 
     /// Returns the text as a string slice.

@@ -5,7 +5,7 @@ ghost use Rattle.prodash_base.specs.declared.messages.Message.{Message};
 ghost use Rattle.prodash_base.specs.Messages.{message_of};
 ghost use Rattle.prodash_base.specs.Rings.{is_push_limit_reached, new_ring, push, messages_since, keep_last, ring_of};
 
-use crate::messages::{Message, MessageLevel};
+use crate::messages::{Message, MessageLevel, Messages};
 use crate::refusal::Refusal;
 use crate::text::Text;
 use crate::time::Moment;
@@ -114,6 +114,7 @@ impl MessageRingBuffer {
     /// Adds a message, which replaces the oldest if the ring is full. Returns
     /// `Refusal::TooManyMessages` if 2^64 - 1 messages were pushed already, and else
     /// `Refusal::Memory` if out of memory. A refusal leaves the ring unchanged.
+    #[inline(always)]
     pub fn push_overwrite(
         &mut self,
         alloc: Global,
@@ -145,7 +146,7 @@ impl MessageRingBuffer {
         ensures reason { IsOkUnless result Refusal.Memory }
         ensures err { OnErr result (out.new.items ≡ out.old.items) }
     {
-        *out = copies(alloc, &self.ring, 0)?;
+        *out = copies(&self.ring, 0, Vec::new(alloc))?;
         Ok(())
     }
 
@@ -165,11 +166,28 @@ impl MessageRingBuffer {
         ensures reason { IsOkUnless result Refusal.Memory }
         ensures err { OnErr result (out.new.items ≡ out.old.items) }
     {
+        let (new, state) = self.new_messages(Messages::new(Vec::new(alloc)), previous)?;
+        *out = new.into_vec();
+        Ok(state)
+    }
+
+    /// Returns the messages that `copy_new` copies, in the memory of `spare`, whose contents don't
+    /// matter, and the state for the next copy. Returns `Refusal::Memory` if out of memory.
+    pub fn new_messages(
+        &self,
+        spare: Messages,
+        previous: Option<MessageCopyState>,
+    ) -> Result<(Messages, MessageCopyState), Refusal>
+        ensures messages { IfOk result (λ new. new.0 ≡ messages_since self.now previous) }
+        ensures state { IfOk result (λ new. new.1 ≡ self.now.pushed) }
+        ensures reason { IsOkUnless result Refusal.Memory }
+    {
         let seen = previous.map_or(0, |state| state.seen);
         let new = self.pushed.saturating_sub(seen);
         let skipped = (self.ring.len() as u64).saturating_sub(new) as usize;
-        *out = copies(alloc, &self.ring, skipped)?;
-        Ok(MessageCopyState { seen: self.pushed })
+        let messages = copies(&self.ring, skipped, spare.into_vec())?;
+        let state = MessageCopyState { seen: self.pushed };
+        Ok((Messages::new(messages), state))
     }
 
     /// Returns a ring of the same capacity, with copies of the messages and the same count of
@@ -198,6 +216,7 @@ impl fmt::Debug for MessageRingBuffer {
 
 /// Returns a message with copies of these texts, in the memory of another message if there is one,
 /// or an `AllocError` if out of memory.
+#[inline(always)]
 fn copied_into(
     alloc: Global,
     other: Option<Message>,
@@ -226,6 +245,16 @@ fn copied_into(
     })
 }
 
+/// Replaces a message with a copy of another, in the memory that it has. Fails if out of memory.
+fn overwrite(message: &mut Message, by: &Message) -> Result<(), AllocError>
+    ensures { OnOk result (message.new ≡ by.now) }
+{
+    message.time = by.time;
+    message.level = by.level;
+    message.origin.replace(by.origin.as_str())?;
+    message.message.replace(by.message.as_str())
+}
+
 /// Returns a buffer of the same capacity with copies of the messages, or an `AllocError` if out of
 /// memory.
 fn copied(
@@ -242,19 +271,25 @@ fn copied(
     Ok(copy)
 }
 
-/// Returns copies of all messages but the `skipped` oldest ones, or an `AllocError` if out of
-/// memory.
+/// Returns copies of all messages but the `skipped` oldest ones, in the memory of a list whose
+/// contents don't matter, or an `AllocError` if out of memory.
 fn copies(
-    alloc: Global,
     ring: &HeapCircularBuffer<Message>,
     skipped: usize,
+    mut list: Vec<Message>,
 ) -> Result<Vec<Message>, AllocError>
     ensures { IfOk result (λ list. list.items ≡ drop skipped ring.now.items) }
 {
-    let mut list = Vec::new(alloc);
+    let mut copied = 0;
     for message in ring.iter().skip(skipped) {
-        list.push(message.clone()?)?;
+        if copied < list.len() {
+            overwrite(&mut list[copied], message)?;
+        } else {
+            list.push(message.clone()?)?;
+        }
+        copied += 1;
     }
+    list.truncate(copied);
     Ok(list)
 }
 

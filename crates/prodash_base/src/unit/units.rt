@@ -144,6 +144,7 @@ impl UnitDisplay {
     /// # Errors
     ///
     /// `Refusal::Memory` if out of memory. Then `out` is unchanged.
+    #[inline(always)]
     pub fn append_to(&self, out: &mut String) -> Result<(), Refusal>
         ensures ok { OnOk result (Appends out.old (display_text self.now) out.new) }
         ensures err { OnErr result (string_bytes out.new ≡ string_bytes out.old) }

@@ -44,6 +44,7 @@ pub fn append<K: DisplayValue>(
 /// # Errors
 ///
 /// `Refusal::Memory` if out of memory. Then `out` is unchanged.
+#[inline(always)]
 pub fn append_values<K: DisplayValue>(
     out: &mut String,
     kind: &K,
@@ -70,6 +71,7 @@ pub fn append_values<K: DisplayValue>(
 /// # Errors
 ///
 /// `Refusal::Memory` if out of memory. Then `out` is unchanged.
+#[inline(always)]
 pub fn append_unit<K: DisplayValue>(
     out: &mut String,
     kind: &K,
@@ -206,6 +208,7 @@ fn push_throughput_after<K: DisplayValue>(
 }
 
 /// Appends the separator and the bound, if there is a bound.
+#[inline(always)]
 fn push_bound<K: DisplayValue>(
     kind: &K,
     out: &mut String,
@@ -234,6 +237,7 @@ pub(in crate::unit) fn push_value<K: DisplayValue>(
 }
 
 /// Appends the value with its bound, and what is shown before it.
+#[inline(always)]
 fn push_values<K: DisplayValue>(
     kind: &K,
     out: &mut String,
@@ -251,6 +255,7 @@ fn push_values<K: DisplayValue>(
 }
 
 /// Appends what is shown after the unit.
+#[inline(always)]
 fn push_after<K: DisplayValue>(
     kind: &K,
     out: &mut String,
@@ -266,6 +271,7 @@ fn push_after<K: DisplayValue>(
 }
 
 /// Appends the unit, and what is shown after it.
+#[inline(always)]
 fn push_unit<K: DisplayValue>(
     kind: &K,
     out: &mut String,

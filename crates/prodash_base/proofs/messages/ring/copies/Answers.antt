@@ -7,4 +7,4 @@ pub returns : goal.returns
 returns c =
     let rest = YieldsList-from_skip c.args.skipped (YieldsList-from_rest c.args.ring.now.items cc) cc in
     let all = YieldsList-end rest c.loop-message.yielded _ c.loop-message.yielded_by _ _ c.in-None.is c.next.ensures.steps in
-    c.loop-message.invariant ∙ all.0
+    c.truncate.ensures.items ∙ c.loop-message.invariant.1 ∙ all.0
