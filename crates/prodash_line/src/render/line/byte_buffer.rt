@@ -65,7 +65,7 @@ impl ByteBuffer {
     }
 
     /// Appends a byte. Fails if out of memory.
-    #[inline]
+    #[inline(always)]
     pub(crate) fn push(&mut self, byte: u8) -> Result<(), AllocError>
         ensures { OnOk result (self.new ≡ self.old ++ byte ∷ []) }
     {
@@ -76,7 +76,7 @@ impl ByteBuffer {
     }
 
     /// Appends some bytes. Fails if out of memory.
-    #[inline]
+    #[inline(always)]
     pub(crate) fn extend_from_slice(&mut self, bytes: &[u8]) -> Result<(), AllocError>
         ensures { OnOk result (self.new ≡ self.old ++ bytes.now) }
     {
@@ -87,7 +87,7 @@ impl ByteBuffer {
     }
 
     /// Appends a byte `count` times. Fails if out of memory.
-    #[inline]
+    #[inline(always)]
     pub(crate) fn push_copies(&mut self, byte: u8, count: u16) -> Result<(), AllocError>
         ensures { OnOk result (self.new ≡ self.old ++ replicate count byte) }
     {
@@ -102,7 +102,7 @@ impl ByteBuffer {
 }
 
 /// Makes room for `additional` bytes behind the first `length` ones, and returns where they end.
-#[inline]
+#[inline(always)]
 fn grow(initialized: &mut Vec<u8>, length: usize, additional: usize) -> Result<usize, AllocError>
     requires { length ≤ vec_len initialized.old }
     ensures end { IfOk result (λ end. end ≡ length + additional) }

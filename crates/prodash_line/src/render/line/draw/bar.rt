@@ -1,12 +1,15 @@
 //! The bar of a progress.
 ghost use Rattle.std.specs.Prelude.{◌≡◌, ◌-◌, ◌≤◌, ◌++◌, true, OnOk};
+ghost use Rattle.prodash_base.specs.Rows.{progress_of};
 ghost use Rattle.prodash_line.specs.ProgressRows as rows;
 ghost use Rattle.prodash_line.specs.ProgressRows.{numbered_cells};
+ghost use Rattle.prodash_line.specs.TextStyles as styles;
 ghost use Rattle.prodash_line.specs.Writing.{AppendsIn, SameLine};
 
 use crate::render::line::draw::line_writer::{LineWriter, style_of_length};
+use crate::render::line::draw::styles::row_style;
 use crate::render::line::page::Style;
-use prodash_base::progress::Step;
+use prodash_base::progress::{Step, Value};
 use std::alloc::AllocError;
 
 /// The columns of a bar's space and brackets.
@@ -15,52 +18,49 @@ const BRACKETS: u16 = 3;
 /// The column of the arrow in the bar of a progress with a bound.
 const ARROW: u16 = 1;
 
-/// Appends the bar of a progress on the columns that are left in its row, in this style if it is
-/// coloured. It appends nothing if there are no columns. Fails if out of memory.
+/// Appends the bar of a progress on the columns that are left in its row, in the row's style if it
+/// is coloured. It appends nothing if there are no columns. Fails if out of memory.
 pub(crate) fn push_bar(
     out: &mut LineWriter,
     colored: bool,
-    style: Style,
     columns: u16,
-    step: Step,
-    done_at: Option<Step>,
+    value: &Value,
 ) -> Result<(), AllocError>
     ensures { OnOk result
-        (AppendsIn colored out.old (rows.bar style columns step done_at) out.new) }
+        (let p = progress_of value.now in
+        let bar = rows.bar (styles.row_style p) columns p.counter p.bound in
+        AppendsIn colored out.old bar out.new) }
 {
     if columns == 0 {
         return Ok(());
     }
-    match done_at {
+    match value.done_at {
         Some(done_at) => {
             let cells = columns.saturating_sub(BRACKETS + ARROW);
-            push_bar_with(
-                out,
-                colored,
-                style,
-                cells,
-                filled_cells(cells, step, done_at),
-            )
+            let filled = filled_cells(cells, value.step, done_at);
+            push_bar_with(out, colored, value, cells, filled)
         }
-        None => push_unbounded_bar(out, colored, style, columns, step),
+        None => push_unbounded_bar(out, colored, row_style(value), columns, value.step),
     }
 }
 
-/// Appends a bar of `cells` cells, of which the first `filled` are filled.
+/// Appends a bar of `cells` cells, of which the first `filled` are filled, in the style of a row
+/// with this progress if it is coloured.
 fn push_bar_with(
     out: &mut LineWriter,
     colored: bool,
-    style: Style,
+    value: &Value,
     cells: u16,
     filled: u16,
 ) -> Result<(), AllocError>
     requires within { filled ≤ cells }
     requires short { cells ≤ 65531 }
     ensures { OnOk result
-        (AppendsIn colored out.old (rows.bar_with style cells filled) out.new) }
+        (let style = styles.row_style (progress_of value.now) in
+        AppendsIn colored out.old (rows.bar_with style cells filled) out.new) }
 {
     if colored {
-        return push_colored_bar(out, style, cells, filled);
+        return push_colored_bar(out, row_style(value), cells, filled);
     }
     let count = out.count(cells + (BRACKETS + ARROW));
     let count = out.push_prefix(b" [", count)?;
@@ -94,9 +94,12 @@ fn filled_cells(cells: u16, step: Step, done_at: Step) -> u16
     ensures within { result ≤ cells }
 {
     if done_at == 0 {
-        cells
-    } else {
-        (u128::from(cells) * u128::from(step.min(done_at)) / u128::from(done_at)) as u16
+        return cells;
+    }
+    let step = step.min(done_at);
+    match u64::from(cells).checked_mul(step) {
+        Some(product) => (product / done_at) as u16,
+        None => (u128::from(cells) * u128::from(step) / u128::from(done_at)) as u16,
     }
 }
 

@@ -25,7 +25,7 @@ fn without_control(c: char) -> char
 /// Returns a text as it is drawn, and its width in columns, at most 65535. A defensive renderer
 /// draws U+FFFD in place of each control character; such a text is written to `replaced`. Fails if
 /// out of memory.
-#[inline]
+#[inline(always)]
 pub(crate) fn drawn_text<'a>(
     defensive: bool,
     text: &'a str,

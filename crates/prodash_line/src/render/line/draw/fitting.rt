@@ -29,7 +29,6 @@ pub(crate) fn fit_printable(room: Room, count: u16) -> (u16, Room)
 
 /// Returns which prefix of a text is written, and the room after it. `width` is the width of the
 /// text, at most 65535.
-#[inline]
 pub(crate) fn fit_text(room: Room, text: &str, width: u16) -> (&str, Room)
     requires { width ≡ columns_of (piece (chars text.now) ∷ []) }
     ensures text { chars result.0.now ≡ written_in room (chars text.now) }

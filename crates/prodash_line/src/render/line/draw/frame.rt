@@ -255,19 +255,26 @@ fn write_messages(
     ensures reason { IsOkUnless result Refusal.Memory }
 {
     let layout = options.layout();
+    let mut replaced_origin = String::new(alloc);
+    let mut replaced = String::new(alloc);
     let mut left = widths;
     let mut greatest = greatest_of(origin_widths);
     for message in messages {
         let (width, others) = split_row(left);
-        let mut replaced = String::new(alloc);
-        let (origin, own_width) = drawn_text(
-            options.defensive,
-            message.origin.as_str(),
-            &mut replaced,
-        )?;
+        let origin = message.origin.as_str();
+        let (origin, own_width) = drawn_text(options.defensive, origin, &mut replaced_origin)?;
         greatest = greatest.max(own_width);
         start_row(out, layout)?;
-        push_message(alloc, out, options, greatest, origin, own_width, message)?;
+        push_message(
+            alloc,
+            out,
+            &mut replaced,
+            options,
+            greatest,
+            origin,
+            own_width,
+            message,
+        )?;
         out.end_over(width)?;
         origin_widths.push(own_width)?;
         left = others;

@@ -113,6 +113,7 @@ impl LineWriter {
 
     /// Appends a text of this width to the line, in this style if there is one. Fails if out of
     /// memory.
+    #[inline(always)]
     pub(crate) fn push_measured(
         &mut self,
         style: Option<Style>,
@@ -196,6 +197,7 @@ impl LineWriter {
 
     /// Appends at most 65535 printable ASCII characters, whose number is their width. Fails if out
     /// of memory.
+    #[inline(always)]
     pub(crate) fn push_printable(&mut self, text: &[u8]) -> Result<(), AllocError>
         requires printable { is_printable text.now ≡ true }
         requires short { length text.now ≤ 65535 }
@@ -219,7 +221,6 @@ impl LineWriter {
 
     /// Writes the first `count` bytes of a text that has been counted, and returns how many bytes
     /// more are to be written after it. Fails if out of memory.
-    #[inline]
     pub(crate) fn push_prefix(&mut self, text: &[u8], count: u16) -> Result<u16, AllocError>
         ensures bytes { OnOk result
             (self.new.bytes ≡ self.old.bytes ++ take count text.now) }
@@ -250,7 +251,10 @@ impl LineWriter {
     {
         if first.len() + second.len() + third.len() <= usize::from(limit) {
             self.bytes.extend_from_slice(first)?;
-            self.bytes.extend_from_slice(second)?;
+            match second {
+                [byte] => self.bytes.push(*byte)?,
+                _ => self.bytes.extend_from_slice(second)?,
+            }
             self.bytes.extend_from_slice(third)?;
             return Ok(());
         }
@@ -262,6 +266,7 @@ impl LineWriter {
 
     /// Writes the first `limit` bytes of a run that has been counted: a byte `count` times and then
     /// another one. Returns how many bytes more are to be written after it. Fails if out of memory.
+    #[inline(always)]
     pub(crate) fn push_run_prefix(
         &mut self,
         byte: u8,
@@ -286,6 +291,7 @@ impl LineWriter {
 
     /// Appends a printable ASCII character `count` times, in this style if there is one. Fails if
     /// out of memory.
+    #[inline(always)]
     pub(crate) fn push_repeated(
         &mut self,
         style: Option<Style>,
@@ -319,6 +325,7 @@ impl LineWriter {
     }
 
     /// Begins a style, if there is one. Fails if out of memory.
+    #[inline(always)]
     pub(crate) fn open(&mut self, style: Option<Style>) -> Result<(), AllocError>
         ensures bytes { OnOk result
             (self.new.bytes ≡ self.old.bytes ++ open_bytes style) }
@@ -371,6 +378,7 @@ impl LineWriter {
     /// Ends the line over a line of this width that is on screen in its row: appends spaces as far
     /// as that one reached, then a line feed. Returns the width of the line as it is cut. Fails if
     /// out of memory.
+    #[inline(always)]
     pub(crate) fn end_over(&mut self, width: u16) -> Result<u16, AllocError>
         ensures bytes { OnOk result (EndsOver self.old width self.new) }
         ensures width { IfOk result (IsCutWidth self.old) }

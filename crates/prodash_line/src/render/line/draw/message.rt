@@ -15,10 +15,12 @@ use prodash_base::time::format_time_for_messages;
 use std::alloc::{AllocError, Global};
 
 /// Writes the line of a message whose origin is drawn as `origin`, of this width, and right-aligned
-/// to `width`. Fails if out of memory.
+/// to `width`. What is drawn of its text is in `replaced` if that is another text. Fails if out of
+/// memory.
 pub(crate) fn push_message(
     alloc: Global,
     out: &mut LineWriter,
+    replaced: &mut String,
     options: &Options,
     width: u16,
     origin: &str,
@@ -34,7 +36,7 @@ pub(crate) fn push_message(
     out.begin(options.width_limit());
     out.push_spaces(1)?;
     push_time(alloc, out, options, message)?;
-    push_text(alloc, out, options, width, origin, own_width, message)?;
+    push_text(out, replaced, options, width, origin, own_width, message)?;
     Ok(())
 }
 
@@ -62,8 +64,8 @@ fn push_time(
 /// Appends the origin of a message, which is drawn as `origin`, right-aligned to `width`, a space
 /// and its text.
 fn push_text(
-    alloc: Global,
     out: &mut LineWriter,
+    replaced: &mut String,
     options: &Options,
     width: u16,
     origin: &str,
@@ -76,12 +78,8 @@ fn push_text(
         (let text = text_of options.now.defensive width message.now in
         Appends out.old (in_color options.now.colored text) out.new) }
 {
-    let mut replaced = String::new(alloc);
-    let (text, text_width) = drawn_text(
-        options.defensive,
-        message.message.as_str(),
-        &mut replaced,
-    )?;
+    let text = message.message.as_str();
+    let (text, text_width) = drawn_text(options.defensive, text, replaced)?;
     let padding = width.saturating_sub(own_width);
     let of_origin = options.colored.then_some(origin_style());
     let of_text = options.colored.then_some(message_style(message.level));

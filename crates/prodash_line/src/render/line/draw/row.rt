@@ -13,7 +13,7 @@ use crate::render::line::draw::bar::push_bar;
 use crate::render::line::draw::drawn_text::drawn_text;
 use crate::render::line::draw::input::Options;
 use crate::render::line::draw::line_writer::{LineWriter, style_of_length};
-use crate::render::line::draw::styles::{name_style, row_style, values_style};
+use crate::render::line::draw::styles::{name_style, values_style};
 use itoa::Buffer;
 use prodash_base::Refusal;
 use prodash_base::progress::{Level, Row, Step, Value};
@@ -26,6 +26,10 @@ use std::alloc::{AllocError, Global};
 pub(crate) struct RowTexts {
     values: String,
     unit: String,
+    /// What is drawn of a name, of values and of a unit, if that is another text.
+    replaced_name: String,
+    replaced_values: String,
+    replaced_unit: String,
 }
 
 impl RowTexts {
@@ -34,6 +38,9 @@ impl RowTexts {
         RowTexts {
             values: String::new(alloc),
             unit: String::new(alloc),
+            replaced_name: String::new(alloc),
+            replaced_values: String::new(alloc),
+            replaced_unit: String::new(alloc),
         }
     }
 }
@@ -61,19 +68,13 @@ pub(crate) fn push_row(
 {
     let (width, _) = options.terminal_dimensions;
     out.begin_row(options.layout(), options.width_limit(), row.key.level())?;
-    push_name(alloc, out, options, row)?;
+    push_name(out, &mut texts.replaced_name, options, row)?;
     let Some(value) = &row.progress else {
         return Ok(0);
     };
     let own = push_values(alloc, out, texts, options, midpoint, value, throughput)?;
-    push_bar(
-        out,
-        options.colored,
-        row_style(value),
-        width.saturating_sub(out.width()),
-        value.step,
-        value.done_at,
-    )?;
+    let columns = width.saturating_sub(out.width());
+    push_bar(out, options.colored, columns, value)?;
     Ok(own)
 }
 
@@ -159,11 +160,9 @@ fn push_in_unit(
     let mut display = unit.display(alloc, value.step, value.done_at, throughput);
     display.values().append_to(&mut texts.values)?;
     display.unit().append_to(&mut texts.unit)?;
-    let mut replaced_values = String::new(alloc);
-    let mut replaced_name = String::new(alloc);
     let (values, name) = (texts.values.as_str(), texts.unit.as_str());
-    let (values, values_width) = drawn_text(options.defensive, values, &mut replaced_values)?;
-    let (name, name_width) = drawn_text(options.defensive, name, &mut replaced_name)?;
+    let (values, values_width) = drawn_text(options.defensive, values, &mut texts.replaced_values)?;
+    let (name, name_width) = drawn_text(options.defensive, name, &mut texts.replaced_unit)?;
     let own = out
         .width()
         .saturating_add(1)
@@ -200,10 +199,10 @@ fn format_bound(digits: &mut Buffer, done_at: Option<Step>) -> (&'static str, &s
     }
 }
 
-/// Appends the name of a row.
+/// Appends the name of a row. What is drawn of it is in `replaced` if that is another text.
 fn push_name(
-    alloc: Global,
     out: &mut LineWriter,
+    replaced: &mut String,
     options: &Options,
     row: &Row,
 ) -> Result<(), AllocError>
@@ -211,8 +210,7 @@ fn push_name(
         (let head = rows.head_of options.now.defensive (row_of row.now) in
         AppendsIn options.now.colored out.old (drop 1 head) out.new) }
 {
-    let mut replaced = String::new(alloc);
-    let (name, width) = drawn_text(options.defensive, row.name.as_str(), &mut replaced)?;
+    let (name, width) = drawn_text(options.defensive, row.name.as_str(), replaced)?;
     let style = options.colored.then_some(name_style(&row.progress));
     out.push_measured(style, name, width)?;
     Ok(())

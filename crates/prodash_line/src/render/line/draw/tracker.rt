@@ -25,7 +25,7 @@ pub(crate) fn begin(tracker: &mut Option<FrameThroughput>, at: Moment)
 }
 
 /// Observes a row, and returns the throughput that it gives, if there is a tracker.
-#[inline]
+#[inline(always)]
 pub(crate) fn observe(
     alloc: Global,
     tracker: &mut Option<FrameThroughput>,

@@ -69,6 +69,7 @@ fn last_digit(color: Color) -> u8
 /// Appends the control sequence that begins a style. Fails if out of memory.
 ///
 /// Those of the styles of a row are written at once.
+#[inline(always)]
 pub(crate) fn push_open(out: &mut ByteBuffer, style: Style) -> Result<(), AllocError>
     ensures { OnOk result (out.new ≡ out.old ++ spelling_of (Open style)) }
 {
@@ -91,7 +92,6 @@ pub(crate) fn push_open(out: &mut ByteBuffer, style: Style) -> Result<(), AllocE
 }
 
 /// Appends the control sequence that ends a style. Fails if out of memory.
-#[inline]
 pub(crate) fn push_reset(out: &mut ByteBuffer) -> Result<(), AllocError>
     ensures { OnOk result (out.new ≡ out.old ++ spelling_of Reset) }
 {

@@ -1,7 +1,9 @@
 use Rattle.std.proofs.Common.{◌≡◌, ℕ, [], Option, Some, None, ap, sym}
 use Rattle.prodash_line.specs.declared.render.line.page.style.Style.{Style}
 use Rattle.prodash_line.specs.Lines.{in_color}
+use Rattle.prodash_base.specs.Rows.{progress_of}
 use Rattle.prodash_line.specs.ProgressRows.{bar}
+use Rattle.prodash_line.specs.TextStyles.{row_style}
 use Rattle.prodash_line.proofs.LineWriting.{appends_as, appends_no_piece}
 use Rattle.prodash_line.proofs.render.line.draw.bar.push_bar.Goals as goal
 
@@ -11,4 +13,4 @@ no_bar style columns step (Some bound) e = ap (λ (n : ℕ). bar style n step (S
 
 pub returns-then-columns-eq0 : goal.returns-then-columns-eq0
 returns-then-columns-eq0 c =
-    appends_as (ap (in_color c.args.colored) (sym (no_bar c.args.style c.args.columns c.args.step c.args.done_at c.if-columns-eq0.true))) (appends_no_piece c.args.out.now)
+    appends_as (ap (in_color c.args.colored) (sym (no_bar (row_style (progress_of c.args.value.now)) c.args.columns c.args.value.now.step c.args.value.now.done_at c.if-columns-eq0.true))) (appends_no_piece c.args.out.now)

@@ -1,6 +1,8 @@
 use Rattle.std.proofs.Common.{◌≡◌, Bool, ℕ, List, [], ◌∷◌, ◌++◌, ◌+◌, ◌-◌, codes, length, replicate, append_assoc, length-append, refl, ap, sym, subst, ◌∙◌, arith}
 use Rattle.std.proofs.lemmas.List.{length-replicate}
+use Rattle.prodash_base.specs.Rows.{progress_of}
 use Rattle.prodash_line.specs.ProgressRows.{bar_with}
+use Rattle.prodash_line.specs.TextStyles.{row_style}
 use Rattle.prodash_line.specs.Writing.{AppendsIn}
 use Rattle.prodash_line.proofs.Columns.{printable-repeated}
 use Rattle.prodash_line.proofs.JoinedTexts.{joined, ArePrintable, printable-joined, appends_apart}
@@ -27,7 +29,7 @@ returns c =
       length-replicate {A = ℕ} n 45,
       c.requires.within,
     ) in
-    subst (λ (colored : Bool). AppendsIn colored c.args.out.now (bar_with c.args.style c.args.cells c.args.filled) c.push_run_prefix-2.new.self) (sym c.if-colored.false)
+    subst (λ (colored : Bool). AppendsIn colored c.args.out.now (bar_with (row_style (progress_of c.args.value.now)) c.args.cells c.args.filled) c.push_run_prefix-2.new.self) (sym c.if-colored.false)
     (appends_apart (codes " [") texts refl printable
     (appends_printable bar _ c.count-count.result (printable-joined (codes " [") texts refl printable) size c.count-count.ensures
     (parts_written c.count-count.new.self.bytes _ _ _ bar (codes " [") (filled ++ codes ">") (others ++ codes "]") c.count-count.result _ _ parts

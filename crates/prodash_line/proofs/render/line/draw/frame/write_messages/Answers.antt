@@ -9,16 +9,16 @@ use Rattle.prodash_line.proofs.MessageLines.{greatest_width-append}
 use Rattle.prodash_line.proofs.OverwriteBytes.{left_from, message_more, origin_more}
 use Rattle.prodash_line.proofs.render.line.draw.frame.write_messages.Goals as goal
 
-drawn_is : (c : goal.After-drop-replaced-in-loop-message) → chars c.in_ok-origin.origin.now ≡ drawn_chars c.args.options.now.defensive c.message-item.result.origin
-drawn_is c = c.in_ok-origin.ensures.text ∙ ap (drawn_chars c.args.options.now.defensive) c.as_str.ensures
+drawn_is : (c : goal.In_ok-push) → chars c.in_ok-origin.origin.now ≡ drawn_chars c.args.options.now.defensive c.message-item.result.origin
+drawn_is c = c.in_ok-origin.ensures.text ∙ ap (drawn_chars c.args.options.now.defensive) c.as_str-origin.ensures
 
-own_is : (c : goal.After-drop-replaced-in-loop-message) → c.in_ok-origin.own_width ≡ origin_width c.args.options.now.defensive c.message-item.result.origin
+own_is : (c : goal.In_ok-push) → c.in_ok-origin.own_width ≡ origin_width c.args.options.now.defensive c.message-item.result.origin
 own_is c = c.in_ok-origin.ensures.width ∙ ap (λ (text : List ℕ). columns_of (piece text ∷ [])) (drawn_is c)
 
-greatest_is : (c : goal.After-drop-replaced-in-loop-message) → c.max-greatest.result ≡ max (greatest_width c.loop-message.origin_widths.items) c.in_ok-origin.own_width
+greatest_is : (c : goal.In_ok-push) → c.max-greatest.result ≡ max (greatest_width c.loop-message.origin_widths.items) c.in_ok-origin.own_width
 greatest_is c = c.max-greatest.ensures ∙ ap (λ n. max n c.in_ok-origin.own_width) c.loop-message.invariant.greatest
 
-left_is : (c : goal.After-drop-replaced-in-loop-message) → drop c.loop-message.message-index c.args.messages.now ≡ c.message-item.result ∷ drop (c.loop-message.message-index + 1) c.args.messages.now
+left_is : (c : goal.In_ok-push) → drop c.loop-message.message-index c.args.messages.now ≡ c.message-item.result ∷ drop (c.loop-message.message-index + 1) c.args.messages.now
 left_is c = left_from c.args.messages.now c.loop-message.message-index c.message-item.result (omega arith) c.message-item.is
 
 pub loop-message-preserved : goal.loop-message-preserved

@@ -16,5 +16,5 @@ returns c =
     ∙ ap (λ n. styled (then_some o.colored origin_style) (replicate n 32 ++ chars c.args.origin.now) ∷ []) padding
     ∙ ap (λ (t : List ℕ). styled (then_some o.colored origin_style) (replicate (c.args.width - origin_width o.defensive m.origin) 32 ++ t) ∷ []) c.requires.drawn) c.in_ok-push_indented.ensures in
     let text = appends_as (ap (λ s. styled s (chars c.in_ok-text.text.now) ∷ []) (c.then_some-of_text.ensures ∙ ap (then_some o.colored) c.message_style.ensures)
-    ∙ ap (λ (t : List ℕ). styled (then_some o.colored (message_style m.level)) t ∷ []) (c.in_ok-text.ensures.text ∙ ap (drawn_chars o.defensive) c.as_str.ensures)) c.in_ok-push_measured.ensures in
+    ∙ ap (λ (t : List ℕ). styled (then_some o.colored (message_style m.level)) t ∷ []) (c.in_ok-text.ensures.text ∙ ap (drawn_chars o.defensive) c.as_str-text.ensures)) c.in_ok-push_measured.ensures in
     appends_then origin (appends_then c.in_ok-push_spaces.ensures text)

@@ -26,11 +26,11 @@ texts : (defensive : Bool) (style shown : Option Style) (unit : Unit) (p : RowPr
     ∷ []
 texts defensive style shown unit p t values name s v u = λ i. styled (s i) (v i) ∷ spaces 1 ∷ piece (u i) ∷ []
 
-values_are : (c : goal.After-drop-replaced_values-2) → chars c.in_ok-values.values.now
+values_are : (c : goal.In_ok-push_pair) → chars c.in_ok-values.values.now
     ≡ drawn_chars c.args.options.now.defensive (values_text (kind_shown c.args.unit.kind) c.args.unit.mode (amount c.args.value.now.step c.args.value.now.done_at c.args.throughput))
 values_are c = c.in_ok-values.ensures.text ∙ ap (drawn_chars c.args.options.now.defensive) (search rules)
 
-name_is : (c : goal.After-drop-replaced_values-2) → chars c.in_ok-name.name.now
+name_is : (c : goal.In_ok-push_pair) → chars c.in_ok-name.name.now
     ≡ drawn_chars c.args.options.now.defensive (unit_text (kind_shown c.args.unit.kind) c.args.unit.mode (amount c.args.value.now.step c.args.value.now.done_at c.args.throughput))
 name_is c = c.in_ok-name.ensures.text ∙ ap (drawn_chars c.args.options.now.defensive) (search rules)
 

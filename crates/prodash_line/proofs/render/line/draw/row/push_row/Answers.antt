@@ -1,8 +1,9 @@
-use Rattle.std.proofs.Common.{◌-◌, ap, sym, ◌∙◌}
+use Rattle.std.proofs.Common.{◌-◌, refl, ap, sym, ◌∙◌}
 use Rattle.std.specs.Option.{option_map}
 use Rattle.prodash_base.specs.Rows.{row_of, progress_of}
 use Rattle.prodash_line.specs.Lines.{in_color}
 use Rattle.prodash_line.specs.ProgressRows.{row_line_with, midpoint_with}
+use Rattle.prodash_line.specs.TextStyles.{row_style}
 use Rattle.prodash_line.proofs.LineWriting.{begun_as}
 use Rattle.prodash_line.proofs.RowStarts.{head_begun}
 use Rattle.prodash_line.proofs.RowLines.{row_midpoint, padded_begun, row_begun}
@@ -16,9 +17,9 @@ returns-clause-line c =
     let colored = c.args.options.now.colored in
     let width = c.args.options.now.terminal_dimensions.0 in
     begun_as (ap (λ o. in_color colored (row_line_with c.args.options.now.defensive width c.args.midpoint row (option_map progress_of o) c.args.throughput)) (sym c.in-Some.is))
-    (row_begun colored c.args.options.now.defensive row p c.args.throughput width c.args.midpoint c.saturating_sub.result c.row_style.result
+    (row_begun colored c.args.options.now.defensive row p c.args.throughput width c.args.midpoint c.saturating_sub-columns.result (row_style p)
     (padded_begun colored c.args.options.now.defensive row p c.args.throughput c.args.midpoint head c.in_ok-own.ensures.line)
-    (c.saturating_sub.ensures ∙ ap (λ n. width - n) c.width.ensures) c.row_style.ensures c.in_ok-push_bar.ensures)
+    (c.saturating_sub-columns.ensures ∙ ap (λ n. width - n) c.width.ensures) refl c.in_ok-push_bar.ensures)
 
 pub returns-clause-midpoint : goal.returns-clause-midpoint
 returns-clause-midpoint c =
