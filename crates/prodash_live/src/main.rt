@@ -12,7 +12,7 @@ mod output;
 mod program;
 mod record;
 
-use command_line::{Command, HELP, VERSION, parse};
+use command_line::{Command, HELP, UsageError, VERSION, parse};
 use feed::Outcome;
 use prodash::time::SystemClock;
 use prodash_programs::{Environment, Fault, arguments, report, write_all};
@@ -27,66 +27,64 @@ use std::sync::Arc;
 fn main(rt: HostRuntime) -> ExitCode {
     let words = match arguments(&rt, Fault::Arguments) {
         Ok(words) => words,
-        Err(fault) => return ExitCode::from(report(&mut rt.stderr(), fault)),
+        Err(fault) => return failed(&rt, fault),
     };
     let options = match parse(&words, Environment::read(&rt)) {
         Ok(Command::Run(options)) => options,
         Ok(Command::Help) => return print(&rt, HELP),
         Ok(Command::Version) => return print(&rt, VERSION),
-        Err(error) => {
-            let hint = "For more information, try '--help'.";
-            let _ = writeln!(rt.stderr(), "error: {error}\n\n{hint}");
-            return ExitCode::from(2);
-        }
+        Err(error) => return misused(&rt, error),
     };
     let Ok(clock) = Arc::new(rt.alloc(), SystemClock::new(rt)) else {
-        return ExitCode::from(report(&mut rt.stderr(), Fault::Memory));
+        return failed(&rt, Fault::Memory);
     };
     let record = match options.record.map(|path| File::create(&rt, path)) {
         None => None,
         Some(Ok(file)) => Some(file),
-        Some(Err(_)) => return ExitCode::from(report(&mut rt.stderr(), Fault::Record)),
+        Some(Err(_)) => return failed(&rt, Fault::Record),
     };
-    let (input, alloc) = (rt.reader(), rt.alloc());
+    let input = rt.reader();
     let ended = if options.to_stdout {
         let is_terminal = rt.stdout().is_terminal();
-        live(
-            rt,
-            alloc,
-            input,
-            rt.stdout(),
-            record,
-            clock,
-            options,
-            is_terminal,
-        )
+        live(rt, input, rt.stdout(), record, clock, options, is_terminal)
     } else {
         let is_terminal = rt.stderr().is_terminal();
-        live(
-            rt,
-            alloc,
-            input,
-            rt.stderr(),
-            record,
-            clock,
-            options,
-            is_terminal,
-        )
+        live(rt, input, rt.stderr(), record, clock, options, is_terminal)
     };
     match ended {
-        Ok(Outcome::Ended(faults)) => ExitCode::from(if faults == 0 { 0 } else { 2 }),
-        Ok(Outcome::Stopped(text)) => {
+        Ok(outcome) => tell(&rt, outcome),
+        Err(fault) => failed(&rt, fault),
+    }
+}
+
+/// Says how the arguments are wrong, and returns the exit status.
+fn misused(rt: &HostRuntime, error: UsageError<'_>) -> ExitCode {
+    let hint = "For more information, try '--help'.";
+    let _ = writeln!(rt.stderr(), "error: {error}\n\n{hint}");
+    ExitCode::from(2)
+}
+
+/// Says which line has stopped the program, if one has, and returns the exit status.
+fn tell(rt: &HostRuntime, outcome: Outcome) -> ExitCode {
+    match outcome {
+        Outcome::Ended(0) => ExitCode::from(0),
+        Outcome::Ended(_) => ExitCode::from(2),
+        Outcome::Stopped(text) => {
             let _ = writeln!(rt.stderr(), "{text}");
             ExitCode::from(2)
         }
-        Err(fault) => ExitCode::from(report(&mut rt.stderr(), fault)),
     }
+}
+
+/// Says why the program has failed, and returns the exit status.
+fn failed(rt: &HostRuntime, fault: Fault) -> ExitCode {
+    ExitCode::from(report(&mut rt.stderr(), fault))
 }
 
 /// Prints a text, and returns the exit status.
 fn print(rt: &HostRuntime, text: &str) -> ExitCode {
     match write_all(&mut rt.stdout(), text.as_bytes()) {
         Ok(()) => ExitCode::from(0),
-        Err(fault) => ExitCode::from(report(&mut rt.stderr(), fault)),
+        Err(fault) => failed(rt, fault),
     }
 }

@@ -5,9 +5,9 @@ use crate::items::Items;
 use crate::options::Options;
 use crate::output::{OutputState, PromptClock, Watched};
 use crate::record::Record;
-use prodash::render::line::render;
+use prodash::render::line::{self, render};
 use prodash::time::Clock;
-use prodash::tree::root;
+use prodash::tree::{Root, root};
 use prodash_programs::Fault;
 use std::alloc::Global;
 use std::io::{Read, Write};
@@ -21,14 +21,13 @@ use std::thread::Threads;
 ///
 /// The fault that ended it. The renderer is closed then, too.
 pub fn live<
-    R: Wait + Threads + Clone + Drop + Send + Sync + 'static,
+    R: Wait + Threads + Alloc<A = Global> + Clone + Drop + Send + Sync + 'static,
     I: Read + Drop,
     O: Write + Drop + Send + 'static,
     W: Write + Drop,
     K: Clock + Drop + Send + Sync + 'static,
 >(
     rt: R,
-    alloc: Global,
     input: I,
     out: O,
     record: Option<W>,
@@ -36,6 +35,7 @@ pub fn live<
     options: Options<'_>,
     is_terminal: bool,
 ) -> Result<Outcome, Fault> {
+    let alloc = rt.alloc();
     let output = Arc::new(alloc, OutputState::new())?;
     let root = root::Options {
         message_buffer_capacity: MESSAGES,
@@ -43,23 +43,10 @@ pub fn live<
     }
     .create(rt.clone()?, alloc)?;
     let rendering = options.render(is_terminal);
-    let prompt = PromptClock::new(
-        Arc::try_clone(&clock)?,
-        Arc::try_clone(&output)?,
-        rendering.nanoseconds_per_frame,
-    );
-    let handle = render(
-        rt.clone()?,
-        alloc,
-        Watched::new(out, Arc::try_clone(&output)?),
-        root.downgrade()?,
-        Arc::new(alloc, prompt)?,
-        rendering,
-    )?;
+    let mut display = show(&rt, alloc, out, &root, &clock, rendering, &output)?;
     let frame = rendering.nanoseconds_per_frame;
     let record = Record::new(alloc, record, clock.now(), frame);
     let mut items = Items::new(alloc, root, !rendering.colored, record);
-    let mut display = Display::new(handle, Arc::try_clone(&output)?);
     let is_strict = options.is_strict;
     let fed = feed_lines(
         &rt,
@@ -80,4 +67,38 @@ pub fn live<
         return Err(Fault::Record);
     }
     Ok(outcome)
+}
+
+/// Begins to show a tree on `out`.
+///
+/// # Errors
+///
+/// If there is no memory or no thread for it.
+fn show<
+    R: Wait + Threads + Clone + Drop + Send + Sync + 'static,
+    O: Write + Drop + Send + 'static,
+    K: Clock + Drop + Send + Sync + 'static,
+>(
+    rt: &R,
+    alloc: Global,
+    out: O,
+    root: &Root<R>,
+    clock: &Arc<K>,
+    rendering: line::Options,
+    output: &Arc<OutputState>,
+) -> Result<Display<R>, Fault> {
+    let prompt = PromptClock::new(
+        Arc::try_clone(clock)?,
+        Arc::try_clone(output)?,
+        rendering.nanoseconds_per_frame,
+    );
+    let handle = render(
+        rt.clone()?,
+        alloc,
+        Watched::new(out, Arc::try_clone(output)?),
+        root.downgrade()?,
+        Arc::new(alloc, prompt)?,
+        rendering,
+    )?;
+    Ok(Display::new(handle, Arc::try_clone(output)?))
 }
