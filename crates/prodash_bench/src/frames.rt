@@ -132,8 +132,8 @@ fn draw_frame<R: Wait + Clone + Drop>(
     state: &mut draw::State,
     n: u64,
 ) -> Result<(), Refusal> {
-    let spare = state.take_spare_rows(alloc);
-    let seen = root.look(alloc, spare, state.seen())?;
+    let spare = state.take_spare(alloc);
+    let seen = root.look(spare, state.seen())?;
     let input = Input::Tick {
         at: n.saturating_mul(PERIOD),
         show: true,

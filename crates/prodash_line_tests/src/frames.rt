@@ -148,21 +148,22 @@ fn says_what_it_saw_and_why_it_ended(rt: HostRuntime) -> Result<(), Fail> {
 
 /// Inputs, and how many rows are spare after each: those of the tick before.
 #[rattlefmt::skip]
-const SPARE: &[(Ask, usize)] = &[
-    (Show(&[TASK, ("next", None)]), 0),
-    (Hide(&[TASK]), 2),
-    (Print(&[("a", "one")], &[]), 1),
-    (Quit, 0),
+const SPARE: &[(Ask, (usize, usize))] = &[
+    (Show(&[TASK, ("next", None)]), (0, 0)),
+    (Hide(&[TASK]), (2, 0)),
+    (Print(&[("a", "one")], &[]), (1, 1)),
+    (Quit, (0, 0)),
 ];
 
 #[test]
-fn rows_that_it_remembers_no_longer_are_spare(rt: HostRuntime) -> Result<(), Fail> {
+fn rows_and_messages_that_it_needs_no_longer_are_spare(rt: HostRuntime) -> Result<(), Fail> {
     let mut screen = MemoryScreen::new(rt.alloc(), 200)?;
     let mut state = renderer(rt.alloc(), (40, 20));
-    for (ask, count) in SPARE {
+    for (ask, counts) in SPARE {
         let _ = draw(rt.alloc(), &mut screen, &mut state, *ask);
-        let spare = state.take_spare_rows(rt.alloc());
-        assert_same(&rt, spare.as_slice().len(), *count, "spare rows");
+        let (rows, messages) = state.take_spare(rt.alloc());
+        let got = (rows.as_slice().len(), messages.as_slice().len());
+        assert_same(&rt, got, *counts, "spare rows and messages");
     }
     Ok(())
 }

@@ -96,7 +96,7 @@ impl Root for Scene {
     fn look(
         &self,
         alloc: Global,
-        _spare: Rows,
+        _spare: (Rows, Messages),
         previous: Option<MessageCopyState>,
     ) -> Result<(Rows, Messages, MessageCopyState), Refusal> {
         let mut rows = Vec::new(alloc);

@@ -88,7 +88,7 @@ impl Root for OneTask {
     fn look(
         &self,
         alloc: Global,
-        _spare: Rows,
+        _spare: (Rows, Messages),
         _previous: Option<MessageCopyState>,
     ) -> Result<(Rows, Messages, MessageCopyState), Refusal> {
         if !self.has_memory {

@@ -1,7 +1,7 @@
 //! The locked tree: owners and weak handles, items whose entry is gone, steps, and threads.
 use crate::fixtures::{ShortRow, assert_same, key_at, messages as messages_of, rows as rows_of};
 use prodash::Refusal;
-use prodash::messages::{Message, MessageCopyState, MessageLevel};
+use prodash::messages::{Message, MessageCopyState, MessageLevel, Messages};
 use prodash::progress::{Row, Rows, UNKNOWN};
 use prodash::tree::root::Options;
 use prodash::tree::{Item, Root, Steps};
@@ -279,7 +279,8 @@ fn snapshot_with_new_messages(rt: HostRuntime) -> Result<(), Fail> {
     let sizes = (rows.len(), said.len(), next.pushed());
     assert_same(&rt, sizes, (2, 2, 3), "second look");
     drop(child);
-    let (rows, said, last) = root.look(alloc, Rows::new(rows), Some(next))?;
+    let spare = (Rows::new(rows), Messages::new(said));
+    let (rows, said, last) = root.look(spare, Some(next))?;
     assert_holds(
         &rt,
         alloc,

@@ -231,18 +231,18 @@ impl<R: TakesTurns> Root<R> {
         tree.rows_and_news(alloc, rows, previous)
     }
 
-    /// Returns the rows, the new messages and the state that `snapshot_and_new_messages` gives. The
-    /// rows are in the memory of `spare`, whose contents don't matter. A name is copied only if
-    /// `spare` has another one at its place: if those are rows of an earlier look, and the tasks are
-    /// still the same, nothing is allocated for them.
+    /// Returns the rows, the new messages and the state that `snapshot_and_new_messages` gives. Rows
+    /// and messages are in the memory of `spare`, whose contents don't matter. A name is copied only
+    /// if `spare` has another one at its place: if those are rows of an earlier look, and the tasks
+    /// are still the same, nothing is allocated for them. Nor is it for a message if `spare` has one
+    /// at its place whose texts are as long.
     ///
     /// # Errors
     ///
     /// `Memory`, if there is no memory for the copies.
     pub fn look(
         &self,
-        alloc: Global,
-        spare: Rows,
+        spare: (Rows, Messages),
         previous: Option<MessageCopyState>,
     ) -> Result<(Rows, Messages, MessageCopyState), Refusal>
         ensures ok { IfOk result (λ seen.
@@ -251,7 +251,7 @@ impl<R: TakesTurns> Root<R> {
         ensures reason { IsOkUnless result Refusal.Memory }
     {
         let (tree, _turn) = self.rt.begin_turn(&self.shared);
-        tree.look(alloc, spare, previous)
+        tree.look(spare, previous)
     }
 
     /// Returns an owner of a copy of the tree, with the same tasks, messages and capacity. Its

@@ -171,11 +171,11 @@ impl<R: TakesTurns> traits::Root for Root<R> {
 
     fn look(
         &self,
-        alloc: Global,
-        spare: Rows,
+        _alloc: Global,
+        spare: (Rows, Messages),
         previous: Option<MessageCopyState>,
     ) -> Result<(Rows, Messages, MessageCopyState), Refusal> {
-        Root::look(self, alloc, spare, previous)
+        Root::look(self, spare, previous)
     }
 
     fn snapshot_and_new_messages(

@@ -89,7 +89,7 @@ pub trait Root {
     /// Returns the rows, in strictly ascending order of their keys; the messages that are kept and
     /// were sent since the look that returned `previous`, the oldest first, or all that are kept if
     /// it is `None`; and the state for the next look. The contents of `spare` don't matter: its
-    /// memory may hold the rows.
+    /// memory may hold the rows and the messages.
     ///
     /// # Errors
     ///
@@ -97,7 +97,7 @@ pub trait Root {
     fn look(
         &self,
         alloc: Global,
-        spare: Rows,
+        spare: (Rows, Messages),
         previous: Option<MessageCopyState>,
     ) -> Result<(Rows, Messages, MessageCopyState), Refusal>
         ensures ok { IfOk result (λ seen. looks self.now previous seen.0 seen.1 seen.2) }
@@ -123,7 +123,7 @@ pub trait Root {
         ensures err_messages { OnErr result (messages.new.items ≡ messages.old.items) }
         ensures reason { IsOkUnless result Refusal.Memory }
     {
-        let spare = Rows::new(Vec::new(alloc));
+        let spare = (Rows::new(Vec::new(alloc)), Messages::new(Vec::new(alloc)));
         let (seen_rows, seen_messages, state) = self.look(alloc, spare, previous)?;
         *rows = seen_rows.into_vec();
         *messages = seen_messages.into_vec();

@@ -121,8 +121,8 @@ impl Session {
         if let Some(refusal) = self.renderer.ended() {
             return Reply::Refused(refusal);
         }
-        let spare = self.renderer.take_spare_rows(alloc);
-        match self.tree.look(alloc, spare, self.renderer.seen()) {
+        let spare = self.renderer.take_spare(alloc);
+        match self.tree.look(spare, self.renderer.seen()) {
             Ok(seen) => self.draw(alloc, Input::Tick { at, show, seen }, screen),
             Err(refusal) => Reply::Refused(refusal),
         }

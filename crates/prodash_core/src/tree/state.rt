@@ -221,19 +221,20 @@ impl TreeState {
         ensures ok { IfOk result (λ seen. seen ≡ snapshot_of self.now previous) }
         ensures reason { IsOkUnless result Refusal.Memory }
     {
-        self.look(alloc, Rows::new(Vec::new(alloc)), previous)
+        let spare = (Rows::new(Vec::new(alloc)), Messages::new(Vec::new(alloc)));
+        self.look(spare, previous)
     }
 
-    /// Returns what `snapshot_and_new_messages` returns, with the rows in the memory of `spare`,
-    /// whose contents don't matter. A name is copied only if `spare` has another one at its place.
+    /// Returns what `snapshot_and_new_messages` returns, with the rows and the messages in the
+    /// memory of `spare`, whose contents don't matter. A name is copied only if `spare` has another
+    /// one at its place.
     ///
     /// # Errors
     ///
     /// `Memory`, if there is no memory for the copies.
     pub fn look(
         &self,
-        alloc: Global,
-        spare: Rows,
+        spare: (Rows, Messages),
         previous: Option<MessageCopyState>,
     ) -> Result<Option<(Rows, Messages, MessageCopyState)>, Refusal>
         ensures ok { IfOk result (λ seen. seen ≡ snapshot_of self.now previous) }
@@ -242,24 +243,10 @@ impl TreeState {
         if self.root().is_err() {
             return Ok(None);
         }
-        let rows = self.rows_reusing(spare)?;
-        let (messages, state) = self.new_messages(alloc, previous)?;
+        let (spare_rows, spare_messages) = spare;
+        let rows = self.rows_reusing(spare_rows)?;
+        let (messages, state) = self.ring.new_messages(spare_messages, previous)?;
         Ok(Some((rows, messages, state)))
-    }
-
-    /// Returns the messages that are new since an earlier copy, and the state for the next.
-    fn new_messages(
-        &self,
-        alloc: Global,
-        previous: Option<MessageCopyState>,
-    ) -> Result<(Messages, MessageCopyState), Refusal>
-        ensures ok { IfOk result (λ m.
-            m ≡ (messages_since self.now.ring previous, self.now.ring.pushed)) }
-        ensures reason { IsOkUnless result Refusal.Memory }
-    {
-        let mut messages = Vec::new(alloc);
-        let state = self.ring.copy_new(alloc, &mut messages, previous)?;
-        Ok((Messages::new(messages), state))
     }
 
     /// Returns the slot of a handle that is valid.
@@ -453,7 +440,8 @@ impl TreeState {
         ensures { Plays self.now (Event.CopyNew previous) result self.now }
     {
         self.root()?;
-        let (messages, state) = self.new_messages(alloc, previous)?;
+        let spare = Messages::new(Vec::new(alloc));
+        let (messages, state) = self.ring.new_messages(spare, previous)?;
         Ok(Reply::New(messages, state))
     }
 

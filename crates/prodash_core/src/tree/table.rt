@@ -424,6 +424,7 @@ fn update_value<C: Copy, N: Counters<C>>(value: &mut Value, counted: &Counted<C>
 }
 
 /// Makes a row that of a task, but for its name.
+#[inline(always)]
 fn update_below_name<C: Copy, N: Counters<C>>(row: &mut Row, key: Key, task: &Task<C>, counters: &N)
     ensures { row.old.name ≡ task.now.name
         → RowShows (N.shows counters.now) (pair_of (key, task.now)) (row_of row.new) }

@@ -148,18 +148,18 @@ impl Locked {
         ensures err { OnErr result (out.new.items ≡ out.old.items) }
         ensures reason { IsOkUnless result Refusal.Memory }
     {
-        let news = self.news(alloc, previous)?;
+        let spare = Messages::new(Vec::new(alloc));
+        let news = self.ring.new_messages(spare, previous)?;
         self.rows(alloc, out)?;
         Ok(news)
     }
 
-    /// Returns the rows, in ascending order of their keys, in the memory of `spare`, whose contents
-    /// don't matter; the messages that are new since an earlier copy; and the state for the next
-    /// copy.
+    /// Returns the rows, in ascending order of their keys; the messages that are new since an
+    /// earlier copy; and the state for the next copy. Rows and messages are in the memory of
+    /// `spare`, whose contents don't matter.
     pub(crate) fn look(
         &self,
-        alloc: Global,
-        spare: Rows,
+        spare: (Rows, Messages),
         previous: Option<MessageCopyState>,
     ) -> Result<(Rows, Messages, MessageCopyState), Refusal>
         ensures ascending { IfOk result (λ seen. IsAscending (keys_of seen.0)) }
@@ -168,24 +168,10 @@ impl Locked {
         ensures state { IfOk result (λ seen. seen.2 ≡ self.now.ring.pushed) }
         ensures reason { IsOkUnless result Refusal.Memory }
     {
-        let rows = self.table.rows_reusing(&self.slots, spare)?;
-        let (messages, state) = self.news(alloc, previous)?;
+        let (spare_rows, spare_messages) = spare;
+        let rows = self.table.rows_reusing(&self.slots, spare_rows)?;
+        let (messages, state) = self.ring.new_messages(spare_messages, previous)?;
         Ok((rows, messages, state))
-    }
-
-    /// Returns the messages that are new since an earlier copy, and the state for the next copy.
-    fn news(
-        &self,
-        alloc: Global,
-        previous: Option<MessageCopyState>,
-    ) -> Result<(Messages, MessageCopyState), Refusal>
-        ensures messages { IfOk result (λ news. news.0 ≡ messages_since self.now.ring previous) }
-        ensures state { IfOk result (λ news. news.1 ≡ self.now.ring.pushed) }
-        ensures reason { IsOkUnless result Refusal.Memory }
-    {
-        let mut messages = Vec::new(alloc);
-        let state = self.ring.copy_new(alloc, &mut messages, previous)?;
-        Ok((Messages::new(messages), state))
     }
 
     /// Begins the progress of the task at a key, whose item has a slot. Returns whether there is a

@@ -140,9 +140,9 @@ fn tick<S: Screen>(
         &seen,
     )?;
     send(screen, &mut state.past, state.frame.bytes())?;
-    let (rows, _, copy_state) = seen;
+    let (rows, messages, copy_state) = seen;
     keep(&mut state.tracker, frame.drawn.action, rows.as_slice());
-    Ok(state.past.remember(frame, rows, copy_state))
+    Ok(state.past.remember(frame, rows, messages, copy_state))
 }
 
 /// Draws the frame of a resize, and sets the size.

@@ -143,7 +143,7 @@ where
         let Some(root) = self.weak.upgrade()? else {
             return Ok(None);
         };
-        let spare = self.renderer.take_spare_rows(self.alloc);
+        let spare = self.renderer.take_spare(self.alloc);
         let seen = root.look(self.alloc, spare, self.renderer.seen())?;
         Ok(Some(seen))
     }

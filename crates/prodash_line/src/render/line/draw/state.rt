@@ -10,7 +10,7 @@ use crate::render::line::draw::action::{Action, Composed, Drawn};
 use crate::render::line::draw::input::{Answer, Options};
 use crate::render::line::draw::line_writer::LineWriter;
 use prodash_base::Refusal;
-use prodash_base::messages::MessageCopyState;
+use prodash_base::messages::{MessageCopyState, Messages};
 use prodash_base::progress::{Row, Rows};
 use prodash_base::throughput::FrameThroughput;
 use std::alloc::Global;
@@ -47,6 +47,8 @@ pub(crate) struct Past {
     /// The rows that were remembered before those, for their memory alone. Contracts don't see
     /// them.
     spare_rows: Option<Rows>,
+    /// The messages that were printed last, for their memory alone. Contracts don't see them.
+    spare_messages: Option<Messages>,
     /// The widths of the latest origins, at most as many as the terminal has rows.
     pub(crate) origin_widths: Vec<u16>,
     /// What the latest accepted tick with a root saw of the messages.
@@ -171,15 +173,16 @@ impl State {
         self.past.ended()
     }
 
-    /// Takes the rows that are remembered no longer, or an empty list if there are none. Their
-    /// memory may hold the rows of the next tick, whatever they are.
-    pub fn take_spare_rows(&mut self, alloc: Global) -> Rows
+    /// Takes rows that are remembered no longer, and messages that are printed already, or empty
+    /// lists if there are none. Their memory may hold those of the next tick, whatever they are.
+    pub fn take_spare(&mut self, alloc: Global) -> (Rows, Messages)
         ensures { self.new ≡ self.old }
     {
-        self.past
-            .spare_rows
-            .take()
-            .unwrap_or_else(|| Rows::new(Vec::new(alloc)))
+        let (rows, messages) = (self.past.spare_rows.take(), self.past.spare_messages.take());
+        (
+            rows.unwrap_or_else(|| Rows::new(Vec::new(alloc))),
+            messages.unwrap_or_else(|| Messages::new(Vec::new(alloc))),
+        )
     }
 
     /// Returns an equal tracker, if there is one.
@@ -205,6 +208,7 @@ impl Past {
             last_progress_midpoint: 0,
             last_rows: None,
             spare_rows: None,
+            spare_messages: None,
             origin_widths: Vec::new(alloc),
             seen: None,
             rows_erased: false,
@@ -224,6 +228,7 @@ impl Past {
             last_progress_midpoint: self.last_progress_midpoint,
             last_rows: self.last_rows.clone()?,
             spare_rows: None,
+            spare_messages: None,
             origin_widths: self.origin_widths.clone()?,
             seen: self.seen,
             rows_erased: self.rows_erased,
@@ -356,15 +361,23 @@ impl Past {
         self.cursor_hidden = self.is_cursor_hidden();
     }
 
-    /// Records what the written frame of a tick left, and what the tick saw of the tree. A closing
-    /// frame ends the renderer. Returns the answer to the tick.
-    pub(crate) fn remember(&mut self, frame: Composed, rows: Rows, seen: MessageCopyState) -> Answer
+    /// Records what the written frame of a tick left, and what the tick saw of the tree: rows, and
+    /// messages, which are printed now. A closing frame ends the renderer. Returns the answer to
+    /// the tick.
+    pub(crate) fn remember(
+        &mut self,
+        frame: Composed,
+        rows: Rows,
+        messages: Messages,
+        seen: MessageCopyState,
+    ) -> Answer
         ensures state { self.new ≡ remembering frame rows seen self.old }
         ensures answer { result ≡ answer_of frame.drawn.action }
     {
         let action = frame.drawn.action;
         self.keep(frame.drawn);
         self.spare_rows = self.last_rows.replace(rows);
+        self.spare_messages = Some(messages);
         self.origin_widths = frame.origin_widths;
         self.seen = Some(seen);
         match action {

@@ -9,4 +9,4 @@ returns-in-Some g c = frame_refused _ _ _ _ (c.in-Some.ensures.value ∙ ap (λ 
 pub returns-in-Err : goal.returns-in-Err
 returns-in-Err g c =
     frame_out_of_memory _ _ _ _ _ (c.in_default.ensures.value ∙ ap (λ w. w.renderer.ended) c.self.view_is) c.in-Err.ensures.reason
-    (ap {B = SessionState} (λ renderer. record { tree = c.self.inside.tree; renderer = renderer }) c.take_spare_rows-spare.ensures ∙ c.self.view_is)
+    (ap {B = SessionState} (λ renderer. record { tree = c.self.inside.tree; renderer = renderer }) c.take_spare-spare.ensures ∙ c.self.view_is)
