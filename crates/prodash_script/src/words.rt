@@ -45,8 +45,16 @@ impl Words for Numbers {
 pub fn number(word: &str) -> Option<u64>
     ensures { result ≡ number_of word.now }
 {
-    if word.len() > 20 || word.starts_with('+') {
+    let digits = word.as_bytes();
+    if digits.is_empty() || digits.len() > 20 {
         return None;
     }
-    word.parse().ok()
+    let mut n: u64 = 0;
+    for &digit in digits {
+        if !digit.is_ascii_digit() {
+            return None;
+        }
+        n = n.checked_mul(10)?.checked_add(u64::from(digit - b'0'))?;
+    }
+    Some(n)
 }
