@@ -1,5 +1,6 @@
 mod NamedItems
 mod Numerals
 mod ScriptLines
+mod StepLines
 mod UnitWords
 mod WrittenLines

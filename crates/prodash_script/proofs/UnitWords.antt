@@ -31,7 +31,7 @@ same_if_unit u v = search (rules, same_if_kind, nat_tests)
 
 -- what is before or after signs
 
-begins : (prefix word name : List ℕ) → (b : Bool) → starts_with nat_eq word prefix ≡ b → (if b then Some (drop (length prefix) word) else None) ≡ Some name → word ≡ prefix ++ name
+pub begins : (prefix word name : List ℕ) → (b : Bool) → starts_with nat_eq word prefix ≡ b → (if b then Some (drop (length prefix) word) else None) ≡ Some name → word ≡ prefix ++ name
 begins prefix word name false is found = search rules
 begins prefix word name true is found =
     let same = (bytes_eq-Decides prefix (take (length prefix) word)).0 is in

@@ -19,9 +19,9 @@ pub type Names = HashMap<String, Handle>;
 /// The words of a script: a handle is a number, or a word after `@`; a moment is a number, or `-`
 /// for now.
 #[derive(Clone, Copy)]
-struct Script<'a> {
-    names: &'a Names,
-    now: Moment,
+pub(crate) struct Script<'a> {
+    pub(crate) names: &'a Names,
+    pub(crate) now: Moment,
 }
 
 impl<'a> Words for Script<'a> {
