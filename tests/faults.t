@@ -43,6 +43,8 @@ status of prodash-live is 2.
   > info 0 -
   > set 9 3
   > drop @a
+  > set 1 +3
+  > inc @a 1
   > END
   status 2
   line 1: no event "foo" in: foo 1
@@ -81,6 +83,8 @@ status of prodash-live is 2.
   line 34: no text in: info 0 -
   line 35: no such handle in: set 9 3
   line 36: no such handle in: drop @a
+  line 37: no number "+3" in: set 1 +3
+  line 38: no such handle in: inc @a 1
 
 An item below one at the sixth level, whose place it would take. It has no handle.
 

@@ -24,7 +24,8 @@ A task that is halted, one that is blocked, and one that runs again and has got 
   > add 0 c
   > init 3 5 -
   > max 3 10
-  > set 3 3
+  > set 3 1
+  > inc 3 2
   > halted 3
   > running 3
   > add 0 last

@@ -3,6 +3,7 @@
 use crate::output::OutputState;
 use prodash::render::line::JoinHandle;
 use prodash::time::Clock;
+use prodash_programs::Fault;
 use std::sync::{Arc, Wait};
 use std::thread::Threads;
 
@@ -40,6 +41,18 @@ impl<R: Wait + Threads + Clone + Drop> Display<R> {
     /// Returns whether the output is broken.
     pub fn is_broken(&self) -> bool {
         self.output.is_broken()
+    }
+
+    /// Checks that the output is not broken.
+    ///
+    /// # Errors
+    ///
+    /// `Output`, if it is.
+    pub fn check(&self) -> Result<(), Fault> {
+        if self.is_broken() {
+            return Err(Fault::Output);
+        }
+        Ok(())
     }
 
     /// Sets the columns and the rows of the terminal.

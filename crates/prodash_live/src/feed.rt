@@ -40,48 +40,94 @@ pub fn feed_lines<R: Wait + Threads + Clone + Drop, I: Read + Drop, K: Clock, W:
     let mut labels = Labels::new(alloc);
     let mut faults: u64 = 0;
     for number in 1..u64::MAX {
-        if items.record().has_lines() && !lines.has_line() {
-            items.record().write();
+        let next = advance(&mut lines, clock, items)?;
+        let line = without_return(lines.line());
+        if next == Next::Line && items.serve_step(line)? {
+            display.check()?;
+            continue;
         }
-        let next = match lines.advance() {
-            Ok(next) => next,
-            Err(error) => return Err(Fault::of_input(&error)),
-        };
-        items.record().frame(clock)?;
-        let line = lines.line();
-        let line = line.strip_suffix(b"\r").unwrap_or(line);
-        let text = match next {
-            Next::End => break,
-            Next::TooLong => Some(fault_text(alloc, number, LineFault::TooLong, line)?),
-            // `set 1 10` may be the beginning of `set 1 100`
-            Next::CutOff => Some(fault_text(alloc, number, LineFault::CutOff, line)?),
-            Next::Line => {
-                match take(rt, alloc, line, clock, items, &mut labels, display)? {
-                    Some(fault) => Some(fault_text(alloc, number, fault, line)?),
-                    None => None,
-                }
-            }
-        };
-        if display.is_broken() {
-            return Err(Fault::Output);
+        if next == Next::End {
+            break;
         }
-        let Some(text) = text else {
+        let fault = take(rt, alloc, next, line, clock, items, &mut labels, display)?;
+        display.check()?;
+        let Some(fault) = fault else {
             continue;
         };
+        let text = fault_text(alloc, number, fault, line)?;
         if is_strict {
             return Ok(Outcome::Stopped(text));
         }
         faults = faults.saturating_add(1);
-        if items.has_root() {
-            display.make_room(rt, clock);
-        }
-        items.say(alloc, clock.now(), text)?;
+        report(rt, alloc, clock, items, display, text)?;
     }
     Ok(Outcome::Ended(faults))
 }
 
-/// Does what a line asks for. Returns its fault, if it has one.
+/// Reads the next line, and records a frame that was due before it. What is recorded is written
+/// before more input is awaited.
+fn advance<R: Wait + Clone + Drop, I: Read + Drop, K: Clock, W: Write + Drop>(
+    lines: &mut Lines<I>,
+    clock: &K,
+    items: &mut Items<R, W>,
+) -> Result<Next, Fault> {
+    if items.record().has_lines() && !lines.has_line() {
+        items.record().write();
+    }
+    let next = match lines.advance() {
+        Ok(next) => next,
+        Err(error) => return Err(Fault::of_input(&error)),
+    };
+    items.record().frame(clock)?;
+    Ok(next)
+}
+
+/// Returns a line without the carriage return before its line feed.
+fn without_return(line: &[u8]) -> &[u8] {
+    line.strip_suffix(b"\r").unwrap_or(line)
+}
+
+/// Sends a message that says the fault of a line.
+#[cold]
+#[inline(never)]
+fn report<R: Wait + Threads + Clone + Drop, K: Clock, W: Write + Drop>(
+    rt: &R,
+    alloc: Global,
+    clock: &K,
+    items: &mut Items<R, W>,
+    display: &mut Display<R>,
+    text: String,
+) -> Result<(), Fault> {
+    if items.has_root() {
+        display.make_room(rt, clock);
+    }
+    items.say(alloc, clock.now(), text)?;
+    Ok(())
+}
+
+/// Does what a line asks for, if it was read whole. Returns its fault, if it has one.
+#[inline(never)]
 fn take<'a, R: Wait + Threads + Clone + Drop, K: Clock, W: Write + Drop>(
+    rt: &R,
+    alloc: Global,
+    next: Next,
+    line: &'a [u8],
+    clock: &K,
+    items: &mut Items<R, W>,
+    labels: &mut Labels,
+    display: &mut Display<R>,
+) -> Result<Option<LineFault<'a>>, Fault> {
+    match next {
+        Next::End => Ok(None),
+        Next::TooLong => Ok(Some(LineFault::TooLong)),
+        // `set 1 10` may be the beginning of `set 1 100`
+        Next::CutOff => Ok(Some(LineFault::CutOff)),
+        Next::Line => serve(rt, alloc, line, clock, items, labels, display),
+    }
+}
+
+/// Does what a whole line asks for. Returns its fault, if it has one.
+fn serve<'a, R: Wait + Threads + Clone + Drop, K: Clock, W: Write + Drop>(
     rt: &R,
     alloc: Global,
     line: &'a [u8],

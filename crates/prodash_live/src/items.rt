@@ -5,8 +5,8 @@ use prodash::messages::MessageLevel;
 use prodash::time::Moment;
 use prodash::tree::{Event, Handle, Item, Root};
 use prodash::{Refusal, Text};
-use prodash_script::{Names, Request};
-use std::alloc::Global;
+use prodash_script::{Names, Request, StepChange, step_change_of};
+use std::alloc::{AllocError, Global};
 use std::collections::HashMap;
 use std::io::Write;
 use std::sync::Wait;
@@ -75,6 +75,26 @@ impl<R: Wait + Clone + Drop, W: Write + Drop> Items<R, W> {
         self.items
             .get(parent)
             .is_some_and(|named| named.level >= LAST_LEVEL)
+    }
+
+    /// Does what a line asks for, if it changes the step of an item. Returns whether it does.
+    ///
+    /// # Errors
+    ///
+    /// `AllocError`, if there is no memory for the recording.
+    pub fn serve_step(&mut self, line: &[u8]) -> Result<bool, AllocError> {
+        let Some((handle, change)) = step_change_of(&self.names, line) else {
+            return Ok(false);
+        };
+        let Some(named) = self.items.get(&handle) else {
+            return Ok(false);
+        };
+        match change {
+            StepChange::Set(step) => named.item.set(step),
+            StepChange::IncBy(step) => named.item.inc_by(step),
+        }
+        self.record.step(named.recorded, change)?;
+        Ok(true)
     }
 
     /// Does what a line asks for.

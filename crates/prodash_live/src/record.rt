@@ -5,7 +5,7 @@ use prodash::time::{Clock, Moment};
 use prodash::tree::{Event, Handle};
 use prodash_core::tree::RootOptions;
 use prodash_programs::write_all;
-use prodash_script::to_line;
+use prodash_script::{StepChange, to_line};
 use std::alloc::{AllocError, Global};
 use std::io::Write;
 
@@ -88,6 +88,18 @@ impl<W: Write + Drop> Record<W> {
             self.messages = self.messages.saturating_add(1);
         }
         Ok(())
+    }
+
+    /// Records that the step of an item has changed. `item` is the handle in a replay.
+    ///
+    /// # Errors
+    ///
+    /// `AllocError`, if there is no memory for its line.
+    pub fn step(&mut self, item: Handle, change: StepChange) -> Result<(), AllocError> {
+        if self.out.is_none() {
+            return Ok(());
+        }
+        self.event(&change.event(item))
     }
 
     /// Records a size of the terminal, in columns and rows.
