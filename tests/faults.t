@@ -100,12 +100,14 @@ An item below one at the sixth level, whose place it would take. It has no handl
   > add @g @e g
   > info @f - one
   > info 7 - two
+  > set 99 3
   > END
   status 2
   line 7: below the sixth level in: add 6 g
   line 8: below the sixth level in: add @f @f g
          f one
          g two
+  line 12: no such handle in: set 99 3
 
 A line that is not UTF-8, one that is too long, and one that is cut off.
 
