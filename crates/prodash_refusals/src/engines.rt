@@ -12,8 +12,11 @@ use std::sync::atomic::{AtomicU64, Ordering};
 /// The room of a screen, which takes all frames.
 const ROOM: usize = 8192;
 
-/// How many frames are drawn before the size changes.
-const FRAMES: u64 = 5;
+/// How many turns of the tree are drawn before the size changes.
+const TURNS: u64 = 5;
+
+/// How many frames are drawn: one at each turn, one of another size, and the last.
+const FRAMES: u64 = 7;
 
 /// The nanoseconds between two frames.
 const TURN: u64 = 400_000_000;
@@ -27,20 +30,36 @@ pub(crate) fn run(alloc: Global, calls: &mut Calls) -> Result<(), Fault> {
     let turn = Arc::new(alloc, AtomicU64::new(0))?;
     let mut first = new(alloc, &turn, calls)?;
     let mut second = new(alloc, &turn, calls)?;
+    draw_all(&turn, &mut first, &mut second, calls)
+}
+
+/// Has both engines draw all frames.
+fn draw_all(
+    turn: &AtomicU64,
+    first: &mut Drawing,
+    second: &mut Drawing,
+    calls: &mut Calls,
+) -> Result<(), Fault> {
     for frame in 0..FRAMES {
-        turn.store(frame, Ordering::SeqCst);
-        let at = frame.wrapping_mul(TURN);
-        let tick = EngineEvent::Tick { at, show: true };
-        draw(&mut first, &mut second, tick, calls)?;
+        turn.store(frame.min(TURNS - 1), Ordering::SeqCst);
+        draw(first, second, event(frame), calls)?;
     }
-    let resize = EngineEvent::Resize {
-        at: 0,
-        show: true,
-        columns: 40,
-        rows: 8,
-    };
-    draw(&mut first, &mut second, resize, calls)?;
-    draw(&mut first, &mut second, EngineEvent::Quit { at: 0 }, calls)
+    Ok(())
+}
+
+/// Returns the event of a frame.
+fn event(frame: u64) -> EngineEvent {
+    let at = frame.wrapping_mul(TURN);
+    match frame {
+        5 => EngineEvent::Resize {
+            at: 0,
+            show: true,
+            columns: 40,
+            rows: 8,
+        },
+        6 => EngineEvent::Quit { at: 0 },
+        _ => EngineEvent::Tick { at, show: true },
+    }
 }
 
 /// Makes an engine that measures throughput.

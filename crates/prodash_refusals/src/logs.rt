@@ -49,15 +49,25 @@ pub(crate) fn run<R: Threads + Wait + rt::Clock + Clone + Drop + Send + Sync + '
     let records = Arc::new(alloc, AtomicU64::new(0))?;
     let log = new(rt, alloc, &records, calls)?;
     let mut work = add_child(alloc, &log, calls)?;
-    expect_line(alloc, &work, "main::work → 0", calls)?;
-    set_name(alloc, &mut work, calls)?;
-    name(alloc, &work, calls)?;
+    make_calls(alloc, &mut work, &records, calls)
+}
+
+/// Makes each call on a log that is below another.
+fn make_calls<R: rt::Clock + Drop + Send + Sync + 'static>(
+    alloc: Global,
+    work: &mut Counted<R>,
+    records: &AtomicU64,
+    calls: &mut Calls,
+) -> Result<(), Fault> {
+    expect_line(alloc, work, "main::work → 0", calls)?;
+    set_name(alloc, work, calls)?;
+    name(alloc, work, calls)?;
     work.init(Some(10), None);
     work.set(3);
-    expect_line(alloc, &work, "main::rest → 3 / 10", calls)?;
-    message_line(alloc, &work, calls)?;
-    message(alloc, &work, &records, calls)?;
-    message(alloc, &work, &records, calls)
+    expect_line(alloc, work, "main::rest → 3 / 10", calls)?;
+    message_line(alloc, work, calls)?;
+    message(alloc, work, records, calls)?;
+    message(alloc, work, records, calls)
 }
 
 /// Makes a log.

@@ -31,29 +31,37 @@ struct Drawn {
 pub(crate) fn run(alloc: Global, calls: &mut Calls) -> Result<(), Fault> {
     let mut first = new(alloc, calls)?;
     let mut second = new(alloc, calls)?;
+    apply_all(alloc, &mut first, &mut second, calls)
+}
+
+/// Applies all events to two sessions, and after each goes on with a copy of the first.
+fn apply_all(
+    alloc: Global,
+    first: &mut Drawn,
+    second: &mut Drawn,
+    calls: &mut Calls,
+) -> Result<(), Fault> {
     for place in 0..EVENTS {
-        apply_to_both(alloc, place, &mut first, &mut second, calls)?;
+        apply_to_both(alloc, &event(alloc, place)?, first, second, calls);
+        replace(alloc, &mut first.session, calls)?;
     }
     calls.expect(!first.screen.bytes().is_empty());
     Ok(())
 }
 
-/// Applies the event at a place to two sessions, and goes on with a copy of the first. At least one
-/// of them is refused no memory, and the other one must reply and write what it does.
+/// Applies an event to two sessions. At least one of them is refused no memory, and the other one
+/// must reply and write what it does.
 fn apply_to_both(
     alloc: Global,
-    place: u64,
+    event: &Event,
     first: &mut Drawn,
     second: &mut Drawn,
     calls: &mut Calls,
-) -> Result<(), Fault> {
-    let event = event(alloc, place)?;
-    let reply = apply(alloc, first, &event, calls);
-    let other = apply(alloc, second, &event, calls);
+) {
+    let reply = apply(alloc, first, event, calls);
+    let other = apply(alloc, second, event, calls);
     calls.expect(reply == other && !is_refused(&reply));
     calls.expect(first.screen.bytes() == second.screen.bytes());
-    first.session = copy(alloc, &first.session, calls)?;
-    Ok(())
 }
 
 /// Makes a session that keeps two messages, shows times, and measures throughput.
@@ -70,6 +78,7 @@ fn new(alloc: Global, calls: &mut Calls) -> Result<Drawn, Fault> {
         },
         throughput: true,
     };
+    let screen = MemoryScreen::new(alloc, ROOM)?;
     let session = match Session::new(alloc, &options) {
         Ok(session) => session,
         Err(refusal) => {
@@ -78,7 +87,6 @@ fn new(alloc: Global, calls: &mut Calls) -> Result<Drawn, Fault> {
             again?
         }
     };
-    let screen = MemoryScreen::new(alloc, ROOM)?;
     Ok(Drawn { session, screen })
 }
 
@@ -98,6 +106,12 @@ fn apply(alloc: Global, drawn: &mut Drawn, event: &Event, calls: &mut Calls) -> 
 
 fn is_refused(reply: &Reply) -> bool {
     matches!(reply, Reply::Refused(_))
+}
+
+/// Replaces a session by a copy.
+fn replace(alloc: Global, session: &mut Session, calls: &mut Calls) -> Result<(), Fault> {
+    *session = copy(alloc, session, calls)?;
+    Ok(())
 }
 
 /// Copies a session.

@@ -1,5 +1,6 @@
 //! Calls that append a value in its unit to a string, or return a text.
 use crate::calls::Calls;
+use prodash::Refusal;
 use prodash::progress::Step;
 use prodash::time::format_time_for_messages;
 use prodash::unit::display::{Mode, Throughput, append, append_unit, append_values};
@@ -33,6 +34,23 @@ struct Case {
     text: &'static str,
 }
 
+/// What is appended of the value.
+#[derive(Clone, Copy)]
+enum Part {
+    Whole,
+    Display,
+    Values,
+    Unit,
+}
+
+/// The calls that append the value, each with what it appends.
+const PARTS: &[(&'static str, Part)] = &[
+    ("unit::display::append", Part::Whole),
+    ("UnitDisplay::append_to", Part::Display),
+    ("unit::display::append_values", Part::Values),
+    ("unit::display::append_unit", Part::Unit),
+];
+
 /// Appends the value in each kind of unit, and makes the other texts.
 pub(crate) fn run(alloc: Global, calls: &mut Calls) -> Result<(), Fault> {
     let both = Mode::with_percentage().and_throughput();
@@ -55,73 +73,47 @@ pub(crate) fn run(alloc: Global, calls: &mut Calls) -> Result<(), Fault> {
 
 /// Appends the value in full and in parts.
 fn append_all(alloc: Global, case: &Case, calls: &mut Calls) -> Result<(), Fault> {
-    whole(alloc, case, calls)?;
-    displayed(alloc, case, calls)?;
-    values(alloc, case, calls)?;
-    unit(alloc, case, calls)
-}
-
-/// Appends the value in full.
-fn whole(alloc: Global, case: &Case, calls: &mut Calls) -> Result<(), Fault> {
-    calls.begin("unit::display::append");
-    let (kind, mode) = (&case.kind, Some(case.mode));
-    let mut out = String::from_str(alloc, BEFORE)?;
-    if let Err(refusal) = append(&mut out, kind, mode, VALUE, BOUND, THROUGHPUT) {
-        let is_unchanged = out.as_str() == BEFORE;
-        let again = append(&mut out, kind, mode, VALUE, BOUND, THROUGHPUT);
-        calls.refuse(refusal, is_unchanged && again.is_ok());
-        again?;
+    for (call, part) in PARTS {
+        calls.begin(*call);
+        append_once(alloc, case, *part, calls)?;
     }
-    calls.expect(out.as_str().strip_prefix(BEFORE) == Some(case.text));
     Ok(())
 }
 
-/// Appends what the display of the value shows.
-fn displayed(alloc: Global, case: &Case, calls: &mut Calls) -> Result<(), Fault> {
-    calls.begin("UnitDisplay::append_to");
-    let unit = dynamic_and_mode(case.kind, case.mode);
-    let shown = unit.display(alloc, VALUE, BOUND, THROUGHPUT);
+/// Appends a part of the value to a string, which is unchanged if that is refused.
+fn append_once(alloc: Global, case: &Case, part: Part, calls: &mut Calls) -> Result<(), Fault> {
     let mut out = String::from_str(alloc, BEFORE)?;
-    if let Err(refusal) = shown.append_to(&mut out) {
+    if let Err(refusal) = append_part(alloc, &mut out, case, part) {
         let is_unchanged = out.as_str() == BEFORE;
-        let again = shown.append_to(&mut out);
-        calls.refuse(refusal, is_unchanged && again.is_ok());
-        again?;
-    }
-    calls.expect(out.as_str().strip_prefix(BEFORE) == Some(case.text));
-    Ok(())
-}
-
-/// Appends the value without its unit.
-fn values(alloc: Global, case: &Case, calls: &mut Calls) -> Result<(), Fault> {
-    calls.begin("unit::display::append_values");
-    let (kind, mode) = (&case.kind, Some(case.mode));
-    let mut out = String::from_str(alloc, BEFORE)?;
-    if let Err(refusal) = append_values(&mut out, kind, mode, VALUE, BOUND, THROUGHPUT) {
-        let is_unchanged = out.as_str() == BEFORE;
-        let again = append_values(&mut out, kind, mode, VALUE, BOUND, THROUGHPUT);
+        let again = append_part(alloc, &mut out, case, part);
         calls.refuse(refusal, is_unchanged && again.is_ok());
         again?;
     }
     let shown = out.as_str().strip_prefix(BEFORE).unwrap_or("");
-    calls.expect(!shown.is_empty() && case.text.starts_with(shown));
+    calls.expect(!shown.is_empty() && is_part(shown, case.text, part));
     Ok(())
 }
 
-/// Appends the unit of the value.
-fn unit(alloc: Global, case: &Case, calls: &mut Calls) -> Result<(), Fault> {
-    calls.begin("unit::display::append_unit");
+/// Appends a part of the value by its call.
+fn append_part(alloc: Global, out: &mut String, case: &Case, part: Part) -> Result<(), Refusal> {
     let (kind, mode) = (&case.kind, Some(case.mode));
-    let mut out = String::from_str(alloc, BEFORE)?;
-    if let Err(refusal) = append_unit(&mut out, kind, mode, VALUE, BOUND, THROUGHPUT) {
-        let is_unchanged = out.as_str() == BEFORE;
-        let again = append_unit(&mut out, kind, mode, VALUE, BOUND, THROUGHPUT);
-        calls.refuse(refusal, is_unchanged && again.is_ok());
-        again?;
+    match part {
+        Part::Whole => append(out, kind, mode, VALUE, BOUND, THROUGHPUT),
+        Part::Display => dynamic_and_mode(case.kind, case.mode)
+            .display(alloc, VALUE, BOUND, THROUGHPUT)
+            .append_to(out),
+        Part::Values => append_values(out, kind, mode, VALUE, BOUND, THROUGHPUT),
+        Part::Unit => append_unit(out, kind, mode, VALUE, BOUND, THROUGHPUT),
     }
-    let shown = out.as_str().strip_prefix(BEFORE).unwrap_or("");
-    calls.expect(!shown.is_empty() && case.text.ends_with(shown));
-    Ok(())
+}
+
+/// Returns whether this is the part of the text of a value.
+fn is_part(shown: &str, text: &str, part: Part) -> bool {
+    match part {
+        Part::Whole | Part::Display => shown == text,
+        Part::Values => text.starts_with(shown),
+        Part::Unit => text.ends_with(shown),
+    }
 }
 
 /// Makes the message of 10 steps in two and a half seconds.

@@ -7,8 +7,8 @@ use crate::calls::Calls;
 use prodash::Refusal;
 use prodash::messages::Message;
 use prodash::progress::Row;
-use prodash::tree::Root;
 use prodash::tree::root::Options;
+use prodash::tree::{Item, Root};
 use prodash_programs::Fault;
 use std::alloc::Global;
 use std::sync::Wait;
@@ -25,46 +25,52 @@ pub(crate) fn run<R: Wait + Clone + Drop>(
     alloc: Global,
     calls: &mut Calls,
 ) -> Result<(), Fault> {
-    new(rt, alloc, calls)?;
-    let root = create(rt, alloc, calls)?;
+    create(rt, alloc, ("Root::new", 20), calls)?;
+    let root = create(rt, alloc, ("Options::create", 3), calls)?;
     let mut item = children::add_child(&root, alloc, calls)?;
-    children::make_calls(&root, alloc, &mut item, calls)?;
-    changes::make_calls(&root, alloc, &mut item, calls)?;
-    copies::make_calls(&root, alloc, &item, calls)
+    make_calls(&root, alloc, &mut item, calls)
 }
 
-/// Makes a tree with the default options.
-fn new<R: Wait + Clone + Drop>(rt: &R, alloc: Global, calls: &mut Calls) -> Result<(), Fault> {
-    calls.begin("Root::new");
-    let root = match Root::new(rt.clone()?, alloc) {
-        Ok(root) => root,
-        Err(refusal) => {
-            let again = Root::new(rt.clone()?, alloc);
-            calls.refuse(refusal, again.is_ok());
-            again?
-        }
-    };
-    calls.expect(root.num_tasks() == 0 && root.messages_capacity() == 20);
-    Ok(())
+/// Makes each call on a tree that has this item.
+fn make_calls<R: Wait + Clone + Drop>(
+    root: &Root<R>,
+    alloc: Global,
+    item: &mut Item<R>,
+    calls: &mut Calls,
+) -> Result<(), Fault> {
+    children::make_calls(root, alloc, item, calls)?;
+    changes::make_calls(root, alloc, item, calls)?;
+    copies::make_calls(root, alloc, item, calls)
 }
 
-/// Makes the tree.
+/// Makes a tree, which must keep so many messages.
 fn create<R: Wait + Clone + Drop>(
     rt: &R,
     alloc: Global,
+    (call, messages): (&'static str, usize),
     calls: &mut Calls,
 ) -> Result<Root<R>, Fault> {
-    calls.begin("Options::create");
-    let root = match OPTIONS.create(rt.clone()?, alloc) {
+    calls.begin(call);
+    let root = match make(rt, alloc, call) {
         Ok(root) => root,
         Err(refusal) => {
-            let again = OPTIONS.create(rt.clone()?, alloc);
+            let again = make(rt, alloc, call);
             calls.refuse(refusal, again.is_ok());
             again?
         }
     };
-    calls.expect(root.num_tasks() == 0 && root.messages_capacity() == 3);
+    calls.expect(root.num_tasks() == 0 && root.messages_capacity() == messages);
     Ok(root)
+}
+
+/// Makes a tree by a call.
+fn make<R: Wait + Clone + Drop>(rt: &R, alloc: Global, call: &str) -> Result<Root<R>, Refusal> {
+    let rt = rt.clone()?;
+    if call == "Root::new" {
+        Root::new(rt, alloc)
+    } else {
+        OPTIONS.create(rt, alloc)
+    }
 }
 
 /// What a tree shows.

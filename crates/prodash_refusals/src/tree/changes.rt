@@ -10,12 +10,13 @@ use prodash_programs::Fault;
 use std::alloc::Global;
 use std::sync::Wait;
 
-/// The calls that send messages, each with the severity of what it sends.
-const SENDS: &[(&'static str, MessageLevel)] = &[
-    ("Item::info", MessageLevel::Info),
-    ("Item::message", MessageLevel::Info),
-    ("Item::fail", MessageLevel::Failure),
-    ("Item::done", MessageLevel::Success),
+/// The calls that rename an item or send a message, each with the severity of what it sends.
+const CHANGES: &[(&'static str, Option<MessageLevel>)] = &[
+    ("Item::set_name", None),
+    ("Item::info", Some(MessageLevel::Info)),
+    ("Item::message", Some(MessageLevel::Info)),
+    ("Item::fail", Some(MessageLevel::Failure)),
+    ("Item::done", Some(MessageLevel::Success)),
 ];
 
 /// Begins the progress of an item, renames it while it is blocked, and sends messages.
@@ -28,11 +29,13 @@ pub(super) fn make_calls<R: Wait + Clone + Drop>(
     item.init(Some(10), Some(label("items")));
     item.set(3);
     item.blocked("disk", Some(7));
-    set_name(root, alloc, item, calls)?;
-    name(alloc, item, calls)?;
-    for (call, level) in SENDS {
-        send_once(root, alloc, item, (*call, *level), calls)?;
+    for (call, level) in CHANGES {
+        change_once(root, alloc, item, call, calls)?;
+        if let Some(level) = level {
+            calls.expect(is_sent(root, alloc, call, *level)?);
+        }
     }
+    name(alloc, item, calls)?;
     calls.begin("Item::init");
     let (max, unit) = (item.max(), item.unit());
     calls.expect(max == Some(10) && unit == Some(label("items")));
@@ -42,22 +45,53 @@ pub(super) fn make_calls<R: Wait + Clone + Drop>(
     Ok(())
 }
 
-/// Renames an item.
-fn set_name<R: Wait + Clone + Drop>(
+/// Makes one of the calls. One that is refused has changed nothing of what the tree shows.
+fn change_once<R: Wait + Clone + Drop>(
     root: &Root<R>,
     alloc: Global,
-    item: &Item<R>,
+    item: &mut Item<R>,
+    call: &'static str,
     calls: &mut Calls,
 ) -> Result<(), Fault> {
-    calls.begin("Item::set_name");
+    calls.begin(call);
     let before = look(root, alloc)?;
-    if let Err(refusal) = item.set_name(alloc, "job") {
+    if let Err(refusal) = change(alloc, item, call) {
         let is_unchanged = shows(root, alloc, &before)?;
-        let again = item.set_name(alloc, "job");
+        let again = change(alloc, item, call);
         calls.refuse(refusal, is_unchanged && again.is_ok());
         again?;
     }
     Ok(())
+}
+
+/// Renames an item, or sends a message, whose text is the name of the call.
+fn change<R: Wait + Clone + Drop>(
+    alloc: Global,
+    item: &mut Item<R>,
+    call: &str,
+) -> Result<(), Refusal> {
+    match call {
+        "Item::set_name" => item.set_name(alloc, "job"),
+        "Item::info" => item.info(alloc, 5, call),
+        "Item::fail" => item.fail(alloc, 5, call),
+        "Item::done" => item.done(alloc, 5, call),
+        _ => item.message(alloc, 5, MessageLevel::Info, call),
+    }
+}
+
+/// Returns whether the latest message of a tree is that of a call.
+fn is_sent<R: Wait + Clone + Drop>(
+    root: &Root<R>,
+    alloc: Global,
+    call: &str,
+    level: MessageLevel,
+) -> Result<bool, Refusal> {
+    let sent = look(root, alloc)?.messages;
+    Ok(
+        sent.last().is_some_and(|it| {
+            it.level == level && it.origin.as_str() == "job" && it.message.as_str() == call
+        }),
+    )
 }
 
 /// Copies the name that an item has got.
@@ -76,44 +110,6 @@ fn name<R: Wait + Clone + Drop>(
         }
     };
     calls.expect(name.is_some_and(|it| it.as_str() == "job"));
-    Ok(())
-}
-
-/// Sends a message, whose text is the name of the call.
-fn send<R: Wait + Clone + Drop>(
-    alloc: Global,
-    item: &mut Item<R>,
-    call: &str,
-) -> Result<(), Refusal> {
-    match call {
-        "Item::info" => item.info(alloc, 5, call),
-        "Item::fail" => item.fail(alloc, 5, call),
-        "Item::done" => item.done(alloc, 5, call),
-        _ => item.message(alloc, 5, MessageLevel::Info, call),
-    }
-}
-
-/// Sends a message by one of the calls, which must then be the latest.
-fn send_once<R: Wait + Clone + Drop>(
-    root: &Root<R>,
-    alloc: Global,
-    item: &mut Item<R>,
-    (call, level): (&'static str, MessageLevel),
-    calls: &mut Calls,
-) -> Result<(), Fault> {
-    calls.begin(call);
-    let before = look(root, alloc)?;
-    if let Err(refusal) = send(alloc, item, call) {
-        let is_unchanged = shows(root, alloc, &before)?;
-        let again = send(alloc, item, call);
-        calls.refuse(refusal, is_unchanged && again.is_ok());
-        again?;
-    }
-    let sent = look(root, alloc)?.messages;
-    let is_sent = sent.last().is_some_and(|it| {
-        it.level == level && it.origin.as_str() == "job" && it.message.as_str() == call
-    });
-    calls.expect(is_sent);
     Ok(())
 }
 

@@ -11,6 +11,45 @@ use std::sync::Wait;
 /// The identifier of the items that have one.
 const ID: Id = *b"part";
 
+/// A call that adds an item, and the row that it adds.
+#[derive(Clone, Copy)]
+struct Added {
+    call: &'static str,
+    numbers: &'static [u32],
+    name: &'static str,
+    id: Id,
+}
+
+/// The first item.
+const FIRST: Added = Added {
+    call: "Root::add_child",
+    numbers: &[0],
+    name: "task",
+    id: UNKNOWN,
+};
+
+/// The others, each of which is dropped before the next is added.
+const OTHERS: &[Added] = &[
+    Added {
+        call: "Root::add_child_with_id",
+        numbers: &[1],
+        name: "other",
+        id: ID,
+    },
+    Added {
+        call: "Item::add_child",
+        numbers: &[0, 0],
+        name: "part",
+        id: UNKNOWN,
+    },
+    Added {
+        call: "Item::add_child_with_id",
+        numbers: &[0, 1],
+        name: "part",
+        id: ID,
+    },
+];
+
 /// Adds an item below the root and two below another, and drops them.
 pub(super) fn make_calls<R: Wait + Clone + Drop>(
     root: &Root<R>,
@@ -18,9 +57,9 @@ pub(super) fn make_calls<R: Wait + Clone + Drop>(
     item: &mut Item<R>,
     calls: &mut Calls,
 ) -> Result<(), Fault> {
-    add_child_with_id(root, alloc, calls)?;
-    add_below(root, alloc, item, calls)?;
-    add_below_with_id(root, alloc, item, calls)?;
+    for added in OTHERS {
+        add_once(root, alloc, item, added, calls)?;
+    }
     calls.begin("Item::drop");
     calls.expect(root.num_tasks() == 1);
     Ok(())
@@ -32,99 +71,69 @@ pub(super) fn add_child<R: Wait + Clone + Drop>(
     alloc: Global,
     calls: &mut Calls,
 ) -> Result<Item<R>, Fault> {
-    calls.begin("Root::add_child");
+    calls.begin(FIRST.call);
     let before = look(root, alloc)?;
-    let item = match root.add_child(alloc, "task") {
+    let item = match root.add_child(alloc, FIRST.name) {
         Ok(item) => item,
         Err(refusal) => {
             let is_unchanged = shows(root, alloc, &before)?;
-            let again = root.add_child(alloc, "task");
+            let again = root.add_child(alloc, FIRST.name);
             calls.refuse(refusal, is_unchanged && again.is_ok());
             again?
         }
     };
-    calls.expect(has_row(root, alloc, &[0], "task", UNKNOWN)?);
+    calls.expect(has_row(root, alloc, &FIRST)?);
     Ok(item)
 }
 
-/// Adds an item with an identifier below the root.
-fn add_child_with_id<R: Wait + Clone + Drop>(
-    root: &Root<R>,
-    alloc: Global,
-    calls: &mut Calls,
-) -> Result<(), Fault> {
-    calls.begin("Root::add_child_with_id");
-    let before = look(root, alloc)?;
-    let _item = match root.add_child_with_id(alloc, "other", ID) {
-        Ok(item) => item,
-        Err(refusal) => {
-            let is_unchanged = shows(root, alloc, &before)?;
-            let again = root.add_child_with_id(alloc, "other", ID);
-            calls.refuse(refusal, is_unchanged && again.is_ok());
-            again?
-        }
-    };
-    calls.expect(has_row(root, alloc, &[1], "other", ID)?);
-    Ok(())
-}
-
-/// Adds an item below another.
-fn add_below<R: Wait + Clone + Drop>(
+/// Adds an item below the root or another item.
+fn add_once<R: Wait + Clone + Drop>(
     root: &Root<R>,
     alloc: Global,
     item: &mut Item<R>,
+    added: &Added,
     calls: &mut Calls,
 ) -> Result<(), Fault> {
-    calls.begin("Item::add_child");
+    calls.begin(added.call);
     let before = look(root, alloc)?;
-    let _child = match item.add_child(alloc, "part") {
+    let _child = match add(root, alloc, item, added) {
         Ok(child) => child,
         Err(refusal) => {
             let is_unchanged = shows(root, alloc, &before)?;
-            let again = item.add_child(alloc, "part");
+            let again = add(root, alloc, item, added);
             calls.refuse(refusal, is_unchanged && again.is_ok());
             again?
         }
     };
-    calls.expect(has_row(root, alloc, &[0, 0], "part", UNKNOWN)?);
+    calls.expect(has_row(root, alloc, added)?);
     Ok(())
 }
 
-/// Adds an item with an identifier below another.
-fn add_below_with_id<R: Wait + Clone + Drop>(
+/// Adds an item by its call.
+fn add<R: Wait + Clone + Drop>(
     root: &Root<R>,
     alloc: Global,
     item: &mut Item<R>,
-    calls: &mut Calls,
-) -> Result<(), Fault> {
-    calls.begin("Item::add_child_with_id");
-    let before = look(root, alloc)?;
-    let _child = match item.add_child_with_id(alloc, "part", ID) {
-        Ok(child) => child,
-        Err(refusal) => {
-            let is_unchanged = shows(root, alloc, &before)?;
-            let again = item.add_child_with_id(alloc, "part", ID);
-            calls.refuse(refusal, is_unchanged && again.is_ok());
-            again?
-        }
-    };
-    calls.expect(has_row(root, alloc, &[0, 1], "part", ID)?);
-    Ok(())
+    added: &Added,
+) -> Result<Item<R>, Refusal> {
+    match added.call {
+        "Root::add_child_with_id" => root.add_child_with_id(alloc, added.name, added.id),
+        "Item::add_child" => item.add_child(alloc, added.name),
+        _ => item.add_child_with_id(alloc, added.name, added.id),
+    }
 }
 
-/// Returns whether a tree has a row of this key, name and identifier without progress.
+/// Returns whether a tree has the row of an item that was added, without progress.
 fn has_row<R: Wait + Clone + Drop>(
     root: &Root<R>,
     alloc: Global,
-    numbers: &[u32],
-    name: &str,
-    id: Id,
+    added: &Added,
 ) -> Result<bool, Refusal> {
-    let key = key_of(numbers);
+    let key = key_of(added.numbers);
     let rows = look(root, alloc)?.rows;
     let found = rows.iter().find(|row| row.key == key);
     Ok(found.is_some_and(|row| {
-        row.name.as_str() == name && row.id == id && row.progress.is_none()
+        row.name.as_str() == added.name && row.id == added.id && row.progress.is_none()
     }))
 }
 
