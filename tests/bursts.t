@@ -2,7 +2,7 @@ Bursts of messages
 ==================
 
 No message is lost, however many come between two frames, and they stay in order. The reader of the
-frames is late here, and so are they: it waits until all lines are taken, or for five seconds.
+frames is late here, and so are they: it waits until all lines are taken, or for ten seconds.
 
   $ burst() {
   >   echo 'add @a 0 a'
@@ -10,7 +10,7 @@ frames is late here, and so are they: it waits until all lines are taken, or for
   >   touch taken
   > }
   $ late() {
-  >   for _ in $(seq 50); do [ -f taken ] || sleep 0.1; done
+  >   for _ in $(seq 100); do [ -f taken ] || sleep 0.1; done
   >   cat
   > }
   $ seq 20000 | sed 's/^/ a /; s/$/ of a burst of messages/' >expected
@@ -29,11 +29,12 @@ On a terminal too. Rows are as late as they are asked to be.
   0
   [1]
 
-Faulty lines are messages too.
+Faulty lines are messages too. They are so long that few of them fit in the pipe.
 
-  $ nothings() { yes nothing | head -n 20000 && touch taken; }
+  $ nothings() { yes "$(printf 'nothing %0200d' 0)" | head -n 20000 && touch taken; }
   $ nothings | timeout 30 prodash-live --stdout --fps 1 | late >output
-  $ seq 20000 | sed 's/.*/ ✗ input line &: no event "nothing" in: nothing/' | cmp output -
+  $ shown=$(printf 'nothing %052d' 0)
+  $ seq 20000 | sed "s/.*/ ✗ input line &: no event \"nothing\" in: $shown/" | cmp output -
 
 No frame is awaited where none comes: of an output that is broken, or of a tree without its root.
 
