@@ -32,7 +32,7 @@ On a terminal too. Rows are as late as they are asked to be.
 Faulty lines are messages too. They are so long that few of them fit in the pipe.
 
   $ nothings() { yes "$(printf 'nothing %0200d' 0)" | head -n 20000 && touch taken; }
-  $ nothings | timeout 30 prodash-live --stdout --fps 1 | late >output
+  $ nothings | timeout 38 prodash-live --stdout --fps 1 | late >output
   $ shown=$(printf 'nothing %052d' 0)
   $ seq 20000 | sed "s/.*/ ✗ input line &: no event \"nothing\" in: $shown/" | cmp output -
 
