@@ -34,6 +34,13 @@ printable-append (c ∷ cs) ys h i = let parts = and_parts (is_in_range 0x20 0x7
 in_range : (c : ℕ) → 32 ≤ c → c ≤ 126 → is_in_range 0x20 0x7E c ≡ true
 in_range c low high = grind (arith, nat_tests)
 
+pub printable-parts : (xs ys : List ℕ) → is_printable (xs ++ ys) ≡ true → (is_printable xs ≡ true) × (is_printable ys ≡ true)
+printable-parts [] ys h = (refl, h)
+printable-parts (c ∷ cs) ys h =
+    let both = and_parts (is_in_range 0x20 0x7E c) (is_printable (cs ++ ys)) h in
+    let others = printable-parts cs ys both.1 in
+    (ap (λ b. b && is_printable cs) both.0 ∙ others.0, others.1)
+
 pub printable-one : (c : ℕ) → 32 ≤ c → c ≤ 126 → is_printable (c ∷ []) ≡ true
 printable-one c low high = ap (λ b. b && true) (in_range c low high)
 

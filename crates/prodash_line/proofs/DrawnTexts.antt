@@ -28,11 +28,12 @@ pub drawn_as_is : (defensive : Bool) (text : List ℕ) → list_any is_control (
 drawn_as_is true text e = sym (none_replaced (chars text) e)
 drawn_as_is false text e = refl
 
-printable_as_is : (defensive : Bool) (text : List ℕ) → is_printable text ≡ true → chars text ≡ drawn_chars defensive text
+-- nor does a renderer change printable characters
+pub printable_as_is : (defensive : Bool) (text : List ℕ) → is_printable text ≡ true → chars text ≡ drawn_chars defensive text
 printable_as_is true text e = sym (none_clean (chars text) (subst (AllByRecursion (λ c. is_control c ≡ false)) (sym (chars-printable text e)) (printable_clean text e)))
 printable_as_is false text e = refl
 
-some_if : (b : Bool) (x y : ℕ) → then_some b x ≡ Some y → b ≡ true
+pub some_if : (b : Bool) (x y : ℕ) → then_some b x ≡ Some y → b ≡ true
 some_if true x y e = refl
 some_if false x y e = cc
 

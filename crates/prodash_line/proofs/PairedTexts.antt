@@ -14,7 +14,7 @@ use Rattle.prodash_line.proofs.LineWriting.{appends_piece, appends_then}
 use Rattle.prodash_line.proofs.Written.{line_bytes-text, line_bytes-printable, styled_bytes}
 
 -- one more text of a line with this much room
-appends_whole : (old new : LineWriter) (left : ℕ) (style : Option Style) (text : List ℕ) → old.room ≡ Columns left → str_width false text ≤ left
+pub appends_whole : (old new : LineWriter) (left : ℕ) (style : Option Style) (text : List ℕ) → old.room ≡ Columns left → str_width false text ≤ left
     → new.bytes ≡ old.bytes ++ line_bytes (styled style text ∷ []) → new.width ≡ capped (old.width + str_width false text)
     → new.limit ≡ old.limit → new.room ≡ Columns (left - str_width false text) → Appends old (styled style text ∷ []) new
 appends_whole old new left style text room fits bytes width limit after =

@@ -1,8 +1,9 @@
 -- What a line writer has written.
-use Rattle.std.specs.Prelude.{◌≡◌, ◌≤◌, ℕ, zero, suc, ◌+◌, Bool, true, List, [], ◌++◌, length, Option, Some, None}
+use Rattle.std.specs.Prelude.{◌≡◌, ◌≤◌, ℕ, zero, suc, ◌+◌, ◌-◌, Bool, true, List, [], ◌++◌, length, Option, Some, None}
 use Rattle.std.specs.List.{list_all}
 use Rattle.std.specs.Int.{is_in_range}
 use Rattle.prodash_line.specs.declared.render.line.draw.line_writer.LineWriter.{LineWriter}
+use Rattle.prodash_line.specs.declared.render.line.draw.room.Room.TheVariants.{Columns}
 use Rattle.prodash_line.specs.declared.render.line.page.sign.Sign.TheVariants.{Open, Reset}
 use Rattle.prodash_line.specs.declared.render.line.page.style.Style.{Style}
 use Rattle.prodash_line.specs.Signs.{spelling_of, spelling}
@@ -50,6 +51,16 @@ pub record Appends (old : LineWriter) (pieces : Line) (new : LineWriter) : Type 
 -- they follow it in colour, or without styles
 abbrev pub AppendsIn : Bool → LineWriter → Line → LineWriter → Type 0
 AppendsIn colored old pieces new = Appends old (in_color colored pieces) new
+
+-- printable characters follow in a line that has room for all of them
+pub record AppendsWhole (old : LineWriter) (text : List ℕ) (new : LineWriter) : Type 0 where
+  pub left : ℕ
+  pub room : old.room ≡ Columns left
+  pub fits : length text ≤ left
+  pub bytes : new.bytes ≡ old.bytes ++ text
+  pub width : new.width ≡ capped (old.width + length text)
+  pub limit : new.limit ≡ old.limit
+  pub after : new.room ≡ Columns (left - length text)
 
 -- this line, cut to the limit, follows the bytes of old
 pub record Begun (limit : Option ℕ) (old : LineWriter) (line : Line) (new : LineWriter) : Type 0 where

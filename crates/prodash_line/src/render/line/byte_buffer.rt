@@ -1,5 +1,6 @@
 //! A buffer that bytes are appended to.
-ghost use Rattle.std.specs.Prelude.{◌≡◌, ◌+◌, ◌∷◌, [], ◌++◌, ◌≤◌, replicate, take, vec_len, OnOk, IfOk};
+ghost use Rattle.std.specs.Prelude.{◌≡◌, ◌+◌, ◌∷◌, [], ◌++◌, ◌≤◌, ◌<◌, length, replicate, take, vec_len, OnOk, IfOk};
+ghost use Rattle.prodash_line.specs.Padding.{plain_bar, plain_progress};
 
 use std::alloc::{AllocError, Global};
 use std::marker::Model;
@@ -86,6 +87,32 @@ impl ByteBuffer {
         Ok(())
     }
 
+    /// Appends a space, `padding` spaces, a text in three parts, and a bar of `cells` cells of which
+    /// the first `filled` are filled. Fails if out of memory.
+    #[inline(always)]
+    pub(crate) fn push_progress(
+        &mut self,
+        padding: u16,
+        first: &[u8],
+        second: &[u8],
+        third: &[u8],
+        cells: u16,
+        filled: u16,
+    ) -> Result<(), AllocError>
+        requires within { filled ≤ cells }
+        requires short { padding + length first.now + length second.now + length third.now + cells ≤ 65530 }
+        ensures { OnOk result (let text = first.now ++ (second.now ++ third.now) in
+            self.new ≡ self.old ++ plain_progress padding text cells filled) }
+    {
+        let texts = first.len() + second.len() + third.len();
+        let length = 1 + usize::from(padding) + texts + usize::from(cells) + 4;
+        grow(&mut self.initialized, self.length, length)?;
+        let at = put_copies(&mut self.initialized, self.length, b' ', 1 + padding);
+        let at = put_parts(&mut self.initialized, at, first, second, third);
+        self.length = put_bar(&mut self.initialized, at, cells, filled);
+        Ok(())
+    }
+
     /// Appends a byte `count` times. Fails if out of memory.
     #[inline(always)]
     pub(crate) fn push_copies(&mut self, byte: u8, count: u16) -> Result<(), AllocError>
@@ -115,6 +142,78 @@ fn grow(initialized: &mut Vec<u8>, length: usize, additional: usize) -> Result<u
         initialize(initialized, additional - spare)?;
     }
     Ok(length + additional)
+}
+
+/// Writes a byte at an index, and returns the index behind it.
+#[inline(always)]
+fn put(bytes: &mut Vec<u8>, at: usize, byte: u8) -> usize
+    requires { at < vec_len bytes.old }
+    ensures end { result ≡ at + 1 }
+    ensures length { vec_len bytes.new ≡ vec_len bytes.old }
+    ensures put { take result bytes.new.items ≡ take at bytes.old.items ++ byte ∷ [] }
+{
+    bytes[at] = byte;
+    at + 1
+}
+
+/// Writes a byte `count` times from an index on, and returns the index behind them.
+#[inline(always)]
+fn put_copies(bytes: &mut Vec<u8>, at: usize, byte: u8, count: u16) -> usize
+    requires { at + count ≤ vec_len bytes.old }
+    ensures end { result ≡ at + count }
+    ensures length { vec_len bytes.new ≡ vec_len bytes.old }
+    ensures put { take result bytes.new.items ≡ take at bytes.old.items ++ replicate count byte }
+{
+    let end = at + usize::from(count);
+    bytes[at..end].fill(byte);
+    end
+}
+
+/// Writes a text from an index on, and returns the index behind it.
+#[inline(always)]
+fn put_text(bytes: &mut Vec<u8>, at: usize, text: &[u8]) -> usize
+    requires { at + length text.now ≤ vec_len bytes.old }
+    ensures end { result ≡ at + length text.now }
+    ensures length { vec_len bytes.new ≡ vec_len bytes.old }
+    ensures put { take result bytes.new.items ≡ take at bytes.old.items ++ text.now }
+{
+    let end = at + text.len();
+    bytes[at..end].copy_from_slice(text);
+    end
+}
+
+/// Writes three texts from an index on, and returns the index behind them.
+#[inline(always)]
+fn put_parts(bytes: &mut Vec<u8>, at: usize, first: &[u8], second: &[u8], third: &[u8]) -> usize
+    requires { at + (length first.now + length second.now + length third.now)
+        ≤ vec_len bytes.old }
+    ensures end { result ≡ at + (length first.now + length second.now + length third.now) }
+    ensures length { vec_len bytes.new ≡ vec_len bytes.old }
+    ensures put { take result bytes.new.items
+        ≡ take at bytes.old.items ++ (first.now ++ (second.now ++ third.now)) }
+{
+    let at = put_text(bytes, at, first);
+    let at = put_text(bytes, at, second);
+    put_text(bytes, at, third)
+}
+
+/// Writes a bar of `cells` cells, of which the first `filled` are filled, from an index on, and
+/// returns the index behind it.
+#[inline(always)]
+fn put_bar(bytes: &mut Vec<u8>, at: usize, cells: u16, filled: u16) -> usize
+    requires within { filled ≤ cells }
+    requires room { at + cells + 4 ≤ vec_len bytes.old }
+    ensures end { result ≡ at + cells + 4 }
+    ensures put { take result bytes.new.items
+        ≡ take at bytes.old.items ++ plain_bar cells filled }
+    ensures within { result ≤ vec_len bytes.new }
+{
+    let at = put(bytes, at, b' ');
+    let at = put(bytes, at, b'[');
+    let at = put_copies(bytes, at, b'=', filled);
+    let at = put(bytes, at, b'>');
+    let at = put_copies(bytes, at, b'-', cells - filled);
+    put(bytes, at, b']')
 }
 
 /// Initializes at least `missing` bytes more.

@@ -13,10 +13,10 @@ use prodash_base::progress::{Step, Value};
 use std::alloc::AllocError;
 
 /// The columns of a bar's space and brackets.
-const BRACKETS: u16 = 3;
+pub(crate) const BRACKETS: u16 = 3;
 
 /// The column of the arrow in the bar of a progress with a bound.
-const ARROW: u16 = 1;
+pub(crate) const ARROW: u16 = 1;
 
 /// Appends the bar of a progress on the columns that are left in its row, in the row's style if it
 /// is coloured. It appends nothing if there are no columns. Fails if out of memory.
@@ -89,7 +89,7 @@ fn push_colored_bar(
 
 /// Returns how many of a bar's cells are filled: the share of the bound that the step has come to,
 /// rounded down; all of them if the bound is 0.
-fn filled_cells(cells: u16, step: Step, done_at: Step) -> u16
+pub(crate) fn filled_cells(cells: u16, step: Step, done_at: Step) -> u16
     ensures value { result ≡ rows.filled_cells cells step done_at }
     ensures within { result ≤ cells }
 {

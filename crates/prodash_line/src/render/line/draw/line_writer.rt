@@ -1,9 +1,10 @@
 //! A writer of lines: each piece of a line is written straight into a buffer of bytes, as far as
 //! the line isn't cut.
-ghost use Rattle.std.specs.Prelude.{◌≡◌, ◌+◌, ◌-◌, ℕ, ◌∷◌, [], ◌++◌, ◌≤◌, ◌<◌, true, chars, length, replicate, take, OnOk, IfOk};
+ghost use Rattle.std.specs.Prelude.{◌≡◌, ◌+◌, ◌-◌, ℕ, ◌∷◌, [], ◌++◌, ◌≤◌, ◌<◌, true, false, chars, length, replicate, take, OnOk, IfOk};
 ghost use Rattle.prodash_line.specs.Signs.{spelling_of};
 ghost use Rattle.prodash_line.specs.Lines.{piece, styled, spaces, columns_of, indented};
-ghost use Rattle.prodash_line.specs.Writing.{is_printable, style_of_length, open_bytes, reset_bytes, Appends, Begun, SameLine, Counts};
+ghost use Rattle.prodash_line.specs.Writing.{is_printable, style_of_length, open_bytes, reset_bytes, Appends, AppendsWhole, Begun, SameLine, Counts};
+ghost use Rattle.prodash_line.specs.Padding.{plain_progress};
 ghost use Rattle.prodash_base.specs.Path.{max_level};
 ghost use Rattle.prodash_line.specs.OverwriteBytes.{on_row, EndsOver, IsCutWidth};
 
@@ -193,6 +194,41 @@ impl LineWriter {
         self.room = room;
         self.reset(style)?;
         Ok(())
+    }
+
+    /// Appends a space, `padding` spaces, a text in three parts, and a bar of `cells` cells of which
+    /// the first `filled` are filled, without styles, if the line has room for all of it. Returns
+    /// whether it has; otherwise nothing is appended. The parts are printable ASCII characters.
+    /// Fails if out of memory.
+    #[inline(always)]
+    pub(crate) fn push_progress(
+        &mut self,
+        padding: u16,
+        first: &[u8],
+        second: &[u8],
+        third: &[u8],
+        cells: u16,
+        filled: u16,
+    ) -> Result<bool, AllocError>
+        requires within { filled ≤ cells }
+        requires short { padding + length first.now + length second.now + length third.now + cells ≤ 65530 }
+        ensures whole { IfOk result (λ has_room.
+            let text = plain_progress padding (first.now ++ (second.now ++ third.now)) cells filled in
+            has_room ≡ true → AppendsWhole self.old text self.new) }
+        ensures none { IfOk result (λ has_room. has_room ≡ false → self.new ≡ self.old) }
+    {
+        let texts = (first.len() + second.len() + third.len()) as u16;
+        let count = 1 + padding + texts + cells + 4;
+        match self.room {
+            Room::Columns(left) if count <= left => {
+                self.bytes
+                    .push_progress(padding, first, second, third, cells, filled)?;
+                self.width = self.width.saturating_add(count);
+                self.room = Room::Columns(left - count);
+                Ok(true)
+            }
+            _ => Ok(false),
+        }
     }
 
     /// Appends at most 65535 printable ASCII characters, whose number is their width. Fails if out

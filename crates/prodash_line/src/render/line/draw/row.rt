@@ -1,19 +1,21 @@
 //! The line of a row: its name, and with progress its values and a bar.
-ghost use Rattle.std.specs.Prelude.{◌≡◌, ◌≤◌, ◌+◌, ◌++◌, true, drop, length, OnOk, IfOk, IsOkUnless};
+ghost use Rattle.std.specs.Prelude.{◌≡◌, ◌≤◌, ◌+◌, ◌++◌, false, true, Some, drop, length, OnOk, IfOk, IsOkUnless};
 ghost use Rattle.prodash_base.specs.Units.{measure_of};
 ghost use Rattle.prodash_base.specs.Rows.{row_of, progress_of};
 ghost use Rattle.prodash_line.specs.ProgressRows as rows;
 ghost use Rattle.prodash_line.specs.ProgressRows.{FollowsStep, fraction_values};
 ghost use Rattle.prodash_line.specs.DrawnLines.{layout_of};
 ghost use Rattle.prodash_line.specs.OverwriteBytes.{on_row};
-ghost use Rattle.prodash_line.specs.Padding.{end_of_values, Pads};
+ghost use Rattle.prodash_line.specs.Lines.{capped};
+ghost use Rattle.prodash_line.specs.Padding.{end_of_values, Pads, DrawsProgress, DrawsFraction, DrawsInUnit, DrawsParts, OrNothing};
 ghost use Rattle.prodash_line.specs.Writing.{is_printable, AppendsIn, DrawsLine};
 
-use crate::render::line::draw::bar::push_bar;
+use crate::render::line::draw::bar::{ARROW, BRACKETS, filled_cells, push_bar};
 use crate::render::line::draw::drawn_text::drawn_text;
 use crate::render::line::draw::input::Options;
 use crate::render::line::draw::line_writer::{LineWriter, style_of_length};
 use crate::render::line::draw::styles::{name_style, values_style};
+use crate::render::line::draw::text::printable_width;
 use itoa::Buffer;
 use prodash_base::Refusal;
 use prodash_base::progress::{Level, Row, Step, Value};
@@ -66,16 +68,167 @@ pub(crate) fn push_row(
         (λ n. n ≡ rows.midpoint_of options.now.defensive (row_of row.now, throughput)) }
     ensures reason { IsOkUnless result Refusal.Memory }
 {
-    let (width, _) = options.terminal_dimensions;
     out.begin_row(options.layout(), options.width_limit(), row.key.level())?;
     push_name(out, &mut texts.replaced_name, options, row)?;
     let Some(value) = &row.progress else {
         return Ok(0);
     };
+    let own = push_progress(alloc, out, texts, options, midpoint, value, throughput)?;
+    Ok(own)
+}
+
+/// Appends a space and the values of a progress, as `push_values` does, and its bar. Returns the
+/// column at which the values end without padding.
+#[inline(always)]
+fn push_progress(
+    alloc: Global,
+    out: &mut LineWriter,
+    texts: &mut RowTexts,
+    options: &Options,
+    midpoint: u16,
+    value: &Value,
+    throughput: Option<Throughput>,
+) -> Result<u16, Refusal>
+    ensures drawn { IfOk result
+        (λ own. DrawsProgress options.now midpoint value.now throughput own out.old out.new) }
+    ensures reason { IsOkUnless result Refusal.Memory }
+{
+    let (width, _) = options.terminal_dimensions;
+    if !options.colored {
+        let plain = push_plain(alloc, out, texts, options, midpoint, value, throughput)?;
+        if let Some(own) = plain {
+            return Ok(own);
+        }
+    }
     let own = push_values(alloc, out, texts, options, midpoint, value, throughput)?;
     let columns = width.saturating_sub(out.width());
     push_bar(out, options.colored, columns, value)?;
     Ok(own)
+}
+
+/// Does what `push_progress` does without styles, at once, if the progress has a bound, its texts
+/// are printable ASCII characters, and the line has room for all of it. Otherwise it appends
+/// nothing and returns `None`.
+fn push_plain(
+    alloc: Global,
+    out: &mut LineWriter,
+    texts: &mut RowTexts,
+    options: &Options,
+    midpoint: u16,
+    value: &Value,
+    throughput: Option<Throughput>,
+) -> Result<Option<u16>, Refusal>
+    requires { options.now.colored ≡ false }
+    ensures drawn { IfOk result
+        (OrNothing out.old out.new (DrawsProgress options.now midpoint value.now throughput)) }
+    ensures reason { IsOkUnless result Refusal.Memory }
+{
+    let (width, _) = options.terminal_dimensions;
+    let Some(done_at) = value.done_at else {
+        return Ok(None);
+    };
+    let text = &mut texts.values;
+    let plain = match &value.unit {
+        None => push_plain_fraction(out, width, midpoint, value, done_at)?,
+        Some(unit) => push_plain_unit(
+            alloc, out, text, width, midpoint, unit, value, done_at, throughput,
+        )?,
+    };
+    Ok(plain)
+}
+
+/// Does what `push_plain` does for a progress with this bound and without a unit.
+fn push_plain_fraction(
+    out: &mut LineWriter,
+    width: u16,
+    midpoint: u16,
+    value: &Value,
+    done_at: Step,
+) -> Result<Option<u16>, AllocError>
+    requires { value.now.done_at ≡ Some done_at }
+    ensures { IfOk result
+        (OrNothing out.old out.new (DrawsFraction width midpoint value.now)) }
+{
+    let mut step_digits = Buffer::new();
+    let mut bound_digits = Buffer::new();
+    let step = step_digits.format(value.step);
+    let bound = bound_digits.format(done_at);
+    let columns = (step.len() + 1 + bound.len()) as u16;
+    let (step, bound) = (step.as_bytes(), bound.as_bytes());
+    let plain = push_plain_text(
+        out, width, midpoint, value, done_at, columns, step, b"/", bound,
+    )?;
+    Ok(plain)
+}
+
+/// Does what `push_plain` does for a progress with this bound and this unit. `text` is memory for
+/// its values and its unit.
+fn push_plain_unit(
+    alloc: Global,
+    out: &mut LineWriter,
+    text: &mut String,
+    width: u16,
+    midpoint: u16,
+    unit: &Unit,
+    value: &Value,
+    done_at: Step,
+    throughput: Option<Throughput>,
+) -> Result<Option<u16>, Refusal>
+    requires { value.now.done_at ≡ Some done_at }
+    ensures drawn { IfOk result (OrNothing out.old out.new
+        (DrawsInUnit width midpoint unit.now value.now throughput)) }
+    ensures reason { IsOkUnless result Refusal.Memory }
+{
+    text.clear();
+    let mut display = unit.display(alloc, value.step, value.done_at, throughput);
+    display.values().append_to(text)?;
+    text.push(' ')?;
+    display.unit().append_to(text)?;
+    let Some(columns) = printable_width(text.as_str()) else {
+        return Ok(None);
+    };
+    let text = text.as_bytes();
+    let plain = push_plain_text(
+        out, width, midpoint, value, done_at, columns, text, b"", b"",
+    )?;
+    Ok(plain)
+}
+
+/// Appends a text of printable ASCII characters in three parts, padded as `push_values` says, and
+/// the bar of a progress with this bound, without styles, if the line has room for all of it.
+/// `columns` is the width of the text, at most 65535. Returns the column at which the text ends
+/// without padding, or `None` if nothing is appended.
+#[inline(always)]
+fn push_plain_text(
+    out: &mut LineWriter,
+    width: u16,
+    midpoint: u16,
+    value: &Value,
+    done_at: Step,
+    columns: u16,
+    first: &[u8],
+    second: &[u8],
+    third: &[u8],
+) -> Result<Option<u16>, AllocError>
+    requires bound { value.now.done_at ≡ Some done_at }
+    requires columns { columns
+        ≡ capped (length first.now + length second.now + length third.now) }
+    requires first { is_printable first.now ≡ true }
+    requires second { is_printable second.now ≡ true }
+    requires third { is_printable third.now ≡ true }
+    ensures { IfOk result (OrNothing out.old out.new
+        (DrawsParts width midpoint first.now second.now third.now value.now)) }
+{
+    let own = out.width().saturating_add(1).saturating_add(columns);
+    let end = own.max(midpoint);
+    let left = width.saturating_sub(end);
+    if left < BRACKETS + ARROW {
+        return Ok(None);
+    }
+    let cells = left - (BRACKETS + ARROW);
+    let filled = filled_cells(cells, value.step, done_at);
+    let has_room = out.push_progress(end - own, first, second, third, cells, filled)?;
+    Ok(has_room.then_some(own))
 }
 
 /// Appends a space and the values of a progress, padded so that they end at this midpoint. Returns
@@ -97,7 +250,7 @@ fn push_values(
         n ≡ end_of_values out.old.width values) }
     ensures reason { IsOkUnless result Refusal.Memory }
 {
-    match value.unit {
+    match &value.unit {
         None => Ok(push_fraction(out, options.colored, midpoint, value.step, value.done_at)?),
         Some(unit) => push_in_unit(
             alloc, out, texts, options, midpoint, unit, value, throughput,
@@ -141,17 +294,17 @@ fn push_in_unit(
     texts: &mut RowTexts,
     options: &Options,
     midpoint: u16,
-    unit: Unit,
+    unit: &Unit,
     value: &Value,
     throughput: Option<Throughput>,
 ) -> Result<u16, Refusal>
     ensures line { OnOk result
         (let p = progress_of value.now in
-        let values = rows.values_in options.now.defensive (measure_of unit) p throughput in
+        let values = rows.values_in options.now.defensive (measure_of unit.now) p throughput in
         Pads options.now.colored midpoint out.old values out.new) }
     ensures end { IfOk result (λ n.
         let p = progress_of value.now in
-        let values = rows.values_in options.now.defensive (measure_of unit) p throughput in
+        let values = rows.values_in options.now.defensive (measure_of unit.now) p throughput in
         n ≡ end_of_values out.old.width values) }
     ensures reason { IsOkUnless result Refusal.Memory }
 {

@@ -27,11 +27,11 @@ texts : (defensive : Bool) (style shown : Option Style) (unit : Unit) (p : RowPr
 texts defensive style shown unit p t values name s v u = λ i. styled (s i) (v i) ∷ spaces 1 ∷ piece (u i) ∷ []
 
 values_are : (c : goal.In_ok-push_pair) → chars c.in_ok-values.values.now
-    ≡ drawn_chars c.args.options.now.defensive (values_text (kind_shown c.args.unit.kind) c.args.unit.mode (amount c.args.value.now.step c.args.value.now.done_at c.args.throughput))
+    ≡ drawn_chars c.args.options.now.defensive (values_text (kind_shown c.args.unit.now.kind) c.args.unit.now.mode (amount c.args.value.now.step c.args.value.now.done_at c.args.throughput))
 values_are c = c.in_ok-values.ensures.text ∙ ap (drawn_chars c.args.options.now.defensive) (search rules)
 
 name_is : (c : goal.In_ok-push_pair) → chars c.in_ok-name.name.now
-    ≡ drawn_chars c.args.options.now.defensive (unit_text (kind_shown c.args.unit.kind) c.args.unit.mode (amount c.args.value.now.step c.args.value.now.done_at c.args.throughput))
+    ≡ drawn_chars c.args.options.now.defensive (unit_text (kind_shown c.args.unit.now.kind) c.args.unit.now.mode (amount c.args.value.now.step c.args.value.now.done_at c.args.throughput))
 name_is c = c.in_ok-name.ensures.text ∙ ap (drawn_chars c.args.options.now.defensive) (search rules)
 
 pub returns-clause-end : goal.returns-clause-end
@@ -40,12 +40,12 @@ returns-clause-end c =
     c.in_ok-values.ensures.width c.in_ok-name.ensures.width
     (omega (arith, c.saturating_add-own.ensures, c.saturating_add-3.ensures, c.saturating_add-2.ensures, c.saturating_add.ensures, c.width.ensures))
     ∙ ap (λ values. end_of_values c.args.out.now.width values)
-    (texts c.args.options.now.defensive (Some values_style) _ c.args.unit (progress_of c.args.value.now) c.args.throughput (chars c.in_ok-values.values.now) (chars c.in_ok-name.name.now) refl (values_are c) (name_is c))
+    (texts c.args.options.now.defensive (Some values_style) _ c.args.unit.now (progress_of c.args.value.now) c.args.throughput (chars c.in_ok-values.values.now) (chars c.in_ok-name.name.now) refl (values_are c) (name_is c))
 
 pub returns-clause-line : goal.returns-clause-line
 returns-clause-line c =
     let o = c.args.options.now in
-    padded_appends o.colored c.args.midpoint c.saturating_add-own.result c.saturating_sub.result (values_in o.defensive (measure_of c.args.unit) (progress_of c.args.value.now) c.args.throughput)
+    padded_appends o.colored c.args.midpoint c.saturating_add-own.result c.saturating_sub.result (values_in o.defensive (measure_of c.args.unit.now) (progress_of c.args.value.now) c.args.throughput)
     (returns-clause-end c) c.saturating_sub.ensures c.in_ok-push_gap.ensures
-    (appends_as (texts o.defensive _ (then_some o.colored values_style) c.args.unit (progress_of c.args.value.now) c.args.throughput (chars c.in_ok-values.values.now) (chars c.in_ok-name.name.now)
+    (appends_as (texts o.defensive _ (then_some o.colored values_style) c.args.unit.now (progress_of c.args.value.now) c.args.throughput (chars c.in_ok-values.values.now) (chars c.in_ok-name.name.now)
     (c.then_some-style.ensures ∙ ap (then_some o.colored) c.values_style.ensures) (values_are c) (name_is c)) c.in_ok-push_pair.ensures)

@@ -13,20 +13,21 @@ pub returns-clause-line : goal.returns-clause-line
 returns-clause-line c =
     let row = row_of c.args.row.now in
     let p = progress_of c.in-Some.value in
-    let head = head_begun c.args.out.now c.args.options.now.colored c.args.options.now.defensive (row_of c.args.row.now) _ _ c.width_limit.ensures c.layout.ensures c.level.ensures.value c.in_ok-begin_row.ensures c.in_ok-push_name.ensures in
-    let colored = c.args.options.now.colored in
-    let width = c.args.options.now.terminal_dimensions.0 in
-    begun_as (ap (λ o. in_color colored (row_line_with c.args.options.now.defensive width c.args.midpoint row (option_map progress_of o) c.args.throughput)) (sym c.in-Some.is))
-    (row_begun colored c.args.options.now.defensive row p c.args.throughput width c.args.midpoint c.saturating_sub-columns.result (row_style p)
-    (padded_begun colored c.args.options.now.defensive row p c.args.throughput c.args.midpoint head c.in_ok-own.ensures.line)
-    (c.saturating_sub-columns.ensures ∙ ap (λ n. width - n) c.width.ensures) refl c.in_ok-push_bar.ensures)
+    let o = c.args.options.now in
+    let head = head_begun c.args.out.now o.colored o.defensive row _ _ c.width_limit.ensures c.layout.ensures c.level.ensures.value c.in_ok-begin_row.ensures c.in_ok-push_name.ensures in
+    let h = c.in_ok-own.ensures.drawn in
+    begun_as (ap (λ v. in_color o.colored (row_line_with o.defensive o.terminal_dimensions.0 c.args.midpoint row (option_map progress_of v) c.args.throughput)) (sym c.in-Some.is))
+    (row_begun o.colored o.defensive row p c.args.throughput o.terminal_dimensions.0 c.args.midpoint (o.terminal_dimensions.0 - h.between.width) (row_style p)
+    (padded_begun o.colored o.defensive row p c.args.throughput c.args.midpoint head h.padded) refl refl h.bar)
 
 pub returns-clause-midpoint : goal.returns-clause-midpoint
 returns-clause-midpoint c =
     let row = row_of c.args.row.now in
     let p = progress_of c.in-Some.value in
-    c.in_ok-own.ensures.end ∙ row_midpoint c.args.options.now.colored c.args.options.now.defensive row p c.args.throughput (head_begun c.args.out.now c.args.options.now.colored c.args.options.now.defensive (row_of c.args.row.now) _ _ c.width_limit.ensures c.layout.ensures c.level.ensures.value c.in_ok-begin_row.ensures c.in_ok-push_name.ensures)
-    ∙ ap (λ o. midpoint_with c.args.options.now.defensive row (option_map progress_of o) c.args.throughput) (sym c.in-Some.is)
+    let o = c.args.options.now in
+    c.in_ok-own.ensures.drawn.ends
+    ∙ row_midpoint o.colored o.defensive row p c.args.throughput (head_begun c.args.out.now o.colored o.defensive row _ _ c.width_limit.ensures c.layout.ensures c.level.ensures.value c.in_ok-begin_row.ensures c.in_ok-push_name.ensures)
+    ∙ ap (λ v. midpoint_with o.defensive row (option_map progress_of v) c.args.throughput) (sym c.in-Some.is)
 
 pub returns-in_default-clause-line : goal.returns-in_default-clause-line
 returns-in_default-clause-line c =
