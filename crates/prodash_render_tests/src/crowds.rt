@@ -2,7 +2,7 @@
 use crate::engine::{assert_ended, make_collecting, options};
 use crate::fixtures::assert_same;
 use crate::stacks::Counting;
-use crate::waiting::is_so_soon;
+use crate::waiting::{SteppedClock, is_so_soon};
 use prodash::Refusal;
 use prodash::render::line::{JoinHandle, render};
 use prodash::time::SystemClock;
@@ -25,27 +25,33 @@ const TASKS: usize = 100;
 /// The number of renderers.
 const RENDERERS: usize = 1000;
 
-/// Adds tasks, sends the message `done!` of each, and drops it.
-fn work<R: Wait + Clone + Drop>(alloc: Global, root: &TreeRoot<R>) -> Result<(), Refusal> {
+/// Adds tasks, sends the message `done!` of each, lets the ticker go on, and drops the task.
+fn work<R: Wait + rt::Clock + Clone + Drop>(
+    alloc: Global,
+    root: &TreeRoot<R>,
+    clock: &SteppedClock<R>,
+) -> Result<(), Refusal> {
     for _ in 0..TASKS {
         let mut task = root.add_child(alloc, "task")?;
         task.init(Some(1), None);
         task.inc();
         task.info(alloc, 0, "done!")?;
+        clock.end_next();
     }
     Ok(())
 }
 
 /// Starts the threads.
-fn start<R: Wait + Threads + Clone + Drop + Send + Sync + 'static>(
+fn start<R: Wait + Threads + rt::Clock + Clone + Drop + Send + Sync + 'static>(
     rt: &R,
     alloc: Global,
     root: &TreeRoot<R>,
+    clock: &Arc<SteppedClock<R>>,
 ) -> Result<Vec<thread::JoinHandle<Result<(), Refusal>>>, Fail> {
     let mut running = Vec::new(alloc);
     for _ in 0..THREADS {
-        let root = root.clone()?;
-        running.push(thread::spawn(rt, move || work(alloc, &root))?)?;
+        let (root, clock) = (root.clone()?, Arc::try_clone(clock)?);
+        running.push(thread::spawn(rt, move || work(alloc, &root, &clock))?)?;
     }
     Ok(running)
 }
@@ -69,7 +75,8 @@ fn messages_in(bytes: &[u8]) -> usize {
     count
 }
 
-/// No message is lost, and no task is left, while the renderer draws without a pause and is resized.
+/// No message is lost, and no task is left, while the renderer draws and is resized. It draws at
+/// most one frame for each task, and one for each size, so it can't keep the lock from the threads.
 #[test]
 fn a_crowd_loses_no_message(rt: HostRuntime) -> Result<(), Fail> {
     let alloc: Global = rt.alloc();
@@ -79,8 +86,7 @@ fn a_crowd_loses_no_message(rt: HostRuntime) -> Result<(), Fail> {
     };
     let root = kept.create(rt, alloc)?;
     let it = make_collecting(&rt, alloc, root.downgrade()?, true)?;
-    it.clock.end(u64::MAX);
-    let running = start(&rt, alloc, &root)?;
+    let running = start(&rt, alloc, &root, &it.clock)?;
     resize(&rt, &it.handle);
     for worker in running {
         assert_same(&rt, worker.join(&rt), Ok(()), "a thread's calls");

@@ -100,6 +100,11 @@ impl<R: rt::Clock + Drop> SteppedClock<R> {
     pub(crate) fn end(&self, count: u64) {
         self.ending.store(count, Ordering::SeqCst);
     }
+
+    /// Lets one more sleep end.
+    pub(crate) fn end_next(&self) {
+        self.ending.fetch_add(1, Ordering::SeqCst);
+    }
 }
 
 impl<R: rt::Clock + Drop> Clock for SteppedClock<R> {
