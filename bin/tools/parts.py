@@ -11,6 +11,10 @@ import sys
 import tempfile
 from concurrent.futures import ThreadPoolExecutor
 
+sys.path.insert(0, os.path.dirname(os.path.realpath(__file__)))
+
+import switches
+
 # A smaller module isn't split, and functions through which fewer lines are reached are copied. More
 # are copied if the second number is greater, and fewer can be inlined if it is less.
 LARGE, ALONE = 100_000, 3000
@@ -24,6 +28,8 @@ DECLARATION = re.compile(rf"^declare [^\n]*?{NAME}\(.*\n", re.M)
 GLOBAL = re.compile(rf"^{NAME} = .*\n", re.M)
 # The type of a global of a fixed address, which one part defines and the others declare.
 FIXED = re.compile(r"= private (global|constant) (\[[^]]*\]|<\{.*?\}>) .*")
+# The static of a switch, whose words are changed once it is compiled, so it is no constant here.
+SWITCH = re.compile(rf"= private unnamed_addr constant (?=.*{re.escape(switches.in_module())})")
 
 
 class Module:
@@ -205,8 +211,8 @@ def compile_module(tools, words, count):
         shown = [clang, "-x", "ir", source, "-S", "-emit-llvm", "-Xclang", "-disable-llvm-passes"]
         subprocess.run([*shown, "-o", f"{room}/all"], check=True)
         with open(f"{room}/all", encoding="utf-8") as it:
-            text = it.read()
-        if count == 1 or text.count("\n") < LARGE:
+            text = SWITCH.sub("= private global ", it.read())
+        if text.count("\n") < LARGE:
             return subprocess.run([clang, *words]).returncode
         module, runs, made = Module(text), [], []
         with ThreadPoolExecutor(count) as pool:
@@ -223,4 +229,5 @@ def compile_module(tools, words, count):
 
 
 if __name__ == "__main__":
-    sys.exit(compile_module(sys.argv[1], sys.argv[2:], len(os.sched_getaffinity(0))))
+    # at least two, since a compiler of the whole module would take a switch for a constant
+    sys.exit(compile_module(sys.argv[1], sys.argv[2:], max(2, len(os.sched_getaffinity(0)))))

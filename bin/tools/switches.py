@@ -177,6 +177,12 @@ def switch(edits, file_of):
     return faults
 
 
+def in_module():
+    """Returns how the module of a compiler begins the static of a switch."""
+    mark = struct.pack("<Q", MARKS[0]).decode("latin-1")
+    return 'c"' + re.sub(r'[^ -~]|["\\]', lambda it: f"\\{ord(it[0]):02X}", mark)
+
+
 def patched(program, body, which):
     """Returns the bytes of a program with the body and the program of these numbers chosen."""
     old = struct.pack("<QQQQ", MARKS[0], 0, MARKS[1], 0)

@@ -6,6 +6,7 @@ with ` (no-eol)` if there is no line feed at the end, and with ` (esc)` if bytes
 `\x1b`. A line `[2]` is a status other than 0. All other lines are prose. One shell runs all
 commands of a file.
 """
+import contextlib
 import difflib
 import os
 import re
@@ -102,14 +103,16 @@ def outputs(end, pipe, count):
 
 
 def run(commands, programs, **variables):
-    """Runs commands in a new folder, and returns the lines that each writes.
+    """Runs commands in a new folder, and yields the lines that each writes.
 
     The path begins with these programs, by name, and the scripts. The environment has these
     variables.
     """
     mark = f"end-of-command-{os.urandom(8).hex()}"
     end = re.compile(rb"%s (\d+)\n" % mark.encode())
-    with tempfile.TemporaryDirectory(prefix="transcripts-") as room:
+    # what was stopped may still write there
+    how = {"prefix": "transcripts-", "ignore_cleanup_errors": True}
+    with tempfile.TemporaryDirectory(**how) as room:
         for folder in ("bin", "work"):
             os.mkdir(f"{room}/{folder}")
         for name, path in {**programs, **SCRIPTS}.items():
@@ -121,15 +124,12 @@ def run(commands, programs, **variables):
         how |= {"stdout": subprocess.PIPE, "stderr": subprocess.STDOUT}
         with subprocess.Popen(["sh", f"{room}/script"], start_new_session=True, **how) as shell:
             try:
-                ended = list(outputs(end, shell.stdout, len(commands)))
+                for output, status in outputs(end, shell.stdout, len(commands)):
+                    lines = [shown(it) for it in re.findall(rb"[^\n]*\n|[^\n]+", output)]
+                    yield [*lines, *([f"{OUTPUT}[{status}]\n"] if status != "0" else [])]
             finally:
                 # what hangs, or goes on in the background
                 os.killpg(shell.pid, signal.SIGKILL)
-    written = []
-    for output, status in ended:
-        lines = [shown(it) for it in re.findall(rb"[^\n]*\n|[^\n]+", output)]
-        written.append([*lines, *([f"{OUTPUT}[{status}]\n"] if status != "0" else [])])
-    return written
 
 
 def play(path, programs, **variables):
@@ -138,7 +138,7 @@ def play(path, programs, **variables):
         lines = it.readlines()
     parts = read(lines)
     commands = [it for it in parts if isinstance(it, Command)]
-    written = run(commands, programs, **variables)
+    written = list(run(commands, programs, **variables))
     wrote, played = iter(written), []
     for it in parts:
         played += [*it.lines, *next(wrote)] if isinstance(it, Command) else [it]
@@ -148,7 +148,11 @@ def play(path, programs, **variables):
 
 
 def passes(path, programs):
-    """Runs the commands of a transcript, and returns whether each writes what it has to."""
+    """Runs the commands of a transcript until one doesn't write what it has to.
+
+    Returns whether all do.
+    """
     with open(path, encoding="utf-8") as it:
         commands = [part for part in read(it.readlines()) if isinstance(part, Command)]
-    return [it.expected for it in commands] == run(commands, programs)
+    with contextlib.closing(run(commands, programs)) as written:
+        return all(it.expected == lines for it, lines in zip(commands, written))
