@@ -62,28 +62,25 @@ pub fn replay<R: Read, O: Write, E: Write>(
     out: &mut O,
     err: &mut E,
 ) -> u8 {
-    let written = match replayed(alloc, words, input) {
-        Ok(bytes) => write_all(out, &bytes),
-        Err(fault) => Err(fault),
-    };
-    match written {
+    match write_replay(alloc, words, input, out) {
         Ok(()) => 0,
         Err(fault) => report(err, fault),
     }
 }
 
-/// Returns what the replay is to write to its output.
-fn replayed<R: Read>(alloc: Global, words: &[String], input: &mut R) -> Result<Vec<u8>, Fault> {
+/// Does what `replay` does on `out`. Nothing has been written to it if anything else failed.
+fn write_replay<R: Read, O: Write>(
+    alloc: Global,
+    words: &[String],
+    input: &mut R,
+    out: &mut O,
+) -> Result<(), Fault> {
     let request = parse_args(words)?;
-    let mut bytes = Vec::new(alloc);
-    if let Err(error) = input.read_to_end(&mut bytes) {
-        return Err(Fault::of_input(&error));
-    }
-    let events = events_of(alloc, &bytes, request.any_unit)?;
-    let frames = drawn(alloc, &request, &events)?;
+    let events = read_events(alloc, input, request.any_unit)?;
+    let screen = drawn(alloc, &request, &events)?;
     match request.command {
-        Command::Bytes => Ok(frames),
-        Command::Page => rows_written(alloc, &request, &frames),
+        Command::Bytes => write_all(out, screen.bytes()),
+        Command::Page => write_all(out, &rows_written(alloc, &request, screen.bytes())?),
     }
 }
 
@@ -116,6 +113,15 @@ fn parse_args(words: &[String]) -> Result<Request, Fault> {
         colored,
         any_unit,
     })
+}
+
+/// Reads all lines as events.
+fn read_events<R: Read>(alloc: Global, input: &mut R, any_unit: bool) -> Result<Vec<Event>, Fault> {
+    let mut bytes = Vec::new(alloc);
+    if let Err(error) = input.read_to_end(&mut bytes) {
+        return Err(Fault::of_input(&error));
+    }
+    events_of(alloc, &bytes, any_unit)
 }
 
 /// Parses each line as an event. The last line may lack its line feed.
@@ -152,8 +158,8 @@ fn has_listed_unit(line: &str) -> bool {
     false
 }
 
-/// Returns the bytes of all frames that the events draw.
-fn drawn(alloc: Global, request: &Request, events: &[Event]) -> Result<Vec<u8>, Fault> {
+/// Returns a screen with the bytes of all frames that the events draw.
+fn drawn(alloc: Global, request: &Request, events: &[Event]) -> Result<MemoryScreen, Fault> {
     let options = SessionOptions {
         root: RootOptions::default(),
         draw: draw::Options {
@@ -173,7 +179,7 @@ fn drawn(alloc: Global, request: &Request, events: &[Event]) -> Result<Vec<u8>, 
     if replies.iter().any(is_out_of_memory) {
         return Err(Fault::Memory);
     }
-    Ok(Vec::from_slice(alloc, screen.bytes())?)
+    Ok(screen)
 }
 
 /// Whether an event ran out of memory. A `MemoryScreen` breaks only if it can't grow.
