@@ -1,4 +1,4 @@
-//! Tests of the tree, its sessions and runs, and the dashboard. Nothing uses this crate.
+//! Tests of the tree, its sessions and runs, the dashboard, and scripts. Nothing uses this crate.
 #![tactic(auto)]
 
 #[cfg(test)]
@@ -23,6 +23,8 @@ mod level_prefix;
 mod options;
 #[cfg(test)]
 mod runs;
+#[cfg(test)]
+mod script_lines;
 #[cfg(test)]
 mod tables;
 pub mod tasks;

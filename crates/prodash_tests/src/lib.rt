@@ -1,4 +1,5 @@
-//! Tests of the locked tree, which call it through `prodash` as a user does. Nothing uses this crate.
+//! Tests of the locked tree, of the traits of progress and of what wraps it, which call them through
+//! `prodash` as a user does. Nothing uses this crate.
 #![tactic(auto)]
 
 pub mod caller;
@@ -13,4 +14,10 @@ mod mirror;
 #[cfg(test)]
 mod paths;
 #[cfg(test)]
+mod reporters;
+#[cfg(test)]
 mod system_clock;
+#[cfg(test)]
+mod traits;
+#[cfg(test)]
+mod wrappers;
