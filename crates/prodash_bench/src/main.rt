@@ -2,14 +2,11 @@
 //! `bin/fail-each` refuses memory to those of the workload `recorded`.
 #![tactic(auto)]
 
-ghost use Rattle.std.specs.Prelude.{◌≡◌, IfErr};
-ghost use Rattle.prodash_programs.specs.Faults.{status_of};
-
 mod frames;
 mod recorded;
 mod workloads;
 
-use prodash_programs::{Fault, arguments, report};
+use prodash_programs::{Fault, arguments, number, report};
 use std::alloc::Global;
 use std::process::ExitCode;
 use std::sync::Wait;
@@ -37,16 +34,12 @@ fn run<R: Wait + Print + Alloc<A = Global> + Clone + Drop>(
     match words {
         [_, name, ..] if name.as_str() == "recorded" => recorded::run(&rt, alloc),
         [_, name, tasks, count, ..] => {
-            let (tasks, count) = (number(tasks.as_str())?, number(count.as_str())?);
+            let (tasks, count) = (
+                number(tasks.as_str(), USAGE)?,
+                number(count.as_str(), USAGE)?,
+            );
             workloads::run(rt, alloc, name.as_str(), tasks, count)
         }
         _ => Err(USAGE),
     }
-}
-
-/// Parses an argument as a number.
-fn number(word: &str) -> Result<u64, Fault>
-    ensures { IfErr result (λ fault. status_of fault ≡ 2) }
-{
-    word.parse::<u64>().or(Err(USAGE))
 }

@@ -1,9 +1,13 @@
 //! What the crates of tests build their inputs with: short forms of rows and messages, frames that
-//! more than one of them expects, options, and a screen that breaks.
+//! more than one of them expects, options, and a screen that breaks. And a record of calls, some of
+//! which may be out of memory.
 #![tactic(auto)]
 
 ghost use Rattle.std.specs.Prelude.{take};
 
+mod calls;
+
+pub use calls::Calls;
 use prodash_base::messages::{Message, MessageLevel, Messages};
 use prodash_base::progress::{Key, Row, Rows, State, UNKNOWN, Value};
 use prodash_base::{Refusal, Text};

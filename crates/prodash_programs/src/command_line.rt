@@ -1,4 +1,5 @@
-ghost use Rattle.std.specs.Prelude.{IfErr};
+ghost use Rattle.std.specs.Prelude.{◌≡◌, IfErr};
+ghost use Rattle.std.specs.Str.Parse.{ParsesUnsigned};
 ghost use Rattle.prodash_programs.specs.Faults.{IsMemoryOr};
 
 use crate::fault::Fault;
@@ -25,4 +26,16 @@ pub fn arguments<R: Env + Alloc<A = Global>>(rt: &R, fault: Fault) -> Result<Vec
         Err(error) if error.kind() == io::ErrorKind::OutOfMemory => Err(Fault::Memory),
         Err(_) => Err(fault),
     }
+}
+
+/// Parses an argument as a number: decimal digits, perhaps behind a `+`, up to 2^64-1.
+///
+/// # Errors
+///
+/// `fault`, if it is none.
+pub fn number(word: &str, fault: Fault) -> Result<u64, Fault>
+    ensures number { ParsesUnsigned 64 10 word.now result }
+    ensures err { IfErr result (λ it. it ≡ fault) }
+{
+    word.parse::<u64>().or(Err(fault))
 }

@@ -5,7 +5,7 @@ mod command_line;
 mod fault;
 mod output;
 
-pub use command_line::arguments;
+pub use command_line::{arguments, number};
 pub use fault::Fault;
 pub use output::{report, write_all};
 pub use prodash_terminal::{Environment, dimension};

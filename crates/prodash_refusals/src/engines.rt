@@ -1,9 +1,9 @@
 //! Frames that an engine draws.
-use crate::calls::Calls;
 use crate::scene::WeakScene;
 use prodash::Refusal;
 use prodash::render::line::draw::{self, Answer, MemoryScreen};
 use prodash::render::line::engine::{Engine, EngineEvent};
+use prodash_fixtures::Calls;
 use prodash_programs::Fault;
 use std::alloc::Global;
 use std::sync::Arc;

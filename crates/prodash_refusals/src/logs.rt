@@ -1,5 +1,4 @@
 //! Calls on progress that is logged.
-use crate::calls::Calls;
 use log::kv::Source;
 use log::span::Spans;
 use log::{Log as Logger, Metadata, Record};
@@ -7,6 +6,7 @@ use prodash::Refusal;
 use prodash::messages::MessageLevel;
 use prodash::progress::Log;
 use prodash::time::SystemClock;
+use prodash_fixtures::Calls;
 use prodash_programs::Fault;
 use std::alloc::Global;
 use std::fmt::Display;

@@ -2,7 +2,6 @@
 //! is made again. `bin/fail-each` refuses each allocation of a case in turn.
 #![tactic(auto)]
 
-mod calls;
 mod engines;
 mod logs;
 mod messages;
@@ -14,7 +13,7 @@ mod sessions;
 mod texts;
 mod tree;
 
-use calls::Calls;
+use prodash_fixtures::Calls;
 use prodash_programs::{Fault, arguments, report};
 use std::alloc::Global;
 use std::process::ExitCode;
@@ -33,7 +32,7 @@ fn main(rt: HostRuntime) -> ExitCode {
         Ok(words) => run(&rt, rt.alloc(), &words, &mut calls),
         Err(fault) => Err(fault),
     };
-    match (calls.wrong(), ended) {
+    match (calls.wrong, ended) {
         (Some(call), _) => {
             let _ = eprintln!(&rt; "{call} is wrong");
             ExitCode::FAILURE
@@ -66,8 +65,8 @@ fn run<R: Threads + Wait + Print + rt::Clock + Clone + Drop + Send + Sync + 'sta
         "renders" => renders::run(rt, alloc, calls)?,
         _ => return Err(USAGE),
     }
-    if calls.wrong().is_some() {
+    if calls.wrong.is_some() {
         return Ok(());
     }
-    println!(rt; "{} refused", calls.refused()).or(Err(Fault::Output))
+    println!(rt; "{} refused", calls.refused).or(Err(Fault::Output))
 }

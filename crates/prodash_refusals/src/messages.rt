@@ -1,7 +1,7 @@
 //! Calls on a ring of messages.
-use crate::calls::Calls;
 use prodash::Refusal;
 use prodash::messages::{Message, MessageCopyState, MessageLevel, MessageRingBuffer};
+use prodash_fixtures::Calls;
 use prodash_programs::Fault;
 use std::alloc::Global;
 

@@ -1,7 +1,7 @@
 //! Calls on a page, and the reading of what is written on it.
-use crate::calls::Calls;
 use prodash::Refusal;
 use prodash::render::line::page::{self, Page, Sign};
+use prodash_fixtures::Calls;
 use prodash_programs::Fault;
 use std::alloc::Global;
 

@@ -1,8 +1,8 @@
 //! Calls on a tracker of throughput.
-use crate::calls::Calls;
 use prodash::Throughput;
 use prodash::progress::{Key, Step};
 use prodash::unit::display;
+use prodash_fixtures::Calls;
 use prodash_programs::Fault;
 use std::alloc::Global;
 

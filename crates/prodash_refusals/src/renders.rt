@@ -1,11 +1,11 @@
 //! Renderers of a tree that threads share, and tasks that report their throughput.
-use crate::calls::Calls;
 use prodash::Refusal;
 use prodash::messages::{Message, MessageLevel};
 use prodash::progress::ThroughputOnDrop;
 use prodash::render::line::{JoinHandle, Options, render};
 use prodash::time::SystemClock;
 use prodash::tree::Root;
+use prodash_fixtures::Calls;
 use prodash_programs::Fault;
 use std::alloc::Global;
 use std::io::{self, Write};
@@ -56,7 +56,7 @@ fn report<R: Wait + rt::Clock + Clone + Drop + Send + Sync>(
     clock: &Arc<SystemClock<R>>,
     calls: &mut Calls,
 ) -> Result<(), Fault> {
-    let before = calls.refused();
+    let before = calls.refused;
     for _ in 0..2 {
         calls.begin("ThroughputOnDrop::drop");
         let count = messages(alloc, root)?.len();
@@ -65,7 +65,7 @@ fn report<R: Wait + rt::Clock + Clone + Drop + Send + Sync>(
         task.set(4);
         drop(ThroughputOnDrop::new(alloc, task, Arc::try_clone(clock)?));
         if messages(alloc, root)?.len() == count {
-            let is_first = calls.refused() == before;
+            let is_first = calls.refused == before;
             calls.refuse(Refusal::Memory, is_first);
         }
     }

@@ -1,5 +1,4 @@
 //! Events of a session, whose frames are written on a screen in memory.
-use crate::calls::Calls;
 use prodash::messages::MessageLevel;
 use prodash::progress::UNKNOWN;
 use prodash::render::line::draw::{self, MemoryScreen};
@@ -8,6 +7,7 @@ use prodash::tree::{Event, Reply, RootOptions, Session, SessionOptions};
 use prodash::unit::display::Mode;
 use prodash::unit::label_and_mode;
 use prodash::{Refusal, Text};
+use prodash_fixtures::Calls;
 use prodash_programs::Fault;
 use std::alloc::Global;
 

@@ -1,5 +1,4 @@
 //! Calls that append a value in its unit to a string, or return a text.
-use crate::calls::Calls;
 use prodash::Refusal;
 use prodash::progress::Step;
 use prodash::time::format_time_for_messages;
@@ -8,6 +7,7 @@ use prodash::unit::human::Formatter;
 use prodash::unit::{
     Bytes, Duration, Human, Kind, Range, dynamic, dynamic_and_mode, throughput_message,
 };
+use prodash_fixtures::Calls;
 use prodash_programs::Fault;
 use std::alloc::Global;
 

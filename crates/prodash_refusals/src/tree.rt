@@ -3,12 +3,12 @@ mod changes;
 mod children;
 mod copies;
 
-use crate::calls::Calls;
 use prodash::Refusal;
 use prodash::messages::Message;
 use prodash::progress::Row;
 use prodash::tree::root::Options;
 use prodash::tree::{Item, Root};
+use prodash_fixtures::Calls;
 use prodash_programs::Fault;
 use std::alloc::Global;
 use std::sync::Wait;

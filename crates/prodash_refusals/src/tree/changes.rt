@@ -1,11 +1,11 @@
 //! Calls that change an item or send its messages.
 use super::{look, shows};
-use crate::calls::Calls;
 use prodash::Refusal;
 use prodash::messages::MessageLevel;
 use prodash::progress::State;
 use prodash::tree::{Item, Root};
 use prodash::unit::label;
+use prodash_fixtures::Calls;
 use prodash_programs::Fault;
 use std::alloc::Global;
 use std::sync::Wait;

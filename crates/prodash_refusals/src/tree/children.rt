@@ -1,9 +1,9 @@
 //! Calls that add items.
 use super::{look, shows};
-use crate::calls::Calls;
 use prodash::Refusal;
 use prodash::progress::{Id, Key, UNKNOWN};
 use prodash::tree::{Item, Root};
+use prodash_fixtures::Calls;
 use prodash_programs::Fault;
 use std::alloc::Global;
 use std::sync::Wait;

@@ -1,9 +1,9 @@
 //! Calls that copy what a tree has.
 use super::{Shown, look, shows};
-use crate::calls::Calls;
 use prodash::Refusal;
 use prodash::messages::{Message, MessageCopyState};
 use prodash::tree::{Item, Root};
+use prodash_fixtures::Calls;
 use prodash_programs::Fault;
 use std::alloc::Global;
 use std::sync::Wait;
