@@ -14,8 +14,8 @@ REFUSED, LOST, NO_GOAL = "refused at a goal", "REFUSED ONLY BY A LOST NAME", "RE
 THROUGH, UNREAD, UNTOLD = "GOT THROUGH", "DOES NOT READ", "COULD NOT BE JUDGED"
 ENDS = (REFUSED, LOST, NO_GOAL, THROUGH, UNREAD, UNTOLD)
 
-# The most edits of a round.
-ROUND = 250
+# The most edits of a round. Each round loads the libraries, and proves what its functions call.
+ROUND = 160
 
 
 class Trial:
@@ -23,8 +23,8 @@ class Trial:
 
     def __init__(self, rt, crate, room, slots, how):
         self.rt, self.crate, self.room, self.slots = rt, crate, room, slots
-        self.is_after_ci = how.is_after_ci
-        self.kept = f"{room}/{crate.name}"
+        # Where the work of checks is kept. After `rt ci` none is.
+        self.kept = None if how.is_after_ci else f"{room}/{crate.name}"
         edits = (Edit(rt, crate, it) for it in edit_files(crate, how.folders))
         below = f"{crate.name}/{how.below}"
         self.edits = [it for it in edits if f"{it.label}/".startswith(below)]
@@ -35,6 +35,8 @@ class Trial:
     def copy_kept(self):
         """Copies what the crate's own checks kept, so that nothing is written there."""
         kept = f"{self.crate.folder}/out/incremental"
+        if not self.kept:
+            return
         if os.path.isdir(kept):
             shutil.copytree(kept, self.kept)
         else:
@@ -69,31 +71,21 @@ class Trial:
         return Verdict(kit.checked(self.rt, self.crate, texts, words, kept))
 
     def check_over_copy(self, texts, *flags):
-        """Checks the crate with these texts, over its own copy of the kept work."""
+        """Checks the crate with these texts, over its own copy of the kept work if there is any."""
+        if not self.kept:
+            return self.check_and_keep(texts, *flags)
         slot, folder = self.slots.slot(len(self.edits)), {"prefix": "kept-", "dir": self.room}
         with slot, tempfile.TemporaryDirectory(**folder) as kept:
             shutil.copytree(self.kept, kept, dirs_exist_ok=True)
             return self.check(texts, kept, flags)
 
     def check_and_keep(self, texts, *flags):
-        """Checks the crate with these texts, which brings the kept work up to date.
+        """Checks the crate with these texts, which brings the kept work up to date if any is kept.
 
-        No other check of the crate may run beside it.
+        Then no other check of the crate may run beside it.
         """
         with self.slots.slot(len(self.edits)):
             return self.check(texts, self.kept, flags)
-
-    def check_first(self, texts, *flags):
-        """Checks the crate with the edits of its first round.
-
-        After `rt ci` only the crate with the most edits needs several processors, and kept work for
-        its other rounds. Copies of the prover do what is kept, and each loads the libraries. A check
-        that keeps nothing takes a sixth less.
-        """
-        if not self.is_after_ci or len(self.edits) == self.slots.largest:
-            return self.check_and_keep(texts, *flags)
-        with self.slots.slot(len(self.edits)):
-            return self.check(texts, None, flags)
 
     def run(self):
         """Tries all edits."""
@@ -104,29 +96,33 @@ class Trial:
         if not edits:
             return
         alone = [it for it in edits if not it.function]
-        rounds = rounds_of([it for it in edits if it.function], ROUND, self.read)
+        rounds = rounds_of([it for it in edits if it.function], self.most(), self.read)
         said = f"{len(edits)} edits: {len(rounds)} rounds, and {len(alone)} alone"
         self.say(f"{self.crate.name}: {said}")
-        in_first = rounds.pop(0) if self.is_after_ci and rounds else []
-        # what no round is to use is not proved
-        flags = self.flags_for(edits, in_first) if in_first else []
-        first, left = self.first_round(in_first, *flags)
-        if not first.judges() or not self.is_after_ci and not first.is_proved():
-            why = f"not proved without any edit, so none is tried: {first.lines[-1]}"
+        if not self.kept or self.is_proved_without(edits):
+            self.try_rounds(rounds, alone)
+
+    def most(self):
+        """Returns the most edits of a round of this crate, in rounds of about one length."""
+        count = -(-len(self.edits) // ROUND)
+        return -(-len(self.edits) // count)
+
+    def is_proved_without(self, edits):
+        """Returns whether the crate is proved as it is, and ends the edits of no function of it."""
+        verdict = self.check_and_keep({})
+        if not verdict.is_proved():
+            why = f"not proved without any edit, so none is tried: {verdict.lines[-1]}"
             self.say(f"{self.crate.name}: {why}")
-            return
+            return False
         for edit in edits:
-            if edit.function and edit.function not in first.functions:
+            if edit.function and edit.function not in verdict.functions:
                 self.end(edit, UNREAD, f"there is no function {edit.function}")
-        left = [it for it in alone + left if it.label not in self.ends]
-        self.try_rounds(rounds, left)
+        return True
 
     def try_rounds(self, rounds, left):
-        """Tries the edits of rounds that have not ended, and then those that these leave open."""
-        ended = {it.label for it in left} | set(self.ends)
-        rounds = [[it for it in each if it.label not in ended] for each in rounds]
-        if self.is_after_ci and rounds:
-            left = left + self.try_round(rounds.pop(0), self.check_and_keep)
+        """Tries the edits of rounds, and then alone these and what the rounds leave open."""
+        rounds = [[it for it in each if it.label not in self.ends] for each in rounds]
+        left = [it for it in left if it.label not in self.ends]
         # more tasks than slots are no harm: a check waits for its slot
         with ThreadPoolExecutor(8) as pool:
             left = left + [edit for it in pool.map(self.try_round, rounds) for edit in it]
@@ -148,22 +144,6 @@ class Trial:
             left = still
         return alone + left
 
-    def first_round(self, edits, *flags):
-        """Checks the crate with these edits.
-
-        Returns the verdict, and the edits that it leaves open.
-        """
-        texts, left = together(edits, self.read)
-        made = [it for it in edits if it not in left]
-        verdict = self.check_first(texts, *flags)
-        if made and not verdict.judges():
-            bad = self.uncompilable(made)
-            if bad:
-                good = [it for it in made if it not in bad]
-                verdict, more = self.first_round(good, *flags)
-                return verdict, bad + left + more
-        return verdict, left + self.end_refused(made, verdict)
-
     def end_refused(self, edits, verdict):
         """Ends the edits that a round refuses, and returns the others."""
         left = []
@@ -175,16 +155,6 @@ class Trial:
                 left.append(edit)
         return left
 
-    def flags_for(self, edits, in_round=()):
-        """Returns the flags that ask for the functions of these edits, and their copies in a round.
-
-        There are none if an edit names no function.
-        """
-        names = {it.function for it in edits} | {it.tried_as() for it in in_round}
-        if None in names:
-            return []
-        return [word for it in sorted(names) for word in ("--only", it.partition("::")[2])]
-
     def try_round(self, edits, check=None):
         """Tries edits in one check, and returns those that it leaves open.
 
@@ -194,7 +164,7 @@ class Trial:
         made = [it for it in edits if it not in left]
         if len(made) < 2:
             return edits
-        verdict = (check or self.check_over_copy)(texts, *self.flags_for(made, made))
+        verdict = (check or self.check_over_copy)(texts, *asking_for(it.tried_as() for it in made))
         if verdict.judges():
             return left + self.end_refused(made, verdict)
         bad = self.uncompilable(made)
@@ -225,7 +195,7 @@ class Trial:
 
     def try_alone(self, edit):
         """Tries one edit over the whole crate."""
-        verdict = self.check_over_copy(edit.texts, *self.flags_for([edit]))
+        verdict = self.check_over_copy(edit.texts, *asking_for([edit.function]))
         self.end(edit, *self.judged(edit, verdict))
 
     def judged(self, edit, verdict):
@@ -248,3 +218,11 @@ class Trial:
         functions = verdict.functions.items()
         others = (f"{name}: {it}" for name, it in functions if it != "proved")
         return NO_GOAL, next(others, verdict.lines[-1])[:300]
+
+
+def asking_for(names):
+    """Returns the flags that ask for functions by their names. There are none if one has no name."""
+    names = {*names}
+    if None in names:
+        return []
+    return [word for it in sorted(names) for word in ("--only", it.partition("::")[2])]
