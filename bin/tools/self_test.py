@@ -86,6 +86,7 @@ BESIDE_CI = (
     "edits/OneCounts/count/three",
     "edits/same/in_a_copy",
     "edits/zero/names_nothing",
+    "edits/none/names_no_function",
 )
 
 

@@ -158,7 +158,8 @@ class Trial:
     def try_round(self, edits, check=None):
         """Tries edits in one check, and returns those that it leaves open.
 
-        It goes over a copy of the kept work, unless another check is given.
+        It goes over a copy of the kept work, unless another check is given. Edits of functions that
+        the crate doesn't have are ended.
         """
         texts, left = together(edits, self.read)
         made = [it for it in edits if it not in left]
@@ -167,10 +168,15 @@ class Trial:
         verdict = (check or self.check_over_copy)(texts, *asking_for(it.tried_as() for it in made))
         if verdict.judges():
             return left + self.end_refused(made, verdict)
-        bad = self.uncompilable(made)
+        bad = [it for it in made if it.tried_as() == f"{self.crate.name}::{verdict.unknown()}"]
+        for it in bad:
+            self.end(it, UNREAD, f"there is no function {it.function}")
+        if not bad:
+            bad = self.uncompilable(made)
+            left = bad + left
         if not bad:
             return edits
-        return bad + left + self.try_round([it for it in made if it not in bad], check)
+        return left + self.try_round([it for it in made if it not in bad], check)
 
     def uncompilable(self, edits):
         """Finds by halves the edits that do not compile.

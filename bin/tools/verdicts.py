@@ -3,6 +3,7 @@ import re
 
 GOALS = re.compile(r"`search` did not prove ((?:`[^`]+`(?:, | and )?)+)")
 ERROR = re.compile(r"(?m)^(?:\./)?(proofs/\S+?\.antt):\d+:\d+: error: (?:`([^`]+)`: )?(.*)")
+UNKNOWN = re.compile(r"error: `[^`]*` has no function `([^`]+)`")
 # Errors that follow from another one.
 FOLLOWS = re.compile(r"declarations? that depends? on|was not admitted")
 # Errors of a proof file that names what is no longer there.
@@ -27,6 +28,11 @@ class Verdict:
     def judges(self):
         """Returns whether the check came to the functions at all."""
         return bool(self.functions) and any(it.startswith(("logic=", "only=")) for it in self.lines)
+
+    def unknown(self):
+        """Returns the name that was asked for, below the crate, if no function has it, or None."""
+        found = UNKNOWN.search(self.text)
+        return found and found[1]
 
     def compiles(self):
         """Returns whether a check that was asked for no proof found nothing wrong."""
