@@ -227,7 +227,7 @@ class Trial:
 
 
 def asking_for(names):
-    """Returns the flags that ask for functions by their names. There are none if one has no name."""
+    """Returns the flags that ask for the functions of these names, or none if one is None."""
     names = {*names}
     if None in names:
         return []
