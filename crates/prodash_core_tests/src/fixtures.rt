@@ -3,11 +3,15 @@ use prodash_base::Refusal;
 use prodash_base::messages::MessageCopyState;
 use prodash_core::tree::Reply;
 pub(crate) use prodash_fixtures::{
-    FakeScreen, ShortMessage, ShortRow, TERMINAL, clones, key_at, messages, row, rows,
+    FakeScreen, MESSAGE_FRAME, Progress, ShortMessage, ShortRow, TASK_FRAME, TERMINAL, clones,
+    key_at, message, messages, row, rows,
 };
 use std::alloc::{AllocError, Global};
+use std::collections::HashMap;
 use std::fmt::Debug;
+use std::hash::Hash;
 use std::process::Abort;
+use std::test::Fail;
 
 /// Asserts that both are equal; `of` names the row of a table. A call is proved in a tenth of the
 /// time that `assert_eq!` takes.
@@ -27,6 +31,33 @@ pub(crate) fn assert_distinct<T: PartialEq>(rt: &impl Abort, values: &[T], copie
             assert_same(rt, value == copy, i == j, (i, j));
         }
     }
+}
+
+/// The values ascend, and no two are equal.
+pub(crate) fn assert_ascending<T: Ord>(rt: &impl Abort, values: &[T]) {
+    for (i, value) in values.iter().enumerate() {
+        for (j, other) in values.iter().enumerate() {
+            let got = (value.cmp(other), value.partial_cmp(other), value == other);
+            let want = (i.cmp(&j), Some(i.cmp(&j)), i == j);
+            assert_same(rt, got, want, (i, j));
+        }
+    }
+}
+
+/// A map from the values to their places finds each at its own.
+pub(crate) fn assert_hashed<K: Hash + Eq + Copy + Drop>(
+    rt: &impl Abort,
+    alloc: Global,
+    values: &[K],
+) -> Result<(), Fail> {
+    let mut places = HashMap::new(alloc);
+    for (n, value) in values.iter().enumerate() {
+        assert_same(rt, places.insert(*value, n)?, None, n);
+    }
+    for (n, value) in values.iter().enumerate() {
+        assert_same(rt, places.get(value).copied(), Some(n), n);
+    }
+    Ok(())
 }
 
 /// A reply, in short.

@@ -1,4 +1,5 @@
-//! What the files of tests share: what they build inputs with, and an assertion.
+//! What the files of tests share: what they build inputs with, and assertions.
+use prodash::tree::Reply;
 pub(crate) use prodash_fixtures::{ShortRow, TASK_FRAME, TERMINAL, key_at, messages, rows};
 use std::fmt::Debug;
 use std::process::Abort;
@@ -11,4 +12,9 @@ where
     N: Debug + Drop,
 {
     assert_eq!(rt; got, want, "of {of:?}");
+}
+
+/// Asserts that both replies are equal.
+pub(crate) fn assert_reply(rt: &impl Abort, got: &Reply, want: &Reply, of: &str) {
+    assert_eq!(rt; *got, *want, "of {of}");
 }

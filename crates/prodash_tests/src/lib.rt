@@ -1,18 +1,27 @@
-//! Tests of the locked tree, of the traits of progress and of what wraps it, which call them through
-//! `prodash` as a user does. Nothing uses this crate.
+//! Tests of the locked tree, of the recorded tree and its journals, and of the traits of progress and
+//! what wraps it, which call them through `prodash` as a user does. Nothing uses this crate.
 #![tactic(auto)]
 
-pub mod caller;
+#[cfg(test)]
+mod caller;
+#[cfg(test)]
+mod child_numbers;
 #[cfg(test)]
 mod drawn_caller;
 #[cfg(test)]
 mod fixtures;
+#[cfg(test)]
+mod journal_lines;
 #[cfg(test)]
 mod locked;
 #[cfg(test)]
 mod mirror;
 #[cfg(test)]
 mod paths;
+#[cfg(test)]
+mod receipts;
+#[cfg(test)]
+mod recorded;
 #[cfg(test)]
 mod reporters;
 #[cfg(test)]

@@ -3,9 +3,9 @@ ghost use Rattle.std.specs.Prelude.{◌≡◌, false};
 ghost use Rattle.prodash_core.specs.Trees.{is_frame};
 
 use crate::child_numbers::{assert_last_row, call_children};
-use crate::fixtures::{assert_last, assert_reply, assert_same};
+use crate::fixtures::{assert_reply, assert_same};
 use crate::journal_lines::{assert_lines, call_written};
-use crate::receipts::{assert_receipts, assert_rising, call_in_order};
+use crate::receipts::{assert_last, assert_receipts, assert_rising, call_in_order};
 use prodash::progress::{Rows, UNKNOWN};
 use prodash::time::Moment;
 use prodash::tree::recorded::{

@@ -85,3 +85,15 @@ pub(crate) fn assert_receipts<C: TreeLedger>(
     assert_all(rt, numbers);
     Ok(())
 }
+
+/// Asserts that the last of these receipts has this reply.
+pub(crate) fn assert_last<C: TreeLedger>(
+    rt: &impl Abort,
+    receipts: &[Receipt<C>],
+    want: &Reply,
+    of: &str,
+) -> Result<(), Fail> {
+    let last = receipts.last().ok_or("no receipt")?;
+    assert_reply(rt, last.reply(), want, of);
+    Ok(())
+}

@@ -1,4 +1,4 @@
-use Rattle.prodash_recorded_tests.proofs.recorded.on_new_tree.Given as goal
+use Rattle.prodash_tests.proofs.recorded.on_new_tree.Given as goal
 
 abbrev pub ghosts-done-C-TreeLedger : goal.ghosts-done-C-TreeLedger
 ghosts-done-C-TreeLedger g a = record {

@@ -1,36 +1,15 @@
-//! What the files of tests share: inputs of a renderer in short, and assertions.
+//! What the tests of frames share: inputs of a renderer in short, and assertions of its bytes.
+use crate::fixtures::{
+    FakeScreen, Progress, ShortMessage, TERMINAL, assert_same, key_at, messages, row,
+};
 use prodash_base::Refusal;
 use prodash_base::messages::MessageCopyState;
 use prodash_base::progress::{Row, Rows, State, Value};
 use prodash_base::unit::{Kind, dynamic};
-pub(crate) use prodash_fixtures::{
-    FakeScreen, MESSAGE_FRAME, Progress, ShortMessage, TASK_FRAME, TERMINAL, key_at, messages, row,
-};
 use prodash_line::render::line::draw::{self, Answer, Input, MemoryScreen, Screen};
 use std::alloc::{AllocError, Global};
-use std::fmt::Debug;
 use std::process::Abort;
 use std::test::Fail;
-
-/// Asserts that both are equal; `of` names the row of a table. A call is proved in a tenth of the
-/// time that `assert_eq!` takes.
-pub(crate) fn assert_same<T, N>(rt: &impl Abort, got: T, want: T, of: N)
-where
-    T: PartialEq + Debug + Drop,
-    N: Debug + Drop,
-{
-    assert_eq!(rt; got, want, "of {of:?}");
-}
-
-/// Asserts that each value equals the copy at its index, and no other copy.
-pub(crate) fn assert_distinct<T: PartialEq>(rt: &impl Abort, values: &[T], copies: &[T]) {
-    assert_same(rt, values.len(), copies.len(), "lengths");
-    for (i, value) in values.iter().enumerate() {
-        for (j, copy) in copies.iter().enumerate() {
-            assert_same(rt, value == copy, i == j, (i, j));
-        }
-    }
-}
 
 /// A task below the root: its name, and its progress.
 pub(crate) type Task = (&'static str, Progress);

@@ -1,5 +1,6 @@
 //! A journal as lines: what two workers did is written, read again, and done on a new tree.
-use crate::fixtures::{assert_last, assert_same};
+use crate::fixtures::assert_same;
+use crate::receipts::assert_last;
 use crate::recorded::{Replay, Round, Task, Work, add, assert_replayed, call_lines, on_new_tree};
 use prodash::Refusal;
 use prodash::tree::recorded::{Journal, Receipt, RecordedItem, TreeLedger};

@@ -1,5 +1,6 @@
-use crate::fixtures::Ask::{Quit, Show};
-use crate::fixtures::{Ask, FakeScreen, TASK_FRAME, assert_same, draw, renderer, tick};
+use crate::drawings::Ask::{Quit, Show};
+use crate::drawings::{Ask, draw, renderer, tick};
+use crate::fixtures::{FakeScreen, TASK_FRAME, assert_same};
 use prodash_base::Refusal;
 use prodash_fixtures::{key_at, row};
 use prodash_line::render::line::draw::{self, Answer, MemoryScreen, Screen};

@@ -1,5 +1,6 @@
-use crate::fixtures::Ask::{Print, Quit, Show};
-use crate::fixtures::{Ask, Task, assert_same, draw, renderer};
+use crate::drawings::Ask::{Print, Quit, Show};
+use crate::drawings::{Ask, Task, draw, renderer};
+use crate::fixtures::assert_same;
 use Outcome::{Fails, Takes};
 use prodash_base::Refusal;
 use prodash_line::render::line::draw::{Answer, MemoryScreen, OverWrite, Screen};

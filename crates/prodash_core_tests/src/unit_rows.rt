@@ -1,5 +1,5 @@
-use crate::fixtures::Ask::Measure;
-use crate::fixtures::{Drawing, assert_draws};
+use crate::drawings::Ask::Measure;
+use crate::drawings::{Drawing, assert_draws};
 use prodash_base::unit::human::Formatter;
 use prodash_base::unit::{Bytes, Duration, Human, Kind, Range};
 use std::test::Fail;

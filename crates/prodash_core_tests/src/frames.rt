@@ -1,8 +1,6 @@
-use crate::fixtures::Ask::{Hide, Print, Quit, Rootless, Show};
-use crate::fixtures::{
-    Ask, Drawing, MESSAGE_FRAME, Progress, TASK_FRAME, Task, assert_draws, assert_same, draw,
-    renderer,
-};
+use crate::drawings::Ask::{Hide, Print, Quit, Rootless, Show};
+use crate::drawings::{Ask, Drawing, Task, assert_draws, draw, renderer};
+use crate::fixtures::{MESSAGE_FRAME, Progress, TASK_FRAME, assert_same};
 use prodash_base::Refusal;
 use prodash_base::messages::MessageCopyState;
 use prodash_line::render::line::draw::MemoryScreen;

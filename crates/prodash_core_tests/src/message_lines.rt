@@ -1,5 +1,5 @@
-use crate::fixtures::Ask::{Print, Resize, Show};
-use crate::fixtures::{Drawing, assert_draws};
+use crate::drawings::Ask::{Print, Resize, Show};
+use crate::drawings::{Drawing, assert_draws};
 use std::test::Fail;
 
 #[rattlefmt::skip]

@@ -1,8 +1,7 @@
 //! Frames that erase the rows that they write on.
-use crate::fixtures::Ask::{Hide, Measure, Print, PrintHidden, Quit, Resize, Show};
-use crate::fixtures::{
-    Ask, Drawing, Progress, TERMINAL, Task, assert_draws, assert_draws_with, assert_same, draw,
-};
+use crate::drawings::Ask::{Hide, Measure, Print, PrintHidden, Quit, Resize, Show};
+use crate::drawings::{Ask, Drawing, Task, assert_draws, assert_draws_with, draw};
+use crate::fixtures::{Progress, TERMINAL, assert_same};
 use prodash_base::Refusal;
 use prodash_base::unit::Kind;
 use prodash_line::render::line::draw::{MemoryScreen, Options, State};
