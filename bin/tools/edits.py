@@ -22,7 +22,7 @@ class Edit:
         # The folders below edits/ name the function that must be refused, as those of proofs/ do.
         # An edit of must-fail/ names none.
         modules = folder.split(os.sep)[1:]
-        self.crate, self.names = crate, modules
+        self.crate, self.file, self.names = crate, file, modules
         self.function = "::".join([crate.name, *modules]) if modules else None
         self.label = "/".join([crate.name, *modules, name.removesuffix(".edit")])
         # The changed files by their paths, or why the edit can't be applied.

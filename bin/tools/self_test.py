@@ -90,6 +90,10 @@ BESIDE_CI = (
 )
 
 
+# What is tried by two runs, of which the second knows the first edit from the other.
+AGAIN = ("edits/lesser/wrong_body", "edits/lesser/right_body_of_a_copy")
+
+
 def write(top, path, text):
     os.makedirs(os.path.dirname(f"{top}/{path}"), exist_ok=True)
     with open(f"{top}/{path}", "w", encoding="utf-8") as it:
@@ -99,17 +103,26 @@ def write(top, path, text):
 def run(rt, try_crates, how, jobs):
     """Tries the edits of a repository made for this, each way, and returns the exit status."""
     attempt = functools.partial(try_edits, rt, try_crates, jobs)
+    beside = functools.partial(how, is_after_ci=True, proved=["small\n"])
     tried = attempt(EDITS, how(), "")
-    tried += attempt(BESIDE_CI, how(is_after_ci=True, proved=["small\n"]), ", beside rt ci")
+    tried += attempt(BESIDE_CI, beside(), ", beside rt ci")
+    with tempfile.TemporaryDirectory(prefix="try-edits-store-") as store:
+        tried += attempt(AGAIN, beside(store=store), ", at first")
+        tried += attempt(AGAIN, beside(store=store), ", by a later run", recalled=1)
+        tried += attempt(AGAIN[:1], beside(store=store), ", of another source", line="// another\n")
     print(f"self-test: {sum(tried)} passed, {len(tried) - sum(tried)} failed")
     return 0 if all(tried) else 1
 
 
-def try_edits(rt, try_crates, jobs, names, how, when):
-    """Tries these edits, and returns whether each is reported as it must be."""
+def try_edits(rt, try_crates, jobs, names, how, when, recalled=0, line=""):
+    """Tries these edits, and returns whether each is reported as it must be.
+
+    The source has one more line at its end. The last of what is returned says whether an earlier
+    run has seen as many refused as it must have.
+    """
     with tempfile.TemporaryDirectory(prefix="try-edits-test-") as top:
         for path, text in FILES.items():
-            write(top, path, text)
+            write(top, path, text + line * path.endswith(".rt"))
         for name in names:
             old, new, *_ = EDITS[name]
             text = f"file: src/lib.rt\nold: {old}\nnew: {new}\n"
@@ -125,4 +138,7 @@ def try_edits(rt, try_crates, jobs, names, how, when):
         tried.append(said[0] == end and part in said[1])
         passed = "ok" if tried[-1] else "FAILED"
         print(f"{passed}: {label} is to be reported as: {end}{when}")
+    tried.append(sum(it.recalled for it in trials) == recalled)
+    passed = "ok" if tried[-1] else "FAILED"
+    print(f"{passed}: {recalled} are to be known from an earlier run{when}")
     return tried

@@ -7,6 +7,7 @@ from concurrent.futures import ThreadPoolExecutor
 
 import kit
 from edits import Edit, edit_files, rounds_of, together
+from seen import Seen
 from verdicts import Verdict, is_lost_name
 
 # How an edit ends. All but the first fail the run.
@@ -28,9 +29,17 @@ class Trial:
         edits = (Edit(rt, crate, it) for it in edit_files(crate, how.folders))
         below = f"{crate.name}/{how.below}"
         self.edits = [it for it in edits if f"{it.label}/".startswith(below)]
+        self.seen = Seen(rt, crate, how.store) if how.store and self.edits else None
         # By label: how an edit ended, and where.
-        self.ends = {}
+        self.ends = self.ends_seen()
+        self.recalled = len(self.ends)
+        self.left = [it for it in self.edits if it.label not in self.ends]
         self.checks, self.printing = 0, threading.Lock()
+
+    def ends_seen(self):
+        """Returns the ends of the edits that an earlier run has seen refused."""
+        goals = {it.label: self.seen.goal(it) for it in self.edits if self.seen and it.function}
+        return {label: (REFUSED, goal) for label, goal in goals.items() if goal}
 
     def copy_kept(self):
         """Copies what the crate's own checks kept, so that nothing is written there."""
@@ -56,6 +65,8 @@ class Trial:
 
     def end(self, edit, how, where):
         self.ends[edit.label] = how, where
+        if self.seen and how == REFUSED:
+            self.seen.keep(edit, where)
         self.say(f"{edit.label}: {how}{': ' + where if where else ''}")
 
     def check(self, texts, kept, flags):
@@ -74,7 +85,7 @@ class Trial:
         """Checks the crate with these texts, over its own copy of the kept work if there is any."""
         if not self.kept:
             return self.check_and_keep(texts, *flags)
-        slot, folder = self.slots.slot(len(self.edits)), {"prefix": "kept-", "dir": self.room}
+        slot, folder = self.slots.slot(len(self.left)), {"prefix": "kept-", "dir": self.room}
         with slot, tempfile.TemporaryDirectory(**folder) as kept:
             shutil.copytree(self.kept, kept, dirs_exist_ok=True)
             return self.check(texts, kept, flags)
@@ -84,15 +95,17 @@ class Trial:
 
         Then no other check of the crate may run beside it.
         """
-        with self.slots.slot(len(self.edits)):
+        with self.slots.slot(len(self.left)):
             return self.check(texts, self.kept, flags)
 
     def run(self):
-        """Tries all edits."""
-        for edit in self.edits:
+        """Tries all edits but those that an earlier run has seen refused."""
+        if self.recalled:
+            self.say(f"{self.crate.name}: {self.recalled} edits were refused by an earlier run")
+        for edit in self.left:
             if edit.fault:
                 self.end(edit, UNREAD, edit.fault)
-        edits = [it for it in self.edits if not it.fault]
+        edits = [it for it in self.left if not it.fault]
         if not edits:
             return
         alone = [it for it in edits if not it.function]
@@ -104,8 +117,8 @@ class Trial:
 
     def most(self):
         """Returns the most edits of a round of this crate, in rounds of about one length."""
-        count = -(-len(self.edits) // ROUND)
-        return -(-len(self.edits) // count)
+        count = -(-len(self.left) // ROUND)
+        return -(-len(self.left) // count)
 
     def is_proved_without(self, edits):
         """Returns whether the crate is proved as it is, and ends the edits of no function of it."""
