@@ -6,9 +6,8 @@ use prodash_base::progress::key::SiblingLocation::{
     self, Above, AboveAndBelow as Both, Below, NotFound as No,
 };
 use prodash_base::progress::key::{Adjacency, Key, Level};
-use std::alloc::{AllocError, Global};
+use std::alloc::Global;
 use std::process::Abort;
-use std::test::Fail;
 
 const TASKS: &[&[u32]] = &[&[1], &[1, 1], &[1, 2], &[2]];
 
@@ -77,34 +76,29 @@ pub(crate) fn assert_sorted(rt: &impl Abort, rows: &[Row])
 }
 
 /// Rows without names at these keys.
-pub(crate) fn rows_at(alloc: Global, keys: &[&[u32]]) -> Result<Vec<Row>, AllocError> {
+pub(crate) fn rows_at(rt: &impl Abort, alloc: Global, keys: &[&[u32]]) -> Vec<Row> {
     let mut rows = Vec::new(alloc);
     for numbers in keys {
-        rows.push(row(alloc, key_at(numbers), "", None)?)?;
+        rows.push(row(alloc, key_at(numbers), "", None).expect(rt, "memory"))
+            .expect(rt, "memory");
     }
-    Ok(rows)
+    rows
 }
 
 /// The neighbours of the row at an index.
-fn adjacency_at(
-    rt: &impl Abort,
-    alloc: Global,
-    keys: &[&[u32]],
-    index: usize,
-) -> Result<Adjacency, AllocError> {
-    let rows = rows_at(alloc, keys)?;
+fn adjacency_at(rt: &impl Abort, alloc: Global, keys: &[&[u32]], index: usize) -> Adjacency {
+    let rows = rows_at(rt, alloc, keys);
     assert_sorted(rt, &rows);
     assert!(rt; index < rows.len());
-    Ok(Key::adjacency(&rows, index))
+    Key::adjacency(&rows, index)
 }
 
 #[test]
-fn neighbours_are_found_past_orphans(rt: HostRuntime) -> Result<(), Fail> {
+fn neighbours_are_found_past_orphans(rt: HostRuntime) {
     for (keys, index, want, level) in LOCATIONS {
-        let got = adjacency_at(&rt, rt.alloc(), keys, *index)?;
+        let got = adjacency_at(&rt, rt.alloc(), keys, *index);
         assert_same(&rt, (got, got.level()), (*want, *level), (*index, *keys));
     }
-    Ok(())
 }
 
 /// Writes the locations of two levels.

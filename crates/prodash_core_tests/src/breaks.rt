@@ -8,7 +8,6 @@ use prodash_line::render::line::draw::{self, MemoryScreen, OverWrite, Screen};
 use std::alloc::Global;
 use std::io::{self, Error, ErrorKind, Write};
 use std::process::Abort;
-use std::test::Fail;
 
 /// An event of a run, and how many bytes the run has written after it.
 #[derive(Drop)]
@@ -27,26 +26,30 @@ struct Whole {
 }
 
 /// Plays a transcript on a screen that doesn't break.
-fn play_whole(alloc: Global, options: &SessionOptions, transcript: &str) -> Result<Whole, Fail> {
-    let events = events_of(alloc, transcript)?;
-    let mut session = Session::new(alloc, options)?;
-    let mut screen = MemoryScreen::new(alloc, 0)?;
+fn play_whole(rt: &impl Abort, alloc: Global, options: &SessionOptions, transcript: &str) -> Whole {
+    let events = events_of(rt, alloc, transcript);
+    let mut session = Session::new(alloc, options).expect(rt, "no refusal");
+    let mut screen = MemoryScreen::new(alloc, 0).expect(rt, "memory");
     let mut steps = Vec::new(alloc);
     for event in &events {
         let reply = applied(alloc, &mut session, event, &mut screen);
-        steps.push(Step {
-            is_frame: event.is_frame(),
-            reply,
-            end: screen.bytes().len(),
-        })?;
+        steps
+            .push(Step {
+                is_frame: event.is_frame(),
+                reply,
+                end: screen.bytes().len(),
+            })
+            .expect(rt, "memory");
     }
     let mut bytes = Vec::new(alloc);
-    bytes.extend_from_slice(screen.bytes())?;
-    Ok(Whole {
+    bytes
+        .extend_from_slice(screen.bytes())
+        .expect(rt, "no refusal");
+    Whole {
         events,
         steps,
         bytes,
-    })
+    }
 }
 
 /// Asserts that a run has the first `taken` bytes of the whole one, and its replies. But the frames
@@ -115,10 +118,10 @@ fn assert_breaks_after(
     options: &SessionOptions,
     whole: &Whole,
     taken: usize,
-) -> Result<(), Fail> {
+) {
     for at_once in [1, usize::MAX] {
-        let mut screen = FakeScreen::new(alloc, at_once, taken, true)?;
-        let replies = ran(alloc, options, &whole.events, &mut screen)?;
+        let mut screen = FakeScreen::new(alloc, at_once, taken, true).expect(rt, "memory");
+        let replies = ran(alloc, options, &whole.events, &mut screen).expect(rt, "no refusal");
         assert_broken(rt, whole, &replies, &screen.bytes, taken, taken);
     }
     for is_full in [false, true] {
@@ -128,11 +131,10 @@ fn assert_breaks_after(
             flushes_left: usize::MAX,
             is_full,
         });
-        let replies = ran(alloc, options, &whole.events, &mut screen)?;
+        let replies = ran(alloc, options, &whole.events, &mut screen).expect(rt, "no refusal");
         let writer = screen.into_inner();
         assert_broken(rt, whole, &replies, &writer.bytes, taken, taken);
     }
-    Ok(())
 }
 
 /// Asserts that a run on a screen that breaks at a flush, after this many before it, ends as it
@@ -144,52 +146,44 @@ fn assert_breaks_at_flush(
     whole: &Whole,
     flushes: usize,
     (kept, taken): (usize, usize),
-) -> Result<(), Fail> {
+) {
     let mut screen = OverWrite::new(FailingWriter {
         bytes: Vec::new(alloc),
         writes_left: usize::MAX,
         flushes_left: flushes,
         is_full: false,
     });
-    let replies = ran(alloc, options, &whole.events, &mut screen)?;
+    let replies = ran(alloc, options, &whole.events, &mut screen).expect(rt, "no refusal");
     let writer = screen.into_inner();
     assert_broken(rt, whole, &replies, &writer.bytes, taken, kept);
-    Ok(())
 }
 
 /// Asserts that runs of a transcript end as they should on screens that break after each byte, and
 /// at each flush.
-fn assert_breaks(
-    rt: &impl Abort,
-    alloc: Global,
-    options: &SessionOptions,
-    transcript: &str,
-) -> Result<(), Fail> {
-    let whole = play_whole(alloc, options, transcript)?;
+fn assert_breaks(rt: &impl Abort, alloc: Global, options: &SessionOptions, transcript: &str) {
+    let whole = play_whole(rt, alloc, options, transcript);
     for taken in 0..whole.bytes.len() {
-        assert_breaks_after(rt, alloc, options, &whole, taken)?;
+        assert_breaks_after(rt, alloc, options, &whole, taken);
     }
     let (mut flushes, mut kept): (usize, usize) = (0, 0);
     for step in &whole.steps {
         if step.end > kept {
-            assert_breaks_at_flush(rt, alloc, options, &whole, flushes, (kept, step.end))?;
+            assert_breaks_at_flush(rt, alloc, options, &whole, flushes, (kept, step.end));
             flushes = flushes.saturating_add(1);
             kept = step.end;
         }
     }
-    Ok(())
 }
 
 #[test]
-fn runs_end_where_a_screen_breaks(rt: HostRuntime) -> Result<(), Fail> {
+fn runs_end_where_a_screen_breaks(rt: HostRuntime) {
     for transcript in RUNS {
-        assert_breaks(&rt, rt.alloc(), &options(20), transcript)?;
+        assert_breaks(&rt, rt.alloc(), &options(20), transcript);
     }
-    Ok(())
 }
 
 #[test]
-fn coloured_runs_end_where_a_screen_breaks(rt: HostRuntime) -> Result<(), Fail> {
+fn coloured_runs_end_where_a_screen_breaks(rt: HostRuntime) {
     let options = SessionOptions {
         draw: draw::Options {
             colored: true,
@@ -200,7 +194,7 @@ fn coloured_runs_end_where_a_screen_breaks(rt: HostRuntime) -> Result<(), Fail> 
         ..options(2)
     };
     for transcript in RUNS {
-        assert_breaks(&rt, rt.alloc(), &options, transcript)?;
+        assert_breaks(&rt, rt.alloc(), &options, transcript);
     }
     assert_breaks(&rt, rt.alloc(), &options, MEASURED)
 }

@@ -1,7 +1,6 @@
 use crate::fixtures::TERMINAL;
 use crate::options::assert_runs;
 use prodash_line::render::line::draw::Options;
-use std::test::Fail;
 
 /// Frames in colour on a terminal of 40 columns.
 const COLORED: Options = Options {
@@ -111,10 +110,10 @@ add 0 task; done 1 3723000000000 one; tick 0 -> Drawn
 " \u{1b}[2;32;43m01:02:03\u{1b}[0m \u{1b}[2mtask\u{1b}[0m \u{1b}[1;32mone\u{1b}[0m\n""#;
 
 #[test]
-fn colors_and_times_have_exact_bytes(rt: HostRuntime) -> Result<(), Fail> {
+fn colors_and_times_have_exact_bytes(rt: HostRuntime) {
     let alloc = rt.alloc();
-    assert_runs(&rt, alloc, COLORED, COLORED_RUNS)?;
-    assert_runs(&rt, alloc, TIMES, TIMES_RUNS)?;
-    assert_runs(&rt, alloc, COLORED_TIMES, COLORED_TIMES_RUNS)?;
+    assert_runs(&rt, alloc, COLORED, COLORED_RUNS);
+    assert_runs(&rt, alloc, TIMES, TIMES_RUNS);
+    assert_runs(&rt, alloc, COLORED_TIMES, COLORED_TIMES_RUNS);
     assert_runs(&rt, alloc, COLORED_PLAIN, COLORED_PLAIN_RUNS)
 }

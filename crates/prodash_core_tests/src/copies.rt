@@ -5,7 +5,6 @@ use prodash_base::Refusal;
 use prodash_core::tree::Session;
 use std::alloc::Global;
 use std::process::Abort;
-use std::test::Fail;
 
 /// Before the copy is made.
 const BEFORE: &str = r#"add 0 task -> Made(1)
@@ -39,32 +38,28 @@ fn copy_of(alloc: Global, session: &Session) -> Result<Session, Refusal> {
 }
 
 /// Asserts that the copy replies as in `AFTER`, and the session still does after that.
-fn assert_apart(
-    rt: &impl Abort,
-    alloc: Global,
-    session: &mut Session,
-    copy: &mut Session,
-) -> Result<(), Fail> {
-    assert_session(rt, alloc, copy, AFTER)?;
+fn assert_apart(rt: &impl Abort, alloc: Global, session: &mut Session, copy: &mut Session) {
+    assert_session(rt, alloc, copy, AFTER);
     assert_session(rt, alloc, session, AFTER)
 }
 
 #[test]
-fn copies_are_apart(rt: HostRuntime) -> Result<(), Fail> {
+fn copies_are_apart(rt: HostRuntime) {
     let alloc = rt.alloc();
-    let mut session = new_session(alloc)?;
-    assert_session(&rt, alloc, &mut session, BEFORE)?;
-    let mut copy = copy_of(alloc, &session)?;
+    let mut session = new_session(alloc).expect(&rt, "no refusal");
+    assert_session(&rt, alloc, &mut session, BEFORE);
+    let mut copy = copy_of(alloc, &session).expect(&rt, "no refusal");
     assert_apart(&rt, alloc, &mut session, &mut copy)
 }
 
-fn copy_of_new_session(alloc: Global) -> Result<Session, Refusal> {
-    copy_of(alloc, &new_session(alloc)?)
+fn copy_of_new_session(rt: &impl Abort, alloc: Global) -> Session {
+    let session = new_session(alloc).expect(rt, "no refusal");
+    copy_of(alloc, &session).expect(rt, "no refusal")
 }
 
 #[test]
-fn copies_of_new_sessions_take_messages(rt: HostRuntime) -> Result<(), Fail> {
+fn copies_of_new_sessions_take_messages(rt: HostRuntime) {
     let alloc = rt.alloc();
-    let mut copy = copy_of_new_session(alloc)?;
+    let mut copy = copy_of_new_session(&rt, alloc);
     assert_session(&rt, alloc, &mut copy, NEW)
 }

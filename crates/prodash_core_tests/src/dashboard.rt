@@ -7,7 +7,6 @@ use prodash_core::render::tui::{
 };
 use std::alloc::{AllocError, Global};
 use std::process::Abort;
-use std::test::Fail;
 
 /// A key without control, one with control, and one that is released.
 const fn pressed(code: KeyCode) -> Key {
@@ -89,20 +88,19 @@ fn offsets(state: &State) -> (u16, u16) {
 }
 
 #[test]
-fn keys_scroll_toggle_and_interrupt(rt: HostRuntime) -> Result<(), Fail> {
+fn keys_scroll_toggle_and_interrupt(rt: HostRuntime) {
     for (code, control, want, on, answer) in KEYS {
         let key = if *control {
             with_control(*code)
         } else {
             pressed(*code)
         };
-        let mut state = scrolled(rt.alloc(), 65530, 5)?;
+        let mut state = scrolled(rt.alloc(), 65530, 5).expect(&rt, "no refusal");
         assert_same(&rt, state.handle(Event::Input(key)), *answer, key);
         assert_same(&rt, offsets(&state), *want, key);
         assert_same(&rt, switches(&state), *on, key);
         assert_same(&rt, state.interrupt_mode, InterruptMode::Instantly, key);
     }
-    Ok(())
 }
 
 /// What is sent to a dashboard.
@@ -147,26 +145,21 @@ fn event_of(sent: Sent) -> Event {
 }
 
 /// A new dashboard to which all this was sent.
-fn after(
-    rt: &impl Abort,
-    alloc: Global,
-    run: &'static [(Sent, Answer)],
-) -> Result<State, AllocError> {
-    let mut state = scrolled(alloc, 0, 0)?;
+fn after(rt: &impl Abort, alloc: Global, run: &'static [(Sent, Answer)]) -> State {
+    let mut state = scrolled(alloc, 0, 0).expect(rt, "no refusal");
     for (sent, answer) in run {
         assert_same(rt, state.handle(event_of(*sent)), *answer, (*sent, run));
     }
-    Ok(state)
+    state
 }
 
 #[test]
-fn deferred_requests_wait(rt: HostRuntime) -> Result<(), Fail> {
+fn deferred_requests_wait(rt: HostRuntime) {
     for (run, mode) in RUNS {
-        let state = after(&rt, rt.alloc(), run)?;
+        let state = after(&rt, rt.alloc(), run);
         assert_same(&rt, state.interrupt_mode, *mode, *run);
         assert_same(&rt, switches(&state), OFF, *run);
     }
-    Ok(())
 }
 
 /// The key, the offsets of tasks and of messages before, and after.
@@ -184,20 +177,22 @@ const ENDS: &[(char, (u16, u16), (u16, u16))] = &[
 ];
 
 #[test]
-fn offsets_stop_at_their_ends(rt: HostRuntime) -> Result<(), Fail> {
+fn offsets_stop_at_their_ends(rt: HostRuntime) {
     for (letter, before, after) in ENDS {
-        let mut state = scrolled(rt.alloc(), before.0, before.1)?;
+        let mut state = scrolled(rt.alloc(), before.0, before.1).expect(&rt, "no refusal");
         let answer = state.handle(Event::Input(pressed(Char(*letter))));
         assert_same(&rt, answer, Redraw, (*letter, *before));
         assert_same(&rt, offsets(&state), *after, (*letter, *before));
     }
-    Ok(())
 }
 
 #[test]
-fn titles_sizes_and_information_are_stored(rt: HostRuntime) -> Result<(), Fail> {
+fn titles_sizes_and_information_are_stored(rt: HostRuntime) {
     let alloc = rt.alloc();
-    let mut state = State::new(alloc, String::from_str(alloc, "first")?);
+    let mut state = State::new(
+        alloc,
+        String::from_str(alloc, "first").expect(&rt, "memory"),
+    );
     assert_same(&rt, state.title.as_str(), "first", "title");
     assert_same(&rt, state.window_size, None, "size");
     assert_same(&rt, state.information.len(), 0, "information");
@@ -208,13 +203,14 @@ fn titles_sizes_and_information_are_stored(rt: HostRuntime) -> Result<(), Fail> 
         height: 4,
     };
     let lines = vec![in alloc;
-        Line::Title(String::from_str(alloc, "a")?),
-        Line::Text(String::from_str(alloc, "b")?),
-    ]?;
+        Line::Title(String::from_str(alloc, "a").expect(&rt, "memory")),
+        Line::Text(String::from_str(alloc, "b").expect(&rt, "memory")),
+    ]
+    .expect(&rt, "memory");
     let events = [
-        Event::SetTitle(String::from_str(alloc, "second")?),
+        Event::SetTitle(String::from_str(alloc, "second").expect(&rt, "memory")),
         Event::SetWindowSize(size),
-        Event::SetInformation(lines.clone()?),
+        Event::SetInformation(lines.clone().expect(&rt, "memory")),
     ];
     for event in events {
         assert_same(&rt, state.handle(event), Redraw, "answer");
@@ -227,40 +223,47 @@ fn titles_sizes_and_information_are_stored(rt: HostRuntime) -> Result<(), Fail> 
         lines.as_slice(),
         "information",
     );
-    Ok(())
 }
 
 #[test]
-fn lines_are_told_apart(rt: HostRuntime) -> Result<(), Fail> {
+fn lines_are_told_apart(rt: HostRuntime) {
     let alloc = rt.alloc();
     let lines = [
-        Line::Title(String::from_str(alloc, "a")?),
-        Line::Title(String::from_str(alloc, "b")?),
-        Line::Text(String::from_str(alloc, "a")?),
+        Line::Title(String::from_str(alloc, "a").expect(&rt, "memory")),
+        Line::Title(String::from_str(alloc, "b").expect(&rt, "memory")),
+        Line::Text(String::from_str(alloc, "a").expect(&rt, "memory")),
     ];
     assert_distinct(&rt, &lines, &lines);
     for line in &lines {
-        assert!(rt; line.clone()? == *line);
+        assert!(rt; line.clone().expect(&rt, "memory") == *line);
     }
-    Ok(())
 }
 
 #[test]
-fn a_copied_event_does_the_same(rt: HostRuntime) -> Result<(), Fail> {
+fn a_copied_event_does_the_same(rt: HostRuntime) {
     let alloc = rt.alloc();
-    let event = Event::SetTitle(String::from_str(alloc, "copied")?);
-    let mut state = State::new(alloc, String::from_str(alloc, "")?);
-    assert_same(&rt, state.handle(event.clone()?), Redraw, "answer");
+    let event = Event::SetTitle(String::from_str(alloc, "copied").expect(&rt, "memory"));
+    let mut state = State::new(alloc, String::from_str(alloc, "").expect(&rt, "memory"));
+    assert_same(
+        &rt,
+        state.handle(event.clone().expect(&rt, "memory")),
+        Redraw,
+        "answer",
+    );
     assert_same(&rt, state.title.as_str(), "copied", "title");
-    let shown = format!(in alloc; "{event:?} {:?}", Event::SetInterruptMode(Deferred))?;
+    let shown = format!(in alloc; "{event:?} {:?}", Event::SetInterruptMode(Deferred)).expect(
+        &rt, "memory",
+    );
     let want = "SetTitle(\"copied\") SetInterruptMode(Deferred)";
     assert_same(&rt, shown.as_str(), want, "events");
-    Ok(())
 }
 
 #[test]
-fn default_options(rt: HostRuntime) -> Result<(), Fail> {
-    let options = Options::create(rt.alloc())?.clone()?;
+fn default_options(rt: HostRuntime) {
+    let options = Options::create(rt.alloc())
+        .expect(&rt, "memory")
+        .clone()
+        .expect(&rt, "memory");
     assert_same(&rt, options.title.as_str(), "Progress Dashboard", "title");
     assert_same(&rt, options.nanoseconds_per_frame, 100_000_000, "frames");
     assert_same(&rt, options.throughput, false, "throughput");
@@ -273,5 +276,4 @@ fn default_options(rt: HostRuntime) -> Result<(), Fail> {
     assert_same(&rt, options.window_size, None, "size");
     assert_same(&rt, options.stop_if_progress_missing, true, "stop");
     assert_same(&rt, VERTICAL_LINE, "\u{2502}", "line");
-    Ok(())
 }

@@ -2,11 +2,10 @@
 use crate::drawings::Ask::{Hide, Measure, Print, PrintHidden, Quit, Resize, Show};
 use crate::drawings::{Ask, Drawing, Task, assert_draws, assert_draws_with, draw};
 use crate::fixtures::{Progress, TERMINAL, assert_same};
-use prodash_base::Refusal;
 use prodash_base::unit::Kind;
 use prodash_line::render::line::draw::{MemoryScreen, Options, State};
 use std::alloc::Global;
-use std::test::Fail;
+use std::process::Abort;
 
 const DEFENSIVE: Options = Options {
     defensive: true,
@@ -154,19 +153,19 @@ const SIZES: &[(Ask, (usize, usize))] = &[
 ];
 
 /// Draws a frame, and returns how many bytes it has.
-fn frame_size(alloc: Global, state: &mut State, ask: Ask) -> Result<usize, Refusal> {
-    let mut screen = MemoryScreen::new(alloc, 200)?;
-    draw(alloc, &mut screen, state, ask)?;
-    Ok(screen.bytes().len())
+fn frame_size(rt: &impl Abort, alloc: Global, state: &mut State, ask: Ask) -> usize {
+    let mut screen = MemoryScreen::new(alloc, 200).expect(rt, "memory");
+    draw(rt, alloc, &mut screen, state, ask).expect(rt, "no refusal");
+    screen.bytes().len()
 }
 
 #[test]
-fn defensive_frames_have_exact_bytes(rt: HostRuntime) -> Result<(), Fail> {
+fn defensive_frames_have_exact_bytes(rt: HostRuntime) {
     assert_draws_with(&rt, rt.alloc(), DEFENSIVE, FRAMES)
 }
 
 #[test]
-fn defensive_frames_hide_the_cursor(rt: HostRuntime) -> Result<(), Fail> {
+fn defensive_frames_hide_the_cursor(rt: HostRuntime) {
     let hiding = Options {
         hide_cursor: true,
         ..DEFENSIVE
@@ -175,7 +174,7 @@ fn defensive_frames_hide_the_cursor(rt: HostRuntime) -> Result<(), Fail> {
 }
 
 #[test]
-fn only_terminals_have_defensive_frames(rt: HostRuntime) -> Result<(), Fail> {
+fn only_terminals_have_defensive_frames(rt: HostRuntime) {
     let plain = Options {
         output_is_terminal: false,
         ..DEFENSIVE
@@ -184,24 +183,23 @@ fn only_terminals_have_defensive_frames(rt: HostRuntime) -> Result<(), Fail> {
 }
 
 #[test]
-fn defensive_frames_have_no_control_characters_of_texts(rt: HostRuntime) -> Result<(), Fail> {
+fn defensive_frames_have_no_control_characters_of_texts(rt: HostRuntime) {
     assert_draws_with(&rt, rt.alloc(), DEFENSIVE, CONTROLS)
 }
 
 #[test]
-fn other_frames_keep_control_characters(rt: HostRuntime) -> Result<(), Fail> {
+fn other_frames_keep_control_characters(rt: HostRuntime) {
     assert_draws(&rt, rt.alloc(), KEPT)
 }
 
 #[test]
-fn defensive_frames_have_fewer_bytes_where_lines_shrink(rt: HostRuntime) -> Result<(), Fail> {
+fn defensive_frames_have_fewer_bytes_where_lines_shrink(rt: HostRuntime) {
     let alloc = rt.alloc();
     let mut defensive = State::new(alloc, DEFENSIVE, false);
     let mut other = State::new(alloc, TERMINAL, false);
     for (n, (ask, sizes)) in SIZES.iter().enumerate() {
-        let size = frame_size(alloc, &mut defensive, *ask)?;
-        let other_size = frame_size(alloc, &mut other, *ask)?;
+        let size = frame_size(&rt, alloc, &mut defensive, *ask);
+        let other_size = frame_size(&rt, alloc, &mut other, *ask);
         assert_same(&rt, (size, other_size), *sizes, n);
     }
-    Ok(())
 }

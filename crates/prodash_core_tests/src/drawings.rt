@@ -7,9 +7,8 @@ use prodash_base::messages::MessageCopyState;
 use prodash_base::progress::{Row, Rows, State, Value};
 use prodash_base::unit::{Kind, dynamic};
 use prodash_line::render::line::draw::{self, Answer, Input, MemoryScreen, Screen};
-use std::alloc::{AllocError, Global};
+use std::alloc::Global;
 use std::process::Abort;
-use std::test::Fail;
 
 /// A task below the root: its name, and its progress.
 pub(crate) type Task = (&'static str, Progress);
@@ -35,85 +34,99 @@ pub(crate) enum Ask {
 }
 
 /// The rows of these tasks.
-fn rows(alloc: Global, tasks: &[Task]) -> Result<Vec<Row>, AllocError> {
+fn rows(rt: &impl Abort, alloc: Global, tasks: &[Task]) -> Vec<Row> {
     let mut rows = Vec::new(alloc);
     let mut number: u32 = 0;
     for (name, progress) in tasks {
-        rows.push(row(alloc, key_at(&[number]), name, *progress)?)?;
+        rows.push(row(alloc, key_at(&[number]), name, *progress).expect(rt, "memory"))
+            .expect(rt, "memory");
         number = number.saturating_add(1);
     }
-    Ok(rows)
+    rows
 }
 
 /// The row of a task `t` whose values have a unit of this kind.
 fn measured_row(
+    rt: &impl Abort,
     alloc: Global,
     kind: Kind,
     step: u64,
     done_at: Option<u64>,
-) -> Result<Vec<Row>, AllocError> {
+) -> Vec<Row> {
     let value = Value {
         step,
         done_at,
         unit: Some(dynamic(kind)),
         state: State::Running,
     };
-    let mut row = row(alloc, key_at(&[0]), "t", None)?;
+    let mut row = row(alloc, key_at(&[0]), "t", None).expect(rt, "memory");
     row.progress = Some(value);
     let mut rows = Vec::new(alloc);
-    rows.push(row)?;
-    Ok(rows)
+    rows.push(row).expect(rt, "memory");
+    rows
 }
 
 /// A tick with a root, which has seen as many messages as it prints.
 pub(crate) fn tick(
+    rt: &impl Abort,
     alloc: Global,
     show: bool,
     printed: &[ShortMessage],
     rows: Vec<Row>,
-) -> Result<Input, AllocError> {
+) -> Input {
     let state = MessageCopyState::new(printed.len() as u64);
-    Ok(Input::Tick {
+    Input::Tick {
         at: 0,
         show,
-        seen: Some((Rows::new(rows), messages(alloc, printed)?, state)),
-    })
+        seen: Some((
+            Rows::new(rows),
+            messages(alloc, printed).expect(rt, "memory"),
+            state,
+        )),
+    }
 }
 
-fn input(alloc: Global, ask: Ask) -> Result<Input, AllocError> {
+fn input(rt: &impl Abort, alloc: Global, ask: Ask) -> Input {
     match ask {
-        Ask::Show(tasks) => tick(alloc, true, &[], rows(alloc, tasks)?),
-        Ask::Hide(tasks) => tick(alloc, false, &[], rows(alloc, tasks)?),
-        Ask::Print(printed, tasks) => tick(alloc, true, printed, rows(alloc, tasks)?),
-        Ask::PrintHidden(printed, tasks) => tick(alloc, false, printed, rows(alloc, tasks)?),
+        Ask::Show(tasks) => tick(rt, alloc, true, &[], rows(rt, alloc, tasks)),
+        Ask::Hide(tasks) => tick(rt, alloc, false, &[], rows(rt, alloc, tasks)),
+        Ask::Print(printed, tasks) => tick(rt, alloc, true, printed, rows(rt, alloc, tasks)),
+        Ask::PrintHidden(printed, tasks) => tick(rt, alloc, false, printed, rows(rt, alloc, tasks)),
         Ask::Measure(kind, step, bound) => {
-            tick(alloc, true, &[], measured_row(alloc, kind, step, bound)?)
+            tick(
+                rt,
+                alloc,
+                true,
+                &[],
+                measured_row(rt, alloc, kind, step, bound),
+            )
         }
-        Ask::Rootless(show) => Ok(Input::Tick {
+        Ask::Rootless(show) => Input::Tick {
             at: 0,
             show,
             seen: None,
-        }),
-        Ask::Resize(columns, rows) => Ok(Input::Resize {
+        },
+        Ask::Resize(columns, rows) => Input::Resize {
             at: 0,
             show: true,
             columns,
             rows,
-        }),
-        Ask::Quit => Ok(Input::Quit { at: 0 }),
+        },
+        Ask::Quit => Input::Quit { at: 0 },
     }
 }
 
 /// Draws a frame. Once more if out of memory, since nothing has changed then.
 pub(crate) fn draw<S: Screen>(
+    rt: &impl Abort,
     alloc: Global,
     screen: &mut S,
     state: &mut draw::State,
     ask: Ask,
 ) -> Result<Answer, Refusal> {
-    let first = draw::all(alloc, screen, state, input(alloc, ask)?);
+    let first = draw::all(alloc, screen, state, input(rt, alloc, ask));
     if first == Err(Refusal::Memory) {
-        return draw::all(alloc, screen, state, input(alloc, ask)?);
+        return draw::all(alloc, screen, state, input(rt, alloc, ask));
     }
     first
 }
@@ -135,11 +148,7 @@ pub(crate) struct Drawing(
 );
 
 /// Each drawing writes its bytes and flushes them, also on a screen that takes one byte at a time.
-pub(crate) fn assert_draws(
-    rt: &impl Abort,
-    alloc: Global,
-    drawings: &[Drawing],
-) -> Result<(), Fail> {
+pub(crate) fn assert_draws(rt: &impl Abort, alloc: Global, drawings: &[Drawing]) {
     assert_draws_with(rt, alloc, TERMINAL, drawings)
 }
 
@@ -149,7 +158,7 @@ pub(crate) fn assert_draws_with(
     alloc: Global,
     options: draw::Options,
     drawings: &[Drawing],
-) -> Result<(), Fail> {
+) {
     for Drawing(terminal_dimensions, frames) in drawings {
         let options = draw::Options {
             terminal_dimensions: *terminal_dimensions,
@@ -158,11 +167,10 @@ pub(crate) fn assert_draws_with(
         let mut state = draw::State::new(alloc, options, false);
         let mut other = draw::State::new(alloc, options, false);
         for (ask, want) in *frames {
-            assert_frame(rt, alloc, &mut state, *ask, *want)?;
-            assert_slow_frame(rt, alloc, &mut other, *ask, *want)?;
+            assert_frame(rt, alloc, &mut state, *ask, *want);
+            assert_slow_frame(rt, alloc, &mut other, *ask, *want);
         }
     }
-    Ok(())
 }
 
 /// The answer to an input that writes these bytes, or is refused.
@@ -180,13 +188,12 @@ fn assert_frame(
     state: &mut draw::State,
     ask: Ask,
     want: Result<&str, Refusal>,
-) -> Result<(), Refusal> {
-    let mut screen = MemoryScreen::new(alloc, 200)?;
-    let answer = draw(alloc, &mut screen, state, ask);
+) {
+    let mut screen = MemoryScreen::new(alloc, 200).expect(rt, "memory");
+    let answer = draw(rt, alloc, &mut screen, state, ask);
     assert_same(rt, answer, answer_to(ask, want), want);
     assert_same(rt, screen.bytes(), want.unwrap_or("").as_bytes(), want);
     assert!(rt; !screen.is_broken());
-    Ok(())
 }
 
 fn assert_slow_frame(
@@ -195,12 +202,11 @@ fn assert_slow_frame(
     state: &mut draw::State,
     ask: Ask,
     want: Result<&str, Refusal>,
-) -> Result<(), Refusal> {
-    let mut screen = FakeScreen::new(alloc, 1, 200, true)?;
+) {
+    let mut screen = FakeScreen::new(alloc, 1, 200, true).expect(rt, "memory");
     let bytes = want.unwrap_or("").as_bytes();
-    let answer = draw(alloc, &mut screen, state, ask);
+    let answer = draw(rt, alloc, &mut screen, state, ask);
     assert_same(rt, answer, answer_to(ask, want), want);
     assert_same(rt, screen.bytes.as_slice(), bytes, want);
     assert_same(rt, screen.flushed, bytes.len(), want);
-    Ok(())
 }

@@ -4,8 +4,8 @@ use prodash_base::progress::UNKNOWN;
 use prodash_base::unit::label;
 use prodash_base::{Refusal, Text};
 use prodash_core::tree::{Event, Reply};
-use std::alloc::{AllocError, Global};
-use std::test::Fail;
+use std::alloc::Global;
+use std::process::Abort;
 
 /// Events that differ in their kind or in one field each.
 const EVENTS: &str = "drop 1
@@ -68,22 +68,28 @@ quit 0
 quit 1";
 
 /// These events, and some that have no line.
-fn some_events(alloc: Global) -> Result<Vec<Event>, Fail> {
+fn some_events(rt: &impl Abort, alloc: Global) -> Vec<Event> {
     let mut events = Vec::new(alloc);
     for line in EVENTS.lines() {
-        events.push(event_of(alloc, line)?)?;
+        events.push(event_of(rt, alloc, line)).expect(rt, "memory");
     }
     for (reason, eta) in [("other", None), ("replay", Some(1))] {
         let item = 1;
-        events.push(Event::Blocked { item, reason, eta })?;
-        events.push(Event::Halted { item, reason, eta })?;
+        events
+            .push(Event::Blocked { item, reason, eta })
+            .expect(rt, "memory");
+        events
+            .push(Event::Halted { item, reason, eta })
+            .expect(rt, "memory");
     }
-    events.push(Event::AddChild {
-        parent: 0,
-        name: Text::from_str(alloc, "a")?,
-        id: [0, 0, 0, 1],
-    })?;
-    Ok(events)
+    events
+        .push(Event::AddChild {
+            parent: 0,
+            name: Text::from_str(alloc, "a").expect(rt, "memory"),
+            id: [0, 0, 0, 1],
+        })
+        .expect(rt, "memory");
+    events
 }
 
 const REPLIES: &[ShortReply] = &[
@@ -105,32 +111,40 @@ const REPLIES: &[ShortReply] = &[
 
 /// Replies to the queries of an item, and of the number of tasks.
 #[rattlefmt::skip]
-fn replies_to_queries(alloc: Global) -> Result<Vec<Reply>, AllocError> {
-    let (a, b) = (Text::from_str(alloc, "a")?, Text::from_str(alloc, "b")?);
-    Ok(vec![in alloc;
+fn replies_to_queries(rt: &impl Abort, alloc: Global) -> Vec<Reply> {
+    let a = Text::from_str(alloc, "a").expect(rt, "memory");
+    let b = Text::from_str(alloc, "b").expect(rt, "memory");
+    vec![in alloc;
         Reply::Bound(None), Reply::Bound(Some(1)), Reply::Bound(Some(2)),
         Reply::Name(None), Reply::Name(Some(a)), Reply::Name(Some(b)),
         Reply::Id(UNKNOWN), Reply::Id(*b"TASK"),
         Reply::Step(1), Reply::Step(2),
         Reply::Unit(None), Reply::Unit(Some(label("a"))), Reply::Unit(Some(label("b"))),
         Reply::Count(1), Reply::Count(2),
-    ]?)
+    ].expect(rt, "memory")
 }
 
-fn some_replies(alloc: Global) -> Result<Vec<Reply>, AllocError> {
-    let mut replies = replies_to_queries(alloc)?;
+fn some_replies(rt: &impl Abort, alloc: Global) -> Vec<Reply> {
+    let mut replies = replies_to_queries(rt, alloc);
     for short in REPLIES {
-        replies.push(reply(alloc, *short)?)?;
+        replies.push(reply(rt, alloc, *short)).expect(rt, "memory");
     }
-    Ok(replies)
+    replies
 }
 
 /// Events and replies differ by any field, and equal their clones.
 #[test]
-fn events_and_replies_differ_by_any_field(rt: HostRuntime) -> Result<(), Fail> {
-    let events = some_events(rt.alloc())?;
-    assert_distinct(&rt, &events, &clones(rt.alloc(), &events)?);
-    let replies = some_replies(rt.alloc())?;
-    assert_distinct(&rt, &replies, &clones(rt.alloc(), &replies)?);
-    Ok(())
+fn events_and_replies_differ_by_any_field(rt: HostRuntime) {
+    let events = some_events(&rt, rt.alloc());
+    assert_distinct(
+        &rt,
+        &events,
+        &clones(rt.alloc(), &events).expect(&rt, "memory"),
+    );
+    let replies = some_replies(&rt, rt.alloc());
+    assert_distinct(
+        &rt,
+        &replies,
+        &clones(rt.alloc(), &replies).expect(&rt, "memory"),
+    );
 }

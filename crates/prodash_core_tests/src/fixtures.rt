@@ -6,12 +6,11 @@ pub(crate) use prodash_fixtures::{
     FakeScreen, MESSAGE_FRAME, Progress, ShortMessage, ShortRow, TASK_FRAME, TERMINAL, clones,
     key_at, message, messages, row, rows,
 };
-use std::alloc::{AllocError, Global};
+use std::alloc::Global;
 use std::collections::HashMap;
 use std::fmt::Debug;
 use std::hash::Hash;
 use std::process::Abort;
-use std::test::Fail;
 
 /// Asserts that both are equal; `of` names the row of a table. A call is proved in a tenth of the
 /// time that `assert_eq!` takes.
@@ -49,15 +48,15 @@ pub(crate) fn assert_hashed<K: Hash + Eq + Copy + Drop>(
     rt: &impl Abort,
     alloc: Global,
     values: &[K],
-) -> Result<(), Fail> {
+) {
     let mut places = HashMap::new(alloc);
     for (n, value) in values.iter().enumerate() {
-        assert_same(rt, places.insert(*value, n)?, None, n);
+        let before: Result<_, _> = places.insert(*value, n);
+        assert_same(rt, before.expect(rt, "memory"), None, n);
     }
     for (n, value) in values.iter().enumerate() {
         assert_same(rt, places.get(value).copied(), Some(n), n);
     }
-    Ok(())
 }
 
 /// A reply, in short.
@@ -73,17 +72,20 @@ pub(crate) enum ShortReply {
     Refused(Refusal),
 }
 
-pub(crate) fn reply(alloc: Global, short: ShortReply) -> Result<Reply, AllocError> {
-    Ok(match short {
+pub(crate) fn reply(rt: &impl Abort, alloc: Global, short: ShortReply) -> Reply {
+    match short {
         ShortReply::Made(handle) => Reply::Made(handle),
         ShortReply::Done => Reply::Done,
-        ShortReply::Rows(list) => Reply::Rows(rows(alloc, list)?),
-        ShortReply::Messages(list) => Reply::Messages(messages(alloc, list)?),
+        ShortReply::Rows(list) => Reply::Rows(rows(alloc, list).expect(rt, "memory")),
+        ShortReply::Messages(list) => Reply::Messages(messages(alloc, list).expect(rt, "memory")),
         ShortReply::New(list, pushed) => {
-            Reply::New(messages(alloc, list)?, MessageCopyState::new(pushed))
+            Reply::New(
+                messages(alloc, list).expect(rt, "memory"),
+                MessageCopyState::new(pushed),
+            )
         }
         ShortReply::Drawn => Reply::Drawn,
         ShortReply::Ended => Reply::Ended,
         ShortReply::Refused(refusal) => Reply::Refused(refusal),
-    })
+    }
 }

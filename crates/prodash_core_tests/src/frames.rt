@@ -4,7 +4,6 @@ use crate::fixtures::{MESSAGE_FRAME, Progress, TASK_FRAME, assert_same};
 use prodash_base::Refusal;
 use prodash_base::messages::MessageCopyState;
 use prodash_line::render::line::draw::MemoryScreen;
-use std::test::Fail;
 
 const THREE_OF_TEN: Progress = Some((3, Some(10)));
 
@@ -118,7 +117,7 @@ const FRAMES: &[Drawing] = &[
 ];
 
 #[test]
-fn frames_have_exact_bytes(rt: HostRuntime) -> Result<(), Fail> {
+fn frames_have_exact_bytes(rt: HostRuntime) {
     assert_draws(&rt, rt.alloc(), FRAMES)
 }
 
@@ -132,16 +131,15 @@ const SEEN: &[(Ask, u64, Option<Refusal>)] = &[
 ];
 
 #[test]
-fn says_what_it_saw_and_why_it_ended(rt: HostRuntime) -> Result<(), Fail> {
-    let mut screen = MemoryScreen::new(rt.alloc(), 200)?;
+fn says_what_it_saw_and_why_it_ended(rt: HostRuntime) {
+    let mut screen = MemoryScreen::new(rt.alloc(), 200).expect(&rt, "memory");
     let mut state = renderer(rt.alloc(), (40, 20));
     assert_same(&rt, (state.seen(), state.ended()), (None, None), "before");
     for (ask, seen, ended) in SEEN {
-        let _ = draw(rt.alloc(), &mut screen, &mut state, *ask);
+        let _ = draw(&rt, rt.alloc(), &mut screen, &mut state, *ask);
         let want = (Some(MessageCopyState::new(*seen)), *ended);
         assert_same(&rt, (state.seen(), state.ended()), want, *seen);
     }
-    Ok(())
 }
 
 /// Inputs, and how many rows are spare after each: those of the tick before.
@@ -154,14 +152,13 @@ const SPARE: &[(Ask, (usize, usize))] = &[
 ];
 
 #[test]
-fn rows_and_messages_that_it_needs_no_longer_are_spare(rt: HostRuntime) -> Result<(), Fail> {
-    let mut screen = MemoryScreen::new(rt.alloc(), 200)?;
+fn rows_and_messages_that_it_needs_no_longer_are_spare(rt: HostRuntime) {
+    let mut screen = MemoryScreen::new(rt.alloc(), 200).expect(&rt, "memory");
     let mut state = renderer(rt.alloc(), (40, 20));
     for (ask, counts) in SPARE {
-        let _ = draw(rt.alloc(), &mut screen, &mut state, *ask);
+        let _ = draw(&rt, rt.alloc(), &mut screen, &mut state, *ask);
         let (rows, messages) = state.take_spare(rt.alloc());
         let got = (rows.as_slice().len(), messages.as_slice().len());
         assert_same(&rt, got, *counts, "spare rows and messages");
     }
-    Ok(())
 }

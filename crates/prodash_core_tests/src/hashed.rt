@@ -7,7 +7,6 @@ use prodash_core::tree::{Counted, Counters, TreeCore};
 use std::alloc::{AllocError, Global};
 use std::collections::HashMap;
 use std::process::Abort;
-use std::test::Fail;
 
 /// Counters that are their own numbers.
 #[derive(Drop)]
@@ -96,29 +95,29 @@ impl Both {
 
     /// Inserts a child below the latest keys. Every forty-first child gets the first number again,
     /// and may replace an earlier one.
-    fn insert(&mut self, alloc: Global, word: u64, name: &str) -> Result<(), Fail> {
+    fn insert(&mut self, rt: &impl Abort, alloc: Global, word: u64, name: &str) {
         let key = self.key(word).add_child(self.number);
         self.number = if self.number == 20 {
             FIRST
         } else {
             next_id(self.number)
         };
-        self.ordered.insert(alloc, key, name, UNKNOWN)?;
-        self.hashed.insert(alloc, key, name)?;
+        let ordered = self.ordered.insert(alloc, key, name, UNKNOWN);
+        ordered.expect(rt, "no refusal");
+        self.hashed.insert(alloc, key, name).expect(rt, "memory");
         if self.latest.len() as u64 == LATEST {
             self.latest.swap_remove((word / 1024 % LATEST) as usize);
         }
-        self.latest.push(key)?;
-        Ok(())
+        self.latest.push(key).expect(rt, "memory");
     }
 
     /// Makes one call on both, and asserts that both return the same.
-    fn call(&mut self, rt: &impl Abort, alloc: Global, word: u64) -> Result<(), Fail> {
+    fn call(&mut self, rt: &impl Abort, alloc: Global, word: u64) {
         let (key, step) = (self.key(word), word / 65536);
         match word % 8 {
-            0 => self.insert(alloc, word, "a")?,
-            1 => self.insert(alloc, word, "b")?,
-            2 => self.insert(alloc, word, "c")?,
+            0 => self.insert(rt, alloc, word, "a"),
+            1 => self.insert(rt, alloc, word, "b"),
+            2 => self.insert(rt, alloc, word, "c"),
             3 => self.init(rt, key, None),
             4 => self.init(rt, key, Some(step)),
             5 => {
@@ -130,7 +129,6 @@ impl Both {
                 assert_same(rt, got, self.hashed.rows.remove(&key).is_some(), word);
             }
         }
-        Ok(())
     }
 
     /// Begins the progress of a task in both, at a step that is its bound too, or ends it.
@@ -159,7 +157,7 @@ const CALLS: u64 = 70_000;
 const LISTED: u64 = 7000;
 
 #[test]
-fn both_tables_have_the_same_rows_after_70000_calls(rt: HostRuntime) -> Result<(), Fail> {
+fn both_tables_have_the_same_rows_after_70000_calls(rt: HostRuntime) {
     let alloc = rt.alloc();
     let mut both = Both {
         ordered: TreeCore::new(alloc),
@@ -174,11 +172,10 @@ fn both_tables_have_the_same_rows_after_70000_calls(rt: HostRuntime) -> Result<(
         word = word
             .wrapping_mul(6364136223846793005)
             .wrapping_add(1442695040888963407);
-        both.call(&rt, alloc, word >> 20)?;
+        both.call(&rt, alloc, word >> 20);
         if n % LISTED == 0 {
-            let got = both.ordered.rows(alloc, &OwnNumbers)?;
-            assert_same(&rt, got, both.hashed.rows(alloc)?, n);
+            let got = both.ordered.rows(alloc, &OwnNumbers).expect(&rt, "memory");
+            assert_same(&rt, got, both.hashed.rows(alloc).expect(&rt, "memory"), n);
         }
     }
-    Ok(())
 }

@@ -2,7 +2,6 @@ use crate::fixtures::{assert_ascending, assert_hashed, assert_same, key_at};
 use prodash_base::progress::Key;
 use prodash_base::progress::key::next_id;
 use std::process::Abort;
-use std::test::Fail;
 
 /// The numbers of the children on the way down, and the key's numbers.
 #[rattlefmt::skip]
@@ -76,17 +75,17 @@ const ASCENDING: &[&[u32]] = &[
 ];
 
 #[test]
-fn wide_keys_are_ordered_by_their_numbers(rt: HostRuntime) -> Result<(), Fail> {
+fn wide_keys_are_ordered_by_their_numbers(rt: HostRuntime) {
     let mut keys = Vec::new(rt.alloc());
     for numbers in ASCENDING {
-        keys.push(key_at(numbers))?;
+        keys.push(key_at(numbers)).expect(&rt, "memory");
     }
     assert_ascending(&rt, &keys);
     assert_hashed(&rt, rt.alloc(), &keys)
 }
 
 #[test]
-fn keys_are_ordered_by_their_numbers(rt: HostRuntime) -> Result<(), Fail> {
+fn keys_are_ordered_by_their_numbers(rt: HostRuntime) {
     let keys = [
         key_at(&[]),
         key_at(&[1]),

@@ -1,11 +1,9 @@
 use crate::adjacency::{assert_sorted, rows_at};
 use crate::fixtures::assert_same;
-use prodash_base::Refusal;
 use prodash_base::progress::Row;
 use prodash_core::render::tui::level_prefix;
 use std::alloc::Global;
 use std::process::Abort;
-use std::test::Fail;
 
 const TASKS: &[&[u32]] = &[&[1], &[1, 1], &[1, 2], &[2]];
 
@@ -32,25 +30,25 @@ const PREFIXES: &[(&[&[u32]], &[&str])] = &[
 ];
 
 /// Asserts that each row has its prefix.
-fn assert_prefixes(
-    rt: &impl Abort,
-    alloc: Global,
-    rows: &[Row],
-    prefixes: &[&str],
-) -> Result<(), Refusal> {
+fn assert_prefixes(rt: &impl Abort, alloc: Global, rows: &[Row], prefixes: &[&str]) {
     assert_sorted(rt, rows);
     for (index, want) in prefixes.iter().enumerate() {
         assert!(rt; index < rows.len());
-        assert_same(rt, level_prefix(alloc, rows, index)?.as_str(), *want, index);
+        assert_same(
+            rt,
+            level_prefix(alloc, rows, index)
+                .expect(rt, "no refusal")
+                .as_str(),
+            *want,
+            index,
+        );
     }
-    Ok(())
 }
 
 #[test]
-fn branches_lead_to_rows(rt: HostRuntime) -> Result<(), Fail> {
+fn branches_lead_to_rows(rt: HostRuntime) {
     for (keys, prefixes) in PREFIXES {
-        let rows = rows_at(rt.alloc(), keys)?;
-        assert_prefixes(&rt, rt.alloc(), &rows, prefixes)?;
+        let rows = rows_at(&rt, rt.alloc(), keys);
+        assert_prefixes(&rt, rt.alloc(), &rows, prefixes);
     }
-    Ok(())
 }

@@ -1,6 +1,5 @@
 use crate::drawings::Ask::{Print, Resize, Show};
 use crate::drawings::{Drawing, assert_draws};
-use std::test::Fail;
 
 #[rattlefmt::skip]
 const LINES: &[Drawing] = &[
@@ -47,6 +46,6 @@ const LINES: &[Drawing] = &[
 ];
 
 #[test]
-fn messages_are_printed_in_lines(rt: HostRuntime) -> Result<(), Fail> {
+fn messages_are_printed_in_lines(rt: HostRuntime) {
     assert_draws(&rt, rt.alloc(), LINES)
 }

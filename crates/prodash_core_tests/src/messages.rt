@@ -4,7 +4,6 @@ use prodash_base::Refusal;
 use prodash_base::messages::{Message, MessageCopyState, MessageLevel, MessageRingBuffer};
 use std::alloc::{AllocError, Global};
 use std::process::Abort;
-use std::test::Fail;
 
 /// How the messages of a ring are copied.
 #[derive(Clone, Copy)]
@@ -52,28 +51,30 @@ fn copy(
     out: &mut Vec<Message>,
     how: How,
     before: Option<MessageCopyState>,
-) -> Result<Option<MessageCopyState>, Refusal> {
+) -> Option<MessageCopyState> {
     let previous = match how {
         All => {
-            ring.copy_all(alloc, out)?;
-            return Ok(before);
+            ring.copy_all(alloc, out).expect(rt, "no refusal");
+            return before;
         }
         New => None,
         Next => before,
         Since(pushed) => Some(MessageCopyState::new(pushed)),
     };
-    let state = ring.copy_new(alloc, out, previous)?;
+    let state = ring.copy_new(alloc, out, previous).expect(rt, "no refusal");
     assert_same(rt, state.pushed(), ring.pushed(), "pushed");
-    Ok(Some(state))
+    Some(state)
 }
 
 /// Messages with these texts, as the tests push them.
-fn failures(alloc: Global, texts: &[&str]) -> Result<Vec<Message>, AllocError> {
+fn failures(rt: &impl Abort, alloc: Global, texts: &[&str]) -> Vec<Message> {
     let mut failures = Vec::new(alloc);
     for text in texts {
-        failures.push(message(alloc, 7, MessageLevel::Failure, "task", text)?)?;
+        failures
+            .push(message(alloc, 7, MessageLevel::Failure, "task", text).expect(rt, "memory"))
+            .expect(rt, "memory");
     }
-    Ok(failures)
+    failures
 }
 
 /// Pushes messages with these texts, and counts them.
@@ -86,37 +87,30 @@ fn push(alloc: Global, ring: &mut MessageRingBuffer, texts: &[&str]) -> Result<u
     Ok(pushed)
 }
 
-fn assert_turns(
-    rt: &impl Abort,
-    alloc: Global,
-    capacity: usize,
-    turns: &'static [Turn],
-) -> Result<(), Refusal> {
-    let mut ring = MessageRingBuffer::with_capacity(alloc, capacity)?;
+fn assert_turns(rt: &impl Abort, alloc: Global, capacity: usize, turns: &'static [Turn]) {
+    let mut ring = MessageRingBuffer::with_capacity(alloc, capacity).expect(rt, "memory");
     assert_same(rt, ring.capacity(), capacity, "capacity");
-    let mut out = failures(alloc, &["before"])?;
+    let mut out = failures(rt, alloc, &["before"]);
     let mut state = None;
     let mut pushed: u64 = 0;
     for (pushes, how, given) in turns {
-        pushed = pushed.saturating_add(push(alloc, &mut ring, pushes)?);
-        state = copy(rt, alloc, &ring, &mut out, *how, state)?;
+        pushed = pushed.saturating_add(push(alloc, &mut ring, pushes).expect(rt, "memory"));
+        state = copy(rt, alloc, &ring, &mut out, *how, state);
         assert_same(rt, ring.pushed(), pushed, *pushes);
         assert_same(
             rt,
             out.as_slice(),
-            failures(alloc, given)?.as_slice(),
+            failures(rt, alloc, given).as_slice(),
             *pushes,
         );
     }
-    Ok(())
 }
 
 #[test]
-fn rings_keep_the_latest_messages(rt: HostRuntime) -> Result<(), Fail> {
+fn rings_keep_the_latest_messages(rt: HostRuntime) {
     for (capacity, turns) in RINGS {
-        assert_turns(&rt, rt.alloc(), *capacity, turns)?;
+        assert_turns(&rt, rt.alloc(), *capacity, turns);
     }
-    Ok(())
 }
 
 /// The bytes of an origin and of a message, each of which a ring takes while there is memory.
@@ -131,18 +125,18 @@ fn text_of_length(alloc: Global, length: usize) -> Result<String, AllocError> {
 }
 
 #[test]
-fn rings_take_long_messages(rt: HostRuntime) -> Result<(), Fail> {
+fn rings_take_long_messages(rt: HostRuntime) {
     let alloc = rt.alloc();
-    let mut ring = MessageRingBuffer::with_capacity(alloc, 1)?;
+    let mut ring = MessageRingBuffer::with_capacity(alloc, 1).expect(&rt, "memory");
     for (origin, text) in LENGTHS {
-        let origin = text_of_length(alloc, *origin)?;
-        let text = text_of_length(alloc, *text)?;
+        let origin = text_of_length(alloc, *origin).expect(&rt, "no refusal");
+        let text = text_of_length(alloc, *text).expect(&rt, "no refusal");
         let (origin, text) = (origin.as_str(), text.as_str());
-        ring.push_overwrite(alloc, 7, MessageLevel::Info, origin, text)?;
+        ring.push_overwrite(alloc, 7, MessageLevel::Info, origin, text)
+            .expect(&rt, "no refusal");
         let mut out = Vec::new(alloc);
-        ring.copy_all(alloc, &mut out)?;
-        let want = message(alloc, 7, MessageLevel::Info, origin, text)?;
+        ring.copy_all(alloc, &mut out).expect(&rt, "no refusal");
+        let want = message(alloc, 7, MessageLevel::Info, origin, text).expect(&rt, "memory");
         assert!(rt; out.as_slice() == [want].as_slice());
     }
-    Ok(())
 }

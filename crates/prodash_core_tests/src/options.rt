@@ -5,7 +5,6 @@ use prodash_core::tree::{Event, Reply, RootOptions, SessionOptions, run};
 use prodash_line::render::line::draw::{MemoryScreen, Options};
 use std::alloc::Global;
 use std::process::Abort;
-use std::test::Fail;
 
 /// The same for an output that is no terminal.
 const PLAIN: Options = Options {
@@ -194,35 +193,28 @@ fn run_on(
 }
 
 /// Returns the events of a line, which has `; ` between two of them.
-fn events_of(alloc: Global, line: &str) -> Result<Vec<Event>, Fail> {
+fn events_of(rt: &impl Abort, alloc: Global, line: &str) -> Vec<Event> {
     let mut events = Vec::new(alloc);
     for part in line.split("; ") {
-        events.push(event_of(alloc, part)?)?;
+        events.push(event_of(rt, alloc, part)).expect(rt, "memory");
     }
-    Ok(events)
+    events
 }
 
 /// Asserts that the last reply is this.
-fn assert_last(
-    rt: &impl Abort,
-    alloc: Global,
-    replies: &[Reply],
-    told: &str,
-    of: &str,
-) -> Result<(), Fail> {
-    let last = format!(in alloc; "{:?}", replies.last())?;
-    let want = format!(in alloc; "Some({told})")?;
+fn assert_last(rt: &impl Abort, alloc: Global, replies: &[Reply], told: &str, of: &str) {
+    let last = format!(in alloc; "{:?}", replies.last()).expect(rt, "memory");
+    let want = format!(in alloc; "Some({told})").expect(rt, "memory");
     assert_same(rt, last.as_str(), want.as_str(), of);
-    Ok(())
 }
 
 /// Asserts that a run replies and draws as its lines say. The first line has its events, ` -> `, and
 /// the reply to the last of them. The others have the bytes of its frames as string literals.
-fn assert_run(rt: &impl Abort, alloc: Global, draw: Options, run: &str) -> Result<(), Fail> {
-    let (asked, drawn) = run.split_once('\n').ok_or("no bytes")?;
-    let (lines, told) = asked.split_once(" -> ").ok_or("no reply")?;
-    let mut screen = MemoryScreen::new(alloc, 0)?;
-    assert_replies(rt, alloc, draw, lines, told, &mut screen)?;
+fn assert_run(rt: &impl Abort, alloc: Global, draw: Options, run: &str) {
+    let (asked, drawn) = run.split_once('\n').expect(rt, "bytes");
+    let (lines, told) = asked.split_once(" -> ").expect(rt, "a reply");
+    let mut screen = MemoryScreen::new(alloc, 0).expect(rt, "memory");
+    assert_replies(rt, alloc, draw, lines, told, &mut screen);
     assert_bytes(rt, alloc, screen.bytes(), drawn)
 }
 
@@ -234,41 +226,29 @@ fn assert_replies(
     line: &str,
     told: &str,
     screen: &mut MemoryScreen,
-) -> Result<(), Fail> {
-    let events = events_of(alloc, line)?;
-    let replies = run_on(alloc, draw, &events, screen)?;
+) {
+    let events = events_of(rt, alloc, line);
+    let replies = run_on(alloc, draw, &events, screen).expect(rt, "no refusal");
     assert_last(rt, alloc, &replies, told, line)
 }
 
 /// Asserts that bytes are those of string literals, one on each line.
-pub(crate) fn assert_bytes(
-    rt: &impl Abort,
-    alloc: Global,
-    bytes: &[u8],
-    parts: &str,
-) -> Result<(), Fail> {
+pub(crate) fn assert_bytes(rt: &impl Abort, alloc: Global, bytes: &[u8], parts: &str) {
     let mut want = String::new(alloc);
     for part in parts.lines() {
-        want.push_str(part.trim_matches('"'))?;
+        want.push_str(part.trim_matches('"')).expect(rt, "memory");
     }
-    let bytes = str::from_utf8(bytes).ok().ok_or("not UTF-8")?;
-    let got = format!(in alloc; "{bytes:?}")?;
+    let bytes = str::from_utf8(bytes).expect(rt, "UTF-8");
+    let got = format!(in alloc; "{bytes:?}").expect(rt, "memory");
     assert_same(rt, got.as_str().trim_matches('"'), want.as_str(), parts);
-    Ok(())
 }
 
 /// Asserts that runs with these options reply and draw as their lines say. An empty line separates
 /// two runs. A line with `#` above a run says what it and those after it show.
-pub(crate) fn assert_runs(
-    rt: &impl Abort,
-    alloc: Global,
-    draw: Options,
-    runs: &str,
-) -> Result<(), Fail> {
+pub(crate) fn assert_runs(rt: &impl Abort, alloc: Global, draw: Options, runs: &str) {
     for run in runs.split("\n\n") {
-        assert_run(rt, alloc, draw, without_comment(run))?;
+        assert_run(rt, alloc, draw, without_comment(run));
     }
-    Ok(())
 }
 
 /// Returns the lines of a run after its comment, if it has one.
@@ -292,9 +272,8 @@ const RUNS: &[(Options, &str)] = &[
 ];
 
 #[test]
-fn options_have_exact_bytes(rt: HostRuntime) -> Result<(), Fail> {
+fn options_have_exact_bytes(rt: HostRuntime) {
     for (draw, runs) in RUNS {
-        assert_runs(&rt, rt.alloc(), *draw, runs)?;
+        assert_runs(&rt, rt.alloc(), *draw, runs);
     }
-    Ok(())
 }

@@ -7,7 +7,6 @@ use prodash_line::render::line::draw::{Answer, MemoryScreen, OverWrite, Screen};
 use std::alloc::Global;
 use std::io::{self, Error, ErrorKind, Write};
 use std::process::Abort;
-use std::test::Fail;
 
 /// What a writer does with a write.
 #[derive(Clone, Copy, Debug)]
@@ -175,15 +174,15 @@ const FRAMES: &[(Ask, Answer)] = &[
 fn assert_frames<S: Screen>(rt: &impl Abort, alloc: Global, screen: &mut S) {
     let mut state = renderer(alloc, (40, 24));
     for (ask, want) in FRAMES {
-        let got = draw(alloc, screen, &mut state, *ask);
+        let got = draw(rt, alloc, screen, &mut state, *ask);
         assert_same(rt, got, Ok(*want), "frame");
     }
 }
 
 #[test]
-fn over_write_has_the_bytes_of_a_memory_screen(rt: HostRuntime) -> Result<(), Fail> {
+fn over_write_has_the_bytes_of_a_memory_screen(rt: HostRuntime) {
     let alloc = rt.alloc();
-    let mut memory = MemoryScreen::new(alloc, 400)?;
+    let mut memory = MemoryScreen::new(alloc, 400).expect(&rt, "memory");
     assert_frames(&rt, alloc, &mut memory);
     let mut list = OverWrite::new(Vec::new(alloc));
     assert_frames(&rt, alloc, &mut list);
@@ -194,14 +193,13 @@ fn over_write_has_the_bytes_of_a_memory_screen(rt: HostRuntime) -> Result<(), Fa
     assert_same(&rt, slow.bytes.as_slice(), memory.bytes(), "slow");
     let calls = (memory.bytes().len(), FRAMES.len());
     assert_same(&rt, slow.calls, calls, "calls");
-    Ok(())
 }
 
 #[test]
-fn over_write_says_whether_it_is_broken(rt: HostRuntime) -> Result<(), Fail> {
+fn over_write_says_whether_it_is_broken(rt: HostRuntime) {
     let alloc = rt.alloc();
     let mut screen = OverWrite::new(BadWriter);
-    let whole = format!(in alloc; "{screen:?}")?;
+    let whole = format!(in alloc; "{screen:?}").expect(&rt, "memory");
     assert_same(
         &rt,
         whole.as_str(),
@@ -209,14 +207,13 @@ fn over_write_says_whether_it_is_broken(rt: HostRuntime) -> Result<(), Fail> {
         "whole",
     );
     assert_put(&rt, &mut screen, BROKEN);
-    let broken = format!(in alloc; "{screen:?}")?;
+    let broken = format!(in alloc; "{screen:?}").expect(&rt, "memory");
     assert_same(
         &rt,
         broken.as_str(),
         "OverWrite { writer: BadWriter, broken: true }",
         "broken",
     );
-    Ok(())
 }
 
 /// A line of 5000 columns, a line feed, and up by one row.
@@ -226,7 +223,7 @@ const LONG_FRAME: usize = 5000 + 1 + 4;
 fn long_frame_is_flushed_once(rt: HostRuntime) {
     let mut screen = OverWrite::new(FakeWriter::new(rt.alloc(), &[Takes(usize::MAX)], true));
     let mut state = renderer(rt.alloc(), (5000, 24));
-    let got = draw(rt.alloc(), &mut screen, &mut state, Show(&[TASK]));
+    let got = draw(&rt, rt.alloc(), &mut screen, &mut state, Show(&[TASK]));
     assert_same(&rt, got, Ok(Answer::Drawn), "long frame");
     let writer = screen.into_inner();
     assert_same(&rt, writer.bytes.len(), LONG_FRAME, "bytes");
@@ -242,7 +239,7 @@ fn renderer_ends_once_its_writer_fails(rt: HostRuntime) {
     let mut screen = OverWrite::new(FakeWriter::new(rt.alloc(), BREAKS, true));
     let mut state = renderer(rt.alloc(), (40, 24));
     for ask in AFTER {
-        let answer = draw(rt.alloc(), &mut screen, &mut state, *ask);
+        let answer = draw(&rt, rt.alloc(), &mut screen, &mut state, *ask);
         assert_same(&rt, answer, Err(Refusal::Broken), "answer");
         assert_same(&rt, state.ended(), Some(Refusal::Broken), "end");
     }

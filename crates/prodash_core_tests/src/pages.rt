@@ -3,7 +3,6 @@ use prodash_line::render::line::draw::Answer;
 use prodash_line::render::line::page::{Fault, Page, Sign, read, spell};
 use std::alloc::Global;
 use std::process::Abort;
-use std::test::Fail;
 
 /// The columns and rows of a page, what is written to it, and its rows without the blanks at their
 /// ends, its top and its cursor after that.
@@ -42,75 +41,61 @@ const WRITTEN: &[Written] = &[
 ];
 
 /// A page of this many columns and rows, with the signs of all parts written to it.
-fn page_after(
-    rt: &impl Abort,
-    alloc: Global,
-    columns: u16,
-    height: u16,
-    parts: &[&str],
-) -> Result<Page, Fail> {
+fn page_after(rt: &impl Abort, alloc: Global, columns: u16, height: u16, parts: &[&str]) -> Page {
     assert!(rt; columns > 0 && height > 0);
-    let mut page = Page::new(alloc, columns, height)?;
+    let mut page = Page::new(alloc, columns, height).expect(rt, "memory");
     for part in parts {
-        for sign in &read(alloc, part.as_bytes())? {
-            page.apply(alloc, sign)?;
+        for sign in &read(alloc, part.as_bytes()).expect(rt, "no refusal") {
+            page.apply(alloc, sign).expect(rt, "no refusal");
         }
     }
-    Ok(page)
+    page
 }
 
 /// The characters of a row.
-fn row_text(alloc: Global, page: &Page, n: usize) -> Result<String, Fail> {
+fn row_text(rt: &impl Abort, alloc: Global, page: &Page, n: usize) -> String {
     let mut text = String::new(alloc);
-    for c in page.row(n).ok_or("a row is missing")? {
-        text.push(*c)?;
+    for c in page.row(n).expect(rt, "a row") {
+        text.push(*c).expect(rt, "memory");
     }
-    Ok(text)
+    text
 }
 
 /// The page has these rows, each filled with blanks, and no others.
-fn assert_rows(
-    rt: &impl Abort,
-    alloc: Global,
-    page: &Page,
-    columns: u16,
-    rows: &[&str],
-) -> Result<(), Fail> {
+fn assert_rows(rt: &impl Abort, alloc: Global, page: &Page, columns: u16, rows: &[&str]) {
     assert_same(rt, page.rows(), rows.len(), "rows");
     for (n, want) in rows.iter().enumerate() {
-        let text = row_text(alloc, page, n)?;
+        let text = row_text(rt, alloc, page, n);
         assert_same(rt, text.len(), columns as usize, n);
         assert_same(rt, text.as_str().trim_end(), *want, n);
     }
     assert!(rt; page.row(rows.len()).is_none());
-    Ok(())
 }
 
 #[test]
-fn pages_show_what_is_written(rt: HostRuntime) -> Result<(), Fail> {
+fn pages_show_what_is_written(rt: HostRuntime) {
     for ((columns, height), parts, rows, top, cursor) in WRITTEN {
-        let page = page_after(&rt, rt.alloc(), *columns, *height, parts)?;
-        assert_rows(&rt, rt.alloc(), &page, *columns, rows)?;
+        let page = page_after(&rt, rt.alloc(), *columns, *height, parts);
+        assert_rows(&rt, rt.alloc(), &page, *columns, rows);
         assert_same(&rt, (page.top(), page.cursor()), (*top, *cursor), *parts);
     }
-    Ok(())
 }
 
 #[test]
-fn pages_have_thousands_of_rows(rt: HostRuntime) -> Result<(), Fail> {
-    let high = Page::new(rt.alloc(), 1, 2000)?;
+fn pages_have_thousands_of_rows(rt: HostRuntime) {
+    let high = Page::new(rt.alloc(), 1, 2000).expect(&rt, "memory");
     assert_same(&rt, (high.rows(), high.top()), (2000, 0), "high page");
-    let mut page = Page::new(rt.alloc(), 1, 1)?;
+    let mut page = Page::new(rt.alloc(), 1, 1).expect(&rt, "memory");
     for _ in 0..2000 {
-        page.apply(rt.alloc(), &Sign::LineFeed)?;
+        page.apply(rt.alloc(), &Sign::LineFeed)
+            .expect(&rt, "no refusal");
     }
     assert_same(&rt, (page.rows(), page.top()), (2001, 2000), "long page");
     assert_same(&rt, page.cursor(), (2000, 0), "long page");
-    Ok(())
 }
 
 #[test]
-fn reads_what_signs_spell(rt: HostRuntime) -> Result<(), Fail> {
+fn reads_what_signs_spell(rt: HostRuntime) {
     let signs = [
         Sign::Char('a'),
         Sign::EraseLine,
@@ -123,12 +108,16 @@ fn reads_what_signs_spell(rt: HostRuntime) -> Result<(), Fail> {
     let bytes = "a\x1b[2K\x1b[65535Aé\r\x1b[J\n".as_bytes();
     assert_same(
         &rt,
-        read(rt.alloc(), bytes)?.as_slice(),
+        read(rt.alloc(), bytes).expect(&rt, "no refusal").as_slice(),
         signs.as_slice(),
         "signs",
     );
-    assert_same(&rt, spell(rt.alloc(), &signs)?.as_slice(), bytes, "bytes");
-    Ok(())
+    assert_same(
+        &rt,
+        spell(rt.alloc(), &signs).expect(&rt, "memory").as_slice(),
+        bytes,
+        "bytes",
+    );
 }
 
 /// Bytes that no signs spell, and how many before the fault signs do.

@@ -5,7 +5,6 @@ use prodash_core::tree::{Reply, RootOptions, Session, SessionOptions, run};
 use prodash_line::render::line::draw::MemoryScreen;
 use std::alloc::Global;
 use std::process::Abort;
-use std::test::Fail;
 
 pub(crate) const RUNS: &[&str] = &[
     // a task is drawn, and a message takes the place of its row
@@ -151,27 +150,30 @@ fn assert_new_session(
     alloc: Global,
     message_buffer_capacity: usize,
     transcript: &str,
-) -> Result<(), Fail> {
-    let mut session = Session::new(alloc, &options(message_buffer_capacity))?;
+) {
+    let mut session = Session::new(alloc, &options(message_buffer_capacity)).expect(
+        rt,
+        "no refusal",
+    );
     assert_session(rt, alloc, &mut session, transcript)
 }
 
 #[test]
-fn sessions_have_replies_and_frames(rt: HostRuntime) -> Result<(), Fail> {
+fn sessions_have_replies_and_frames(rt: HostRuntime) {
     for transcript in RUNS {
-        assert_new_session(&rt, rt.alloc(), 20, transcript)?;
+        assert_new_session(&rt, rt.alloc(), 20, transcript);
     }
     assert_new_session(&rt, rt.alloc(), 2, LATEST)
 }
 
 #[test]
-fn frames_show_throughput(rt: HostRuntime) -> Result<(), Fail> {
+fn frames_show_throughput(rt: HostRuntime) {
     let alloc = rt.alloc();
     let options = SessionOptions {
         throughput: true,
         ..options(20)
     };
-    let mut session = Session::new(alloc, &options)?;
+    let mut session = Session::new(alloc, &options).expect(&rt, "no refusal");
     assert_session(&rt, alloc, &mut session, MEASURED)
 }
 
@@ -182,89 +184,78 @@ fn outcome_of(line: &str) -> Option<(&str, &str)> {
 }
 
 /// Returns the replies of a transcript, one on each line.
-fn replies_of(alloc: Global, transcript: &str) -> Result<String, Fail> {
+fn replies_of(rt: &impl Abort, alloc: Global, transcript: &str) -> String {
     let mut replies = String::new(alloc);
     for line in transcript.lines() {
-        let (reply, _) = outcome_of(line).ok_or("no reply")?;
-        replies.push_str(reply)?;
-        replies.push('\n')?;
+        let (reply, _) = outcome_of(line).expect(rt, "a reply");
+        replies.push_str(reply).expect(rt, "memory");
+        replies.push('\n').expect(rt, "memory");
     }
-    Ok(replies)
+    replies
 }
 
 /// Returns the frames of a transcript, one on each line.
-fn frames_of(alloc: Global, transcript: &str) -> Result<String, Fail> {
+fn frames_of(rt: &impl Abort, alloc: Global, transcript: &str) -> String {
     let mut frames = String::new(alloc);
     for line in transcript.lines() {
-        let (_, frame) = outcome_of(line).ok_or("no reply")?;
-        frames.push_str(frame)?;
-        frames.push('\n')?;
+        let (_, frame) = outcome_of(line).expect(rt, "a reply");
+        frames.push_str(frame).expect(rt, "memory");
+        frames.push('\n').expect(rt, "memory");
     }
-    Ok(frames)
+    frames
 }
 
 /// Returns replies as `Debug` writes them, one on each line.
-fn shown(alloc: Global, replies: &[Reply]) -> Result<String, Fail> {
+fn shown(rt: &impl Abort, alloc: Global, replies: &[Reply]) -> String {
     let mut shown = String::new(alloc);
     for reply in replies {
-        let line = format!(in alloc; "{reply:?}\n")?;
-        shown.push_str(line.as_str())?;
+        let line = format!(in alloc; "{reply:?}\n").expect(rt, "memory");
+        shown.push_str(line.as_str()).expect(rt, "memory");
     }
-    Ok(shown)
+    shown
 }
 
 /// Asserts that replies are those of a transcript.
-fn assert_replies(
-    rt: &impl Abort,
-    alloc: Global,
-    transcript: &str,
-    replies: &[Reply],
-) -> Result<(), Fail> {
-    let told = replies_of(alloc, transcript)?;
-    let got = shown(alloc, replies)?;
+fn assert_replies(rt: &impl Abort, alloc: Global, transcript: &str, replies: &[Reply]) {
+    let told = replies_of(rt, alloc, transcript);
+    let got = shown(rt, alloc, replies);
     assert_same(rt, got.as_str(), told.as_str(), transcript);
-    Ok(())
 }
 
 /// Asserts that a run on a screen, which has these bytes after it, has the replies and bytes of a
 /// transcript.
-fn assert_ran(
-    rt: &impl Abort,
-    alloc: Global,
-    transcript: &str,
-    replies: &[Reply],
-    bytes: &[u8],
-) -> Result<(), Fail> {
-    assert_replies(rt, alloc, transcript, replies)?;
-    let drawn = frames_of(alloc, transcript)?;
+fn assert_ran(rt: &impl Abort, alloc: Global, transcript: &str, replies: &[Reply], bytes: &[u8]) {
+    assert_replies(rt, alloc, transcript, replies);
+    let drawn = frames_of(rt, alloc, transcript);
     assert_bytes(rt, alloc, bytes, drawn.as_str())
 }
 
 /// Asserts that a run has the replies and bytes of a transcript.
-fn assert_run(
-    rt: &impl Abort,
-    alloc: Global,
-    options: &SessionOptions,
-    transcript: &str,
-) -> Result<(), Fail> {
-    let events = events_of(alloc, transcript)?;
-    let mut screen = MemoryScreen::new(alloc, 0)?;
-    let replies = run(alloc, options, &events, &mut screen)?;
+fn assert_run(rt: &impl Abort, alloc: Global, options: &SessionOptions, transcript: &str) {
+    let events = events_of(rt, alloc, transcript);
+    let mut screen = MemoryScreen::new(alloc, 0).expect(rt, "memory");
+    let replies = run(alloc, options, &events, &mut screen).expect(rt, "no refusal");
     assert_ran(rt, alloc, transcript, &replies, screen.bytes())
 }
 
 #[test]
-fn runs_have_replies_and_bytes(rt: HostRuntime) -> Result<(), Fail> {
+fn runs_have_replies_and_bytes(rt: HostRuntime) {
     for transcript in RUNS {
-        assert_run(&rt, rt.alloc(), &options(20), transcript)?;
+        assert_run(&rt, rt.alloc(), &options(20), transcript);
     }
     assert_run(&rt, rt.alloc(), &options(2), LATEST)
 }
 
 #[test]
-fn a_broken_screen_leaves_the_tree(rt: HostRuntime) -> Result<(), Fail> {
+fn a_broken_screen_leaves_the_tree(rt: HostRuntime) {
     let alloc = rt.alloc();
-    let mut screen = FakeScreen::new(alloc, 200, 5, true)?;
-    let replies = run(alloc, &options(20), &events_of(alloc, BREAKS)?, &mut screen)?;
+    let mut screen = FakeScreen::new(alloc, 200, 5, true).expect(&rt, "memory");
+    let replies = run(
+        alloc,
+        &options(20),
+        &events_of(&rt, alloc, BREAKS),
+        &mut screen,
+    )
+    .expect(&rt, "no refusal");
     assert_ran(&rt, alloc, BREAKS, &replies, &screen.bytes)
 }

@@ -6,13 +6,12 @@ use prodash_fixtures::{key_at, row};
 use prodash_line::render::line::draw::{self, Answer, MemoryScreen, Screen};
 use std::alloc::Global;
 use std::process::Abort;
-use std::test::Fail;
 
 #[test]
-fn memory_screen_takes_all_bytes(rt: HostRuntime) -> Result<(), Fail> {
+fn memory_screen_takes_all_bytes(rt: HostRuntime) {
     // within its room, and past it
     for room in [10, 3, 0] {
-        let mut screen = MemoryScreen::new(rt.alloc(), room)?;
+        let mut screen = MemoryScreen::new(rt.alloc(), room).expect(&rt, "memory");
         for _ in 0..2 {
             assert_same(&rt, screen.put(b"01234"), Ok(5), room);
             assert_same(&rt, screen.flush(), Ok(()), room);
@@ -22,7 +21,6 @@ fn memory_screen_takes_all_bytes(rt: HostRuntime) -> Result<(), Fail> {
     }
     let endless = MemoryScreen::new(rt.alloc(), usize::MAX);
     assert_same(&rt, endless.err(), Some(Refusal::Memory), "endless");
-    Ok(())
 }
 
 const SHOW_TASK: Ask = Show(&[("task", Some((3, Some(10))))]);
@@ -39,7 +37,7 @@ const BREAKS: &[(Ask, usize, bool, &str)] = &[
 fn assert_ends(rt: &impl Abort, alloc: Global, screen: &mut FakeScreen, first: Ask, want: &str) {
     let mut state = renderer(alloc, (40, 24));
     for ask in [first, SHOW_TASK, Ask::Hide(&[]), Quit] {
-        let answer = draw(alloc, screen, &mut state, ask);
+        let answer = draw(rt, alloc, screen, &mut state, ask);
         assert_same(rt, answer, Err(Refusal::Broken), want);
         assert_same(rt, screen.bytes.as_slice(), want.as_bytes(), want);
     }
@@ -49,19 +47,18 @@ fn assert_ends(rt: &impl Abort, alloc: Global, screen: &mut FakeScreen, first: A
 /// A frame without bytes needs no screen.
 fn assert_needs_no_screen(rt: &impl Abort, alloc: Global, screen: &mut FakeScreen) {
     let mut state = renderer(alloc, (40, 24));
-    let answer = draw(alloc, screen, &mut state, Show(&[]));
+    let answer = draw(rt, alloc, screen, &mut state, Show(&[]));
     assert_same(rt, answer, Ok(Answer::Drawn), "a frame without bytes");
     assert_same(rt, state.ended(), None, "a frame without bytes");
 }
 
 #[test]
-fn renderer_ends_once_its_screen_is_broken(rt: HostRuntime) -> Result<(), Fail> {
+fn renderer_ends_once_its_screen_is_broken(rt: HostRuntime) {
     for (first, left, flushes, want) in BREAKS {
-        let mut screen = FakeScreen::new(rt.alloc(), 200, *left, *flushes)?;
+        let mut screen = FakeScreen::new(rt.alloc(), 200, *left, *flushes).expect(&rt, "memory");
         assert_ends(&rt, rt.alloc(), &mut screen, *first, want);
         assert_needs_no_screen(&rt, rt.alloc(), &mut screen);
     }
-    Ok(())
 }
 
 /// A screen that takes all bytes, and records how many the first four puts were given.
@@ -97,22 +94,23 @@ impl Screen for CountingScreen {
 }
 
 #[test]
-fn frames_go_out_in_pieces(rt: HostRuntime) -> Result<(), Fail> {
+fn frames_go_out_in_pieces(rt: HostRuntime) {
     // the line of this name, with the motion back up, has 10000 bytes
     let mut name = String::new(rt.alloc());
     for _ in 0..9994 {
-        name.push('x')?;
+        name.push('x').expect(&rt, "memory");
     }
-    let rows = vec![in rt.alloc(); row(rt.alloc(), key_at(&[0]), &name, None)?]?;
+    let rows = vec![in rt.alloc();
+        row(rt.alloc(), key_at(&[0]), &name, None).expect(&rt, "memory"),
+    ].expect(&rt, "memory");
     let mut screen = CountingScreen {
-        inner: MemoryScreen::new(rt.alloc(), 10000)?,
+        inner: MemoryScreen::new(rt.alloc(), 10000).expect(&rt, "memory"),
         sizes: [0; 4],
         puts: 0,
     };
     let mut state = renderer(rt.alloc(), (12000, 24));
-    let input = tick(rt.alloc(), true, &[], rows)?;
+    let input = tick(&rt, rt.alloc(), true, &[], rows);
     let answer = draw::all(rt.alloc(), &mut screen, &mut state, input);
     assert_same(&rt, answer, Ok(Answer::Drawn), "a long frame");
     assert_same(&rt, screen.sizes, [4096, 4096, 1808, 0], "a long frame");
-    Ok(())
 }

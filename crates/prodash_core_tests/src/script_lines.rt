@@ -6,12 +6,11 @@ use prodash_core::tree::Event;
 use prodash_script::{
     LIMIT, Labels, Lines, Names, Next, Request, mistake_in, parse, request_of, to_line,
 };
-use std::alloc::{AllocError, Global};
+use std::alloc::Global;
 use std::fmt::Write;
 use std::io::{self, Error, ErrorKind, Read};
 use std::process::Abort;
 use std::str;
-use std::test::Fail;
 
 const EVENTS: &str = r#"drop 2 -> Some(Drop { item: 2 })
 add 3 a b -> Some(AddChild { parent: 3, name: "a b", id: [0, 0, 0, 0] })
@@ -53,21 +52,19 @@ resize 5 30 4 2 -> None
 quit 5 -> Some(Quit { at: 5 })
 "#;
 
-fn assert_event(rt: &impl Abort, alloc: Global, line: &str, want: &str) -> Result<(), AllocError> {
-    let event = parse(alloc, &mut Labels::new(alloc), line)?;
-    let got = format!(in alloc; "{event:?}")?;
+fn assert_event(rt: &impl Abort, alloc: Global, line: &str, want: &str) {
+    let event = parse(alloc, &mut Labels::new(alloc), line).expect(rt, "memory");
+    let got = format!(in alloc; "{event:?}").expect(rt, "memory");
     assert_same(rt, got.as_str(), want, line);
-    Ok(())
 }
 
 #[test]
-fn reads_events(rt: HostRuntime) -> Result<(), Fail> {
+fn reads_events(rt: HostRuntime) {
     for row in EVENTS.lines() {
-        let (line, want) = row.split_once(" -> ").ok_or("no event")?;
-        assert_event(&rt, rt.alloc(), line, want)?;
+        let (line, want) = row.split_once(" -> ").expect(&rt, "an event");
+        assert_event(&rt, rt.alloc(), line, want);
     }
-    assert_event(&rt, rt.alloc(), "droproot\r", "None")?;
-    Ok(())
+    assert_event(&rt, rt.alloc(), "droproot\r", "None");
 }
 
 /// Lines of which each says an event, in the only form that `to_line` writes.
@@ -111,57 +108,59 @@ const LINES: &[&str] = &[
 ];
 
 #[test]
-fn writes_the_lines_that_it_reads(rt: HostRuntime) -> Result<(), Fail> {
+fn writes_the_lines_that_it_reads(rt: HostRuntime) {
     let mut labels = Labels::new(rt.alloc());
     for line in LINES {
-        let event = parse(rt.alloc(), &mut labels, line)?.ok_or("no event")?;
-        let written = to_line(rt.alloc(), &event)?.ok_or("no line")?;
+        let event = parse(rt.alloc(), &mut labels, line)
+            .expect(&rt, "memory")
+            .expect(&rt, "an event");
+        let written = to_line(rt.alloc(), &event)
+            .expect(&rt, "memory")
+            .expect(&rt, "a line");
         assert_same(&rt, written.as_str(), *line, "written");
     }
-    Ok(())
 }
 
 #[test]
-fn writes_no_line_for_a_unit_without_a_word(rt: HostRuntime) -> Result<(), Fail> {
+fn writes_no_line_for_a_unit_without_a_word(rt: HostRuntime) {
     for name in ["", "-", "a b", "a%", "steps"] {
         let event = Event::Init {
             item: 1,
             max: None,
             unit: Some(label(name)),
         };
-        assert_same(&rt, to_line(rt.alloc(), &event)?.is_none(), true, name);
+        assert_same(
+            &rt,
+            to_line(rt.alloc(), &event).expect(&rt, "memory").is_none(),
+            true,
+            name,
+        );
     }
-    Ok(())
 }
 
 /// What a line of a script asks for if `a` names the handle 7 and it is 5.
-fn asked(alloc: Global, line: &[u8]) -> Result<Request, AllocError> {
+fn asked(rt: &impl Abort, alloc: Global, line: &[u8]) -> Request {
     let mut names = Names::new(alloc);
-    names.insert(String::from_str(alloc, "a")?, 7)?;
-    request_of(alloc, &names, &mut Labels::new(alloc), 5, line)
+    let name = String::from_str(alloc, "a").expect(rt, "memory");
+    let before: Result<_, _> = names.insert(name, 7);
+    before.expect(rt, "memory");
+    request_of(alloc, &names, &mut Labels::new(alloc), 5, line).expect(rt, "memory")
 }
 
-fn assert_request(
-    rt: &impl Abort,
-    alloc: Global,
-    line: &[u8],
-    want: &str,
-) -> Result<(), AllocError> {
-    let request = asked(alloc, line)?;
-    let got = format!(in alloc; "{request:?}")?;
+fn assert_request(rt: &impl Abort, alloc: Global, line: &[u8], want: &str) {
+    let request = asked(rt, alloc, line);
+    let got = format!(in alloc; "{request:?}").expect(rt, "memory");
     assert_same(rt, got.as_str(), want, want);
-    Ok(())
 }
 
 /// Lines have a mistake exactly if they ask for nothing.
 #[test]
-fn finds_a_mistake_in_each_line_that_asks_for_nothing(rt: HostRuntime) -> Result<(), Fail> {
+fn finds_a_mistake_in_each_line_that_asks_for_nothing(rt: HostRuntime) {
     for row in EVENTS.lines().chain(REQUESTS.lines()) {
-        let (line, _) = row.split_once(" -> ").ok_or("no line")?;
-        let asks = !matches!(asked(rt.alloc(), line.as_bytes())?, Request::Fault);
+        let (line, _) = row.split_once(" -> ").expect(&rt, "a line");
+        let asks = !matches!(asked(&rt, rt.alloc(), line.as_bytes()), Request::Fault);
         assert_same(&rt, mistake_in(line).is_none(), asks, line);
     }
-    Ok(())
 }
 
 const REQUESTS: &str = r#"set @a 3 -> Apply(Set { item: 7, step: 3 })
@@ -183,14 +182,13 @@ quit - -> Fault
 "#;
 
 #[test]
-fn reads_requests(rt: HostRuntime) -> Result<(), Fail> {
+fn reads_requests(rt: HostRuntime) {
     for row in REQUESTS.lines() {
-        let (line, want) = row.split_once(" -> ").ok_or("no request")?;
-        assert_request(&rt, rt.alloc(), line.as_bytes(), want)?;
+        let (line, want) = row.split_once(" -> ").expect(&rt, "a request");
+        assert_request(&rt, rt.alloc(), line.as_bytes(), want);
     }
     // not UTF-8
-    assert_request(&rt, rt.alloc(), b"set @a \xff", "Fault")?;
-    Ok(())
+    assert_request(&rt, rt.alloc(), b"set @a \xff", "Fault");
 }
 
 /// Words of units, and a value of 3 of 10 with 5 in a second as it is shown in them.
@@ -217,26 +215,25 @@ a b ->
 "#;
 
 /// What a value is shown as in the unit that a word names, with its unit in a space.
-fn shown(alloc: Global, labels: &mut Labels, word: &str) -> Result<String, Fail> {
+fn shown(rt: &impl Abort, alloc: Global, labels: &mut Labels, word: &str) -> String {
     let mut text = String::new(alloc);
-    if let Some(Some(unit)) = labels.unit_of(alloc, word)? {
+    if let Some(Some(unit)) = labels.unit_of(alloc, word).expect(rt, "no refusal") {
         let throughput = Throughput::new(5, 1_000_000_000);
         let display = unit.display(alloc, 3, Some(10), Some(throughput));
-        text.push(' ')?;
-        display.append_to(&mut text)?;
+        text.push(' ').expect(rt, "memory");
+        display.append_to(&mut text).expect(rt, "memory");
     }
-    Ok(text)
+    text
 }
 
 #[test]
-fn reads_units(rt: HostRuntime) -> Result<(), Fail> {
+fn reads_units(rt: HostRuntime) {
     let mut labels = Labels::new(rt.alloc());
     for row in UNITS.lines() {
-        let (word, want) = row.split_once(" ->").ok_or("no unit")?;
-        let got = shown(rt.alloc(), &mut labels, word)?;
+        let (word, want) = row.split_once(" ->").expect(&rt, "a unit");
+        let got = shown(&rt, rt.alloc(), &mut labels, word);
         assert_same(&rt, got.as_str(), want, word);
     }
-    Ok(())
 }
 
 /// Lines, and what is expected in place of their first mistake, and what is there.
@@ -249,32 +246,30 @@ add @b x y -> Some(Mistake { expected: Handle, word: Some("x") })
 "#;
 
 #[test]
-fn tells_mistakes(rt: HostRuntime) -> Result<(), Fail> {
+fn tells_mistakes(rt: HostRuntime) {
     for row in MISTAKES.lines() {
-        let (line, want) = row.split_once(" -> ").ok_or("no mistake")?;
-        let got = format!(in rt.alloc(); "{:?}", mistake_in(line))?;
+        let (line, want) = row.split_once(" -> ").expect(&rt, "a mistake");
+        let got = format!(in rt.alloc(); "{:?}", mistake_in(line)).expect(&rt, "memory");
         assert_same(&rt, got.as_str(), want, line);
     }
-    Ok(())
 }
 
 /// Asserts that a stream gives these in turn: of a line its text.
-fn assert_lines<I: Read + Drop>(
-    rt: &impl Abort,
-    alloc: Global,
-    stream: I,
-    want: &str,
-) -> Result<(), Fail> {
+fn assert_lines<I: Read + Drop>(rt: &impl Abort, alloc: Global, stream: I, want: &str) {
     let mut lines = Lines::new(alloc, stream);
     let mut got = String::new(alloc);
     for _ in 0..3 {
-        match lines.advance()? {
-            Next::Line => writeln!(got, "Line {}", str::from_utf8(lines.line())?)?,
-            next => writeln!(got, "{next:?}")?,
+        match lines.advance().expect(rt, "a read") {
+            Next::Line => writeln!(
+                got,
+                "Line {}",
+                str::from_utf8(lines.line()).expect(rt, "UTF-8")
+            )
+            .expect(rt, "memory"),
+            next => writeln!(got, "{next:?}").expect(rt, "memory"),
         }
     }
     assert_same(rt, got.as_str(), want, "lines");
-    Ok(())
 }
 
 /// A stream of which a call reads at most `size` bytes.
@@ -303,46 +298,48 @@ const STREAMS: &[[&'static str; 2]] = &[
 ];
 
 #[test]
-fn tells_a_last_line_that_is_cut_off(rt: HostRuntime) -> Result<(), Fail> {
+fn tells_a_last_line_that_is_cut_off(rt: HostRuntime) {
     for [stream, want] in STREAMS {
         for size in 1..6 {
             let left = stream.as_bytes();
-            assert_lines(&rt, rt.alloc(), Pieces { left, size }, want)?;
+            assert_lines(&rt, rt.alloc(), Pieces { left, size }, want);
         }
     }
-    Ok(())
 }
 
 #[test]
-fn has_the_next_line_once_it_is_read(rt: HostRuntime) -> Result<(), Fail> {
+fn has_the_next_line_once_it_is_read(rt: HostRuntime) {
     let mut lines = Lines::new(rt.alloc(), b"a\nb\nc".as_slice());
     for want in [false, true, false] {
         assert_same(&rt, lines.has_line(), want, "has a line");
-        lines.advance()?;
+        lines.advance().expect(&rt, "a read");
     }
-    Ok(())
 }
 
 /// A stream of a line of this many bytes and of another.
-fn two_lines(alloc: Global, bytes: usize) -> Result<Vec<u8>, AllocError> {
-    let mut stream = vec![in alloc; b'a'; bytes]?;
-    stream.extend_from_slice(b"\nb\n")?;
-    Ok(stream)
+fn two_lines(rt: &impl Abort, alloc: Global, bytes: usize) -> Vec<u8> {
+    let mut stream = vec![in alloc; b'a'; bytes].expect(rt, "memory");
+    stream.extend_from_slice(b"\nb\n").expect(rt, "memory");
+    stream
 }
 
 #[test]
-fn drops_long_lines(rt: HostRuntime) -> Result<(), Fail> {
-    let stream = two_lines(rt.alloc(), LIMIT + 1)?;
+fn drops_long_lines(rt: HostRuntime) {
+    let stream = two_lines(&rt, rt.alloc(), LIMIT + 1);
     assert_lines(&rt, rt.alloc(), stream.as_slice(), "TooLong\nLine b\nEnd\n")
 }
 
 #[test]
-fn keeps_the_longest_line(rt: HostRuntime) -> Result<(), Fail> {
-    let stream = two_lines(rt.alloc(), LIMIT)?;
+fn keeps_the_longest_line(rt: HostRuntime) {
+    let stream = two_lines(&rt, rt.alloc(), LIMIT);
     let mut lines = Lines::new(rt.alloc(), stream.as_slice());
-    assert_same(&rt, lines.advance()?, Next::Line, "line");
+    assert_same(
+        &rt,
+        lines.advance().expect(&rt, "a read"),
+        Next::Line,
+        "line",
+    );
     assert_same(&rt, Some(lines.line()), stream.get(..LIMIT), "bytes");
-    Ok(())
 }
 
 /// A stream of one line, whose first read and whose second are interrupted.
@@ -363,10 +360,14 @@ impl Read for Interrupted {
 }
 
 #[test]
-fn goes_on_after_a_read_that_is_interrupted(rt: HostRuntime) -> Result<(), Fail> {
+fn goes_on_after_a_read_that_is_interrupted(rt: HostRuntime) {
     let mut lines = Lines::new(rt.alloc(), Interrupted { reads: 0 });
-    assert_same(&rt, lines.advance()?, Next::Line, "line");
+    assert_same(
+        &rt,
+        lines.advance().expect(&rt, "a read"),
+        Next::Line,
+        "line",
+    );
     assert_same(&rt, lines.line(), b"a", "bytes");
-    assert_same(&rt, lines.advance()?, Next::End, "end");
-    Ok(())
+    assert_same(&rt, lines.advance().expect(&rt, "a read"), Next::End, "end");
 }

@@ -2,7 +2,6 @@ use crate::fixtures::{assert_distinct, assert_same};
 use prodash_line::render::line::page::{Color, Fault, Sign, Style, read, spell};
 use std::alloc::Global;
 use std::process::Abort;
-use std::test::Fail;
 
 /// Whether a style is bold and dim, its colour, whether it is on yellow, and its bytes.
 type Spelled = (bool, bool, Option<Color>, bool, &'static str);
@@ -39,21 +38,19 @@ fn style_of(spelled: &Spelled) -> Style {
 }
 
 /// The signs are spelled by these bytes, which are read as the signs.
-fn assert_spelled(rt: &impl Abort, alloc: Global, signs: &[Sign], bytes: &str) -> Result<(), Fail> {
-    let spelled = spell(alloc, signs)?;
+fn assert_spelled(rt: &impl Abort, alloc: Global, signs: &[Sign], bytes: &str) {
+    let spelled = spell(alloc, signs).expect(rt, "memory");
     assert_same(rt, spelled.as_slice(), bytes.as_bytes(), bytes);
-    let read = read(alloc, bytes.as_bytes())?;
+    let read = read(alloc, bytes.as_bytes()).expect(rt, "no refusal");
     assert_same(rt, read.as_slice(), signs, bytes);
-    Ok(())
 }
 
 #[test]
-fn styles_are_spelled_by_their_codes(rt: HostRuntime) -> Result<(), Fail> {
+fn styles_are_spelled_by_their_codes(rt: HostRuntime) {
     for spelled in STYLES {
         let signs = [Sign::Open(style_of(spelled))];
-        assert_spelled(&rt, rt.alloc(), &signs, spelled.4)?;
+        assert_spelled(&rt, rt.alloc(), &signs, spelled.4);
     }
-    Ok(())
 }
 
 const CURSOR: &[Sign] = &[
@@ -64,7 +61,7 @@ const CURSOR: &[Sign] = &[
 ];
 
 #[test]
-fn the_cursor_is_hidden_and_shown(rt: HostRuntime) -> Result<(), Fail> {
+fn the_cursor_is_hidden_and_shown(rt: HostRuntime) {
     assert_spelled(&rt, rt.alloc(), CURSOR, "\x1b[?25la\x1b[0m\x1b[?25h")
 }
 
@@ -115,12 +112,11 @@ fn other_codes_are_no_signs(rt: HostRuntime) {
 
 /// The plain style is spelled, but not read.
 #[test]
-fn the_plain_style_is_no_sign(rt: HostRuntime) -> Result<(), Fail> {
-    let bytes = spell(rt.alloc(), &[Sign::Open(Style::new())])?;
+fn the_plain_style_is_no_sign(rt: HostRuntime) {
+    let bytes = spell(rt.alloc(), &[Sign::Open(Style::new())]).expect(&rt, "memory");
     assert_same(&rt, bytes.as_slice(), b"\x1b[m".as_slice(), "bytes");
     let fault = read(rt.alloc(), &bytes).err();
     assert_same(&rt, fault, Some(Fault::At(0)), "fault");
-    Ok(())
 }
 
 /// The style, made code by code.

@@ -9,7 +9,6 @@ use prodash_base::unit::{Bytes, Kind, Unit, dynamic};
 use prodash_core::tree::{Counted, Counters, Event, RootOptions, TreeCore, TreeState};
 use std::alloc::Global;
 use std::process::Abort;
-use std::test::Fail;
 
 /// Counters that are their own numbers.
 #[derive(Drop)]
@@ -56,15 +55,15 @@ fn inserted(alloc: Global) -> Result<Table, Refusal> {
 }
 
 /// Asserts that the rows of a table are `LEFT`.
-fn assert_left(rt: &impl Abort, alloc: Global, table: &Table) -> Result<(), Fail> {
-    let got = table.rows(alloc, &OwnNumbers)?;
+fn assert_left(rt: &impl Abort, alloc: Global, table: &Table) {
+    let got = table.rows(alloc, &OwnNumbers).expect(rt, "memory");
     assert_rows(rt, alloc, &got, LEFT)
 }
 
 #[test]
-fn a_table_has_one_entry_for_a_key(rt: HostRuntime) -> Result<(), Fail> {
+fn a_table_has_one_entry_for_a_key(rt: HostRuntime) {
     let (b, c) = (key_at(&[0, 1]), key_at(&[1]));
-    let mut table = inserted(rt.alloc())?;
+    let mut table = inserted(rt.alloc()).expect(&rt, "no refusal");
     let progress = Some(Counted {
         counter: 3,
         done_at: Some(10),
@@ -99,74 +98,71 @@ fn apply(alloc: Global, tree: &mut TreeState, event: &Event) -> Result<(), Refus
 }
 
 /// Parses an event, and applies it.
-fn apply_line(alloc: Global, tree: &mut TreeState, line: &str) -> Result<(), Fail> {
-    let event = event_of(alloc, line)?;
-    Ok(apply(alloc, tree, &event)?)
+fn apply_line(rt: &impl Abort, alloc: Global, tree: &mut TreeState, line: &str) {
+    let event = event_of(rt, alloc, line);
+    apply(alloc, tree, &event).expect(rt, "no refusal")
 }
 
 /// A tree after all events.
-fn grown(alloc: Global) -> Result<TreeState, Fail> {
-    let mut tree = TreeState::new(alloc, &RootOptions::default())?;
+fn grown(rt: &impl Abort, alloc: Global) -> TreeState {
+    let mut tree = TreeState::new(alloc, &RootOptions::default()).expect(rt, "no refusal");
     for line in EVENTS.lines() {
-        apply_line(alloc, &mut tree, line)?;
+        apply_line(rt, alloc, &mut tree, line);
     }
-    Ok(tree)
+    tree
 }
 
 /// What a frame sees of a tree if the one before has seen the first message.
-fn snapshot(alloc: Global, tree: &TreeState) -> Result<(Rows, Messages, MessageCopyState), Fail> {
-    let previous = Some(MessageCopyState::new(1));
-    Ok(
-        tree.snapshot_and_new_messages(alloc, previous)?
-            .ok_or("no root")?,
-    )
-}
-
-fn assert_rows(rt: &impl Abort, alloc: Global, got: &Rows, want: &[ShortRow]) -> Result<(), Fail> {
-    let want = rows(alloc, want)?;
-    assert_same(rt, got, &want, "rows");
-    Ok(())
-}
-
-fn assert_messages(
+fn snapshot(
     rt: &impl Abort,
     alloc: Global,
-    got: &Messages,
-    want: &[ShortMessage],
-) -> Result<(), Fail> {
-    let want = messages(alloc, want)?;
+    tree: &TreeState,
+) -> (Rows, Messages, MessageCopyState) {
+    let previous = Some(MessageCopyState::new(1));
+    let seen = tree.snapshot_and_new_messages(alloc, previous);
+    seen.expect(rt, "no refusal").expect(rt, "a root")
+}
+
+fn assert_rows(rt: &impl Abort, alloc: Global, got: &Rows, want: &[ShortRow]) {
+    let want = rows(alloc, want).expect(rt, "memory");
+    assert_same(rt, got, &want, "rows");
+}
+
+fn assert_messages(rt: &impl Abort, alloc: Global, got: &Messages, want: &[ShortMessage]) {
+    let want = messages(alloc, want).expect(rt, "memory");
     assert_same(rt, got, &want, "messages");
-    Ok(())
 }
 
 /// Asserts that the rows of a tree are `ROWS`.
-fn assert_tree(rt: &impl Abort, alloc: Global, tree: &TreeState) -> Result<(), Fail> {
-    let got = tree.rows(alloc)?;
+fn assert_tree(rt: &impl Abort, alloc: Global, tree: &TreeState) {
+    let got = tree.rows(alloc).expect(rt, "memory");
     assert_rows(rt, alloc, &got, ROWS)
 }
 
 /// Asserts that a frame sees `ROWS` and the second message.
-fn assert_snapshot(rt: &impl Abort, alloc: Global, tree: &TreeState) -> Result<(), Fail> {
-    let (rows, messages, state) = snapshot(alloc, tree)?;
+fn assert_snapshot(rt: &impl Abort, alloc: Global, tree: &TreeState) {
+    let (rows, messages, state) = snapshot(rt, alloc, tree);
     assert_same(rt, state, MessageCopyState::new(2), "state");
-    assert_rows(rt, alloc, &rows, ROWS)?;
+    assert_rows(rt, alloc, &rows, ROWS);
     assert_messages(rt, alloc, &messages, &[("b", "y")])
 }
 
 #[test]
-fn a_tree_needs_no_renderer(rt: HostRuntime) -> Result<(), Fail> {
+fn a_tree_needs_no_renderer(rt: HostRuntime) {
     let alloc = rt.alloc();
-    let tree = grown(alloc)?;
-    assert_tree(&rt, alloc, &tree)?;
+    let tree = grown(&rt, alloc);
+    assert_tree(&rt, alloc, &tree);
     assert_snapshot(&rt, alloc, &tree)
 }
 
 #[test]
-fn a_table_keeps_units(rt: HostRuntime) -> Result<(), Fail> {
+fn a_table_keeps_units(rt: HostRuntime) {
     let (a, b) = (key_at(&[0]), key_at(&[1]));
     let unit = Some(dynamic(Kind::Bytes(Bytes)));
     let mut table: Table = TreeCore::new(rt.alloc());
-    table.insert(rt.alloc(), a, "a", UNKNOWN)?;
+    table
+        .insert(rt.alloc(), a, "a", UNKNOWN)
+        .expect(&rt, "no refusal");
     let counted = Some(Counted {
         counter: 1,
         done_at: None,
@@ -177,7 +173,6 @@ fn a_table_keeps_units(rt: HostRuntime) -> Result<(), Fail> {
     assert_init(&rt, &mut table, a, counted, true);
     assert_unit(&rt, &table, a, unit);
     assert_unit(&rt, &table, b, None);
-    Ok(())
 }
 
 const ALL: &[ShortRow] = &[(&[0], "a", None), (&[0, 1], "b", None), (&[1], "c", None)];
@@ -196,12 +191,13 @@ const SPARE: &[&[ShortRow]] = &[
 ];
 
 #[test]
-fn spare_rows_become_those_of_the_table(rt: HostRuntime) -> Result<(), Fail> {
+fn spare_rows_become_those_of_the_table(rt: HostRuntime) {
     let alloc = rt.alloc();
-    let table = inserted(alloc)?;
+    let table = inserted(alloc).expect(&rt, "no refusal");
     for spare in SPARE {
-        let got = table.rows_reusing(&OwnNumbers, rows(alloc, spare)?)?;
-        assert_rows(&rt, alloc, &got, ALL)?;
+        let got = table
+            .rows_reusing(&OwnNumbers, rows(alloc, spare).expect(&rt, "memory"))
+            .expect(&rt, "no refusal");
+        assert_rows(&rt, alloc, &got, ALL);
     }
-    Ok(())
 }

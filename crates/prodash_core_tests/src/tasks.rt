@@ -8,28 +8,27 @@ use prodash_base::{Refusal, Text};
 use prodash_core::tree::{Counted, Event, RootOptions, TreeCore, TreeState};
 use std::alloc::Global;
 use std::process::Abort;
-use std::test::Fail;
 
 /// The adjacency of the first row of a tree, if there is a row.
 #[tactic(auto, using(prodash_core::proofs::AscendingRows::ascending_list))]
-fn adjacency_of_first(alloc: Global, tree: &TreeState) -> Result<Option<Adjacency>, Refusal> {
-    let rows = tree.rows(alloc)?;
+fn adjacency_of_first(rt: &impl Abort, alloc: Global, tree: &TreeState) -> Option<Adjacency> {
+    let rows = tree.rows(alloc).expect(rt, "memory");
     let rows = rows.as_slice();
     if rows.is_empty() {
-        return Ok(None);
+        return None;
     }
-    Ok(Some(Key::adjacency(rows, 0)))
+    Some(Key::adjacency(rows, 0))
 }
 
 const ID: Id = [1, 2, 3, 4];
 
 /// Parses an event. `child` adds an item with an identifier, and `lock` and `pause` mark one as
 /// blocked until 7 and as halted.
-fn event(alloc: Global, line: &str) -> Result<Event, Fail> {
-    Ok(match line.split_once(' ') {
+fn event(rt: &impl Abort, alloc: Global, line: &str) -> Event {
+    match line.split_once(' ') {
         Some(("child", name)) => Event::AddChild {
             parent: 0,
-            name: Text::from_str(alloc, name)?,
+            name: Text::from_str(alloc, name).expect(rt, "memory"),
             id: ID,
         },
         Some(("lock", _)) => Event::Blocked {
@@ -42,32 +41,21 @@ fn event(alloc: Global, line: &str) -> Result<Event, Fail> {
             reason: "pause",
             eta: None,
         },
-        _ => event_of(alloc, line)?,
-    })
+        _ => event_of(rt, alloc, line),
+    }
 }
 
 /// Asserts that a tree replies as a line of a transcript says.
-fn assert_line(
-    rt: &impl Abort,
-    alloc: Global,
-    tree: &mut TreeState,
-    line: &str,
-) -> Result<(), Fail> {
-    let (asked, told) = line.split_once(" -> ").ok_or("no reply")?;
-    let event = event(alloc, asked)?;
+fn assert_line(rt: &impl Abort, alloc: Global, tree: &mut TreeState, line: &str) {
+    let (asked, told) = line.split_once(" -> ").expect(rt, "a reply");
+    let event = event(rt, alloc, asked);
     assert_reply(rt, alloc, tree, &event, told)
 }
 
-fn assert_replies(
-    rt: &impl Abort,
-    alloc: Global,
-    tree: &mut TreeState,
-    transcript: &str,
-) -> Result<(), Fail> {
+fn assert_replies(rt: &impl Abort, alloc: Global, tree: &mut TreeState, transcript: &str) {
     for line in transcript.lines() {
-        assert_line(rt, alloc, tree, line)?;
+        assert_line(rt, alloc, tree, line);
     }
-    Ok(())
 }
 
 fn new_tree(alloc: Global) -> Result<TreeState, Refusal> {
@@ -75,10 +63,10 @@ fn new_tree(alloc: Global) -> Result<TreeState, Refusal> {
 }
 
 /// A tree after these events.
-fn grown(rt: &impl Abort, alloc: Global, transcript: &str) -> Result<TreeState, Fail> {
-    let mut tree = new_tree(alloc)?;
-    assert_replies(rt, alloc, &mut tree, transcript)?;
-    Ok(tree)
+fn grown(rt: &impl Abort, alloc: Global, transcript: &str) -> TreeState {
+    let mut tree = new_tree(alloc).expect(rt, "no refusal");
+    assert_replies(rt, alloc, &mut tree, transcript);
+    tree
 }
 
 const WITHOUT_PROGRESS: &str = r#"tasks? -> Count(0)
@@ -118,12 +106,11 @@ inc 1 1 -> Done
 step? 1 -> Step(4)"#;
 
 #[test]
-fn events_change_a_task(rt: HostRuntime) -> Result<(), Fail> {
-    let mut tree = new_tree(rt.alloc())?;
+fn events_change_a_task(rt: HostRuntime) {
+    let mut tree = new_tree(rt.alloc()).expect(&rt, "no refusal");
     for transcript in [WITHOUT_PROGRESS, WITH_PROGRESS, WITHOUT_ROOT] {
-        assert_replies(&rt, rt.alloc(), &mut tree, transcript)?;
+        assert_replies(&rt, rt.alloc(), &mut tree, transcript);
     }
-    Ok(())
 }
 
 const DROPPED: &str = "child a -> Made(1)
@@ -147,40 +134,27 @@ max? ITEM
 unit? ITEM";
 
 /// Asserts that a tree refuses an event of this item.
-fn assert_gone(
-    rt: &impl Abort,
-    alloc: Global,
-    tree: &mut TreeState,
-    item: u64,
-    line: &str,
-) -> Result<(), Fail> {
-    let (word, rest) = line.split_once("ITEM").ok_or("no item")?;
-    let line = format!(in alloc; "{word}{item}{rest} -> Refused(Gone)")?;
+fn assert_gone(rt: &impl Abort, alloc: Global, tree: &mut TreeState, item: u64, line: &str) {
+    let (word, rest) = line.split_once("ITEM").expect(rt, "an item");
+    let line = format!(in alloc; "{word}{item}{rest} -> Refused(Gone)").expect(rt, "memory");
     assert_line(rt, alloc, tree, line.as_str())
 }
 
 /// Asserts that a tree refuses all events of this item.
-fn assert_all_gone(
-    rt: &impl Abort,
-    alloc: Global,
-    tree: &mut TreeState,
-    item: u64,
-) -> Result<(), Fail> {
+fn assert_all_gone(rt: &impl Abort, alloc: Global, tree: &mut TreeState, item: u64) {
     for line in EVENTS.lines() {
-        assert_gone(rt, alloc, tree, item, line)?;
+        assert_gone(rt, alloc, tree, item, line);
     }
-    Ok(())
 }
 
 /// The root, an item that was dropped, and one that wasn't made.
 #[test]
-fn events_need_an_item(rt: HostRuntime) -> Result<(), Fail> {
+fn events_need_an_item(rt: HostRuntime) {
     let alloc = rt.alloc();
-    let mut tree = grown(&rt, alloc, DROPPED)?;
+    let mut tree = grown(&rt, alloc, DROPPED);
     for item in 0..3 {
-        assert_all_gone(&rt, alloc, &mut tree, item)?;
+        assert_all_gone(&rt, alloc, &mut tree, item);
     }
-    Ok(())
 }
 
 const SIXTH_LEVEL: &str = r#"add 0 a -> Made(1)
@@ -196,21 +170,15 @@ name? 6 -> Name(Some("child"))
 name? 7 -> Name(Some("child"))"#;
 
 /// Asserts that the last row of a tree has this key.
-fn assert_last_key(
-    rt: &impl Abort,
-    alloc: Global,
-    tree: &TreeState,
-    want: Key,
-) -> Result<(), Fail> {
-    let rows = tree.rows(alloc)?;
-    let last = rows.as_slice().last().ok_or("no row")?;
+fn assert_last_key(rt: &impl Abort, alloc: Global, tree: &TreeState, want: Key) {
+    let rows = tree.rows(alloc).expect(rt, "memory");
+    let last = rows.as_slice().last().expect(rt, "a row");
     assert_same(rt, last.key, want, "key");
-    Ok(())
 }
 
 #[test]
-fn a_child_of_the_sixth_level_takes_the_place_of_its_parent(rt: HostRuntime) -> Result<(), Fail> {
-    let tree = grown(&rt, rt.alloc(), SIXTH_LEVEL)?;
+fn a_child_of_the_sixth_level_takes_the_place_of_its_parent(rt: HostRuntime) {
+    let tree = grown(&rt, rt.alloc(), SIXTH_LEVEL);
     assert_last_key(&rt, rt.alloc(), &tree, key_at(&[0, 0, 0, 0, 0, 0]))
 }
 
@@ -220,23 +188,17 @@ drop 1 -> Done
 tasks? -> Count(1)";
 
 /// Asserts that the tree that these events grow has this adjacency of its first row.
-fn assert_first(
-    rt: &impl Abort,
-    alloc: Global,
-    transcript: &str,
-    want: Option<Adjacency>,
-) -> Result<(), Fail> {
-    let tree = grown(rt, alloc, transcript)?;
-    let got = adjacency_of_first(alloc, &tree)?;
+fn assert_first(rt: &impl Abort, alloc: Global, transcript: &str, want: Option<Adjacency>) {
+    let tree = grown(rt, alloc, transcript);
+    let got = adjacency_of_first(rt, alloc, &tree);
     assert_same(rt, got, want, transcript);
-    Ok(())
 }
 
 #[test]
-fn the_row_below_a_dropped_task_has_no_neighbours(rt: HostRuntime) -> Result<(), Fail> {
+fn the_row_below_a_dropped_task_has_no_neighbours(rt: HostRuntime) {
     let adjacency = Adjacency(No, No, No, No, No, No);
     assert_same(&rt, adjacency.level(), 0, "level");
-    assert_first(&rt, rt.alloc(), "", None)?;
+    assert_first(&rt, rt.alloc(), "", None);
     assert_first(&rt, rt.alloc(), ORPHAN, Some(adjacency))
 }
 
@@ -256,8 +218,8 @@ step? 7 -> Step(5)
 tasks? -> Count(5)"#;
 
 #[test]
-fn a_child_of_the_sixth_level_loses_its_entry_with_its_parent(rt: HostRuntime) -> Result<(), Fail> {
-    let mut tree = grown(&rt, rt.alloc(), SIXTH_LEVEL)?;
+fn a_child_of_the_sixth_level_loses_its_entry_with_its_parent(rt: HostRuntime) {
+    let mut tree = grown(&rt, rt.alloc(), SIXTH_LEVEL);
     assert_replies(&rt, rt.alloc(), &mut tree, WITHOUT_ENTRY)
 }
 
@@ -273,58 +235,50 @@ max? 65537 -> Bound(Some(1))"#;
 
 /// Asserts that the last row of a tree is that of the 65537th child of the root, which has got
 /// a progress.
-fn assert_last_row(rt: &impl Abort, alloc: Global, tree: &TreeState) -> Result<(), Fail> {
-    let rows = tree.rows(alloc)?;
-    let row = rows.as_slice().last().ok_or("no row")?;
+fn assert_last_row(rt: &impl Abort, alloc: Global, tree: &TreeState) {
+    let rows = tree.rows(alloc).expect(rt, "memory");
+    let row = rows.as_slice().last().expect(rt, "a row");
     assert_same(rt, row.key, key_at(&[65536]), "key");
     assert_same(rt, row.name.as_str(), "Z", "name");
     let bound = row.progress.as_ref().and_then(|value| value.done_at);
     assert_same(rt, bound, Some(1), "bound");
-    Ok(())
 }
 
 /// Asserts that the item that this event makes gets this handle.
-fn assert_made(
-    rt: &impl Abort,
-    alloc: Global,
-    tree: &mut TreeState,
-    event: &Event,
-    handle: u64,
-) -> Result<(), Fail> {
-    let told = format!(in alloc; "Made({handle})")?;
+fn assert_made(rt: &impl Abort, alloc: Global, tree: &mut TreeState, event: &Event, handle: u64) {
+    let told = format!(in alloc; "Made({handle})").expect(rt, "memory");
     assert_reply(rt, alloc, tree, event, told.as_str())
 }
 
 /// Adds 65535 children to the root, after its first.
-fn add_children(rt: &impl Abort, alloc: Global, tree: &mut TreeState) -> Result<(), Fail> {
-    let child = event(alloc, "child a")?;
+fn add_children(rt: &impl Abort, alloc: Global, tree: &mut TreeState) {
+    let child = event(rt, alloc, "child a");
     for handle in 2..65537 {
-        assert_made(rt, alloc, tree, &child, handle)?;
+        assert_made(rt, alloc, tree, &child, handle);
     }
-    Ok(())
 }
 
 /// Asserts that after 65535 more children a tree goes on as `AFTER_ALL` says.
-fn assert_children(rt: &impl Abort, alloc: Global, tree: &mut TreeState) -> Result<(), Fail> {
-    add_children(rt, alloc, tree)?;
-    assert_replies(rt, alloc, tree, AFTER_ALL)?;
+fn assert_children(rt: &impl Abort, alloc: Global, tree: &mut TreeState) {
+    add_children(rt, alloc, tree);
+    assert_replies(rt, alloc, tree, AFTER_ALL);
     assert_last_row(rt, alloc, tree)
 }
 
 #[test]
-fn the_child_after_65536_has_a_place_of_its_own(rt: HostRuntime) -> Result<(), Fail> {
+fn the_child_after_65536_has_a_place_of_its_own(rt: HostRuntime) {
     let alloc = rt.alloc();
-    let mut tree = grown(&rt, alloc, "add 0 A -> Made(1)")?;
+    let mut tree = grown(&rt, alloc, "add 0 A -> Made(1)");
     assert_children(&rt, alloc, &mut tree)
 }
 
 const HALTED: State = State::Halted("pause", None);
 
 /// A table with the task `b` at [3], which has progress.
-fn table(alloc: Global, key: Key) -> Result<TreeCore<u64>, Refusal> {
+fn table(rt: &impl Abort, alloc: Global, key: Key) -> TreeCore<u64> {
     let mut table: TreeCore<u64> = TreeCore::new(alloc);
-    table.insert(alloc, key, "a", ID)?;
-    table.set_name(alloc, key, "b")?;
+    table.insert(alloc, key, "a", ID).expect(rt, "no refusal");
+    table.set_name(alloc, key, "b").expect(rt, "no refusal");
     table.set_max(key, Some(1));
     let progress = Some(Counted {
         counter: 0,
@@ -334,32 +288,32 @@ fn table(alloc: Global, key: Key) -> Result<TreeCore<u64>, Refusal> {
     });
     table.init(key, progress);
     table.set_state(key, HALTED);
-    Ok(table)
+    table
 }
 
 #[test]
-fn a_table_changes_the_task_of_a_key(rt: HostRuntime) -> Result<(), Fail> {
+fn a_table_changes_the_task_of_a_key(rt: HostRuntime) {
     let key = key_at(&[3]);
-    let mut table = table(rt.alloc(), key)?;
+    let mut table = table(&rt, rt.alloc(), key);
     assert_same(&rt, table.set_max(key, Some(7)), Some(10), "bound before");
     assert_same(&rt, table.name(key), Some("b"), "name");
     assert_same(&rt, table.id(key), ID, "identifier");
     assert_same(&rt, table.max(key), Some(7), "bound");
     assert_same(&rt, table.len(), 1, "tasks");
     assert_same(&rt, table.is_empty(), false, "empty");
-    Ok(())
 }
 
 #[test]
-fn a_table_has_no_task_at_another_key(rt: HostRuntime) -> Result<(), Fail> {
+fn a_table_has_no_task_at_another_key(rt: HostRuntime) {
     let other = key_at(&[3, 0]);
-    let mut table = table(rt.alloc(), key_at(&[3]))?;
-    table.set_name(rt.alloc(), other, "c")?;
+    let mut table = table(&rt, rt.alloc(), key_at(&[3]));
+    table
+        .set_name(rt.alloc(), other, "c")
+        .expect(&rt, "no refusal");
     table.set_state(other, State::Running);
     assert_same(&rt, table.set_max(other, Some(7)), None, "bound before");
     assert_same(&rt, table.name(other), None, "name");
     assert_same(&rt, table.id(other), UNKNOWN, "identifier");
     assert_same(&rt, table.max(other), None, "bound");
     assert_same(&rt, table.len(), 1, "tasks");
-    Ok(())
 }

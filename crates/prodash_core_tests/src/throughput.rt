@@ -1,11 +1,10 @@
 use crate::fixtures::{ShortRow, assert_same, key_at, rows};
+use prodash_base::Throughput;
 use prodash_base::progress::{Key, Row};
 use prodash_base::throughput::FrameThroughput;
 use prodash_base::unit::display;
-use prodash_base::{Refusal, Throughput};
 use std::alloc::Global;
 use std::process::Abort;
-use std::test::Fail;
 
 /// A moment, the step of a key at it if the key has progress, and the change in one second that is
 /// returned.
@@ -128,43 +127,38 @@ fn assert_changes(
     tracker: &mut Throughput,
     at: u64,
     changes: &[Change],
-) -> Result<(), Refusal> {
+) {
     tracker.update_elapsed(at);
     for (number, step, want) in changes {
-        let got = tracker.update_and_get(alloc, &key_at(&[*number]), *step)?;
+        let got = tracker
+            .update_and_get(alloc, &key_at(&[*number]), *step)
+            .expect(rt, "no refusal");
         let want = want.map(|change| display::Throughput::new(change, 1_000_000_000));
         assert_same(rt, got, want, (at, *number));
     }
-    Ok(())
 }
 
-fn assert_turns(rt: &impl Abort, alloc: Global, turns: &[Turn]) -> Result<(), Refusal> {
+fn assert_turns(rt: &impl Abort, alloc: Global, turns: &[Turn]) {
     let mut tracker = Throughput::new(alloc);
     for (at, step, want) in turns {
-        assert_changes(rt, alloc, &mut tracker, *at, &[(0, *step, *want)])?;
+        assert_changes(rt, alloc, &mut tracker, *at, &[(0, *step, *want)]);
     }
-    Ok(())
 }
 
 #[test]
-fn throughput_changes_at_marks(rt: HostRuntime) -> Result<(), Fail> {
+fn throughput_changes_at_marks(rt: HostRuntime) {
     for turns in &TABLES {
-        assert_turns(&rt, rt.alloc(), turns)?;
+        assert_turns(&rt, rt.alloc(), turns);
     }
-    Ok(())
 }
 
 /// A tracker after these moments.
-fn tracker_after(
-    rt: &impl Abort,
-    alloc: Global,
-    moments: &[Moment],
-) -> Result<Throughput, Refusal> {
+fn tracker_after(rt: &impl Abort, alloc: Global, moments: &[Moment]) -> Throughput {
     let mut tracker = Throughput::new(alloc);
     for (at, changes) in moments {
-        assert_changes(rt, alloc, &mut tracker, *at, changes)?;
+        assert_changes(rt, alloc, &mut tracker, *at, changes);
     }
-    Ok(tracker)
+    tracker
 }
 
 /// The key 7 has the steps of `STEADY`, and the first two moments have another key.
@@ -181,9 +175,8 @@ const APART: &[Moment] = &[
 ];
 
 #[test]
-fn keys_are_measured_apart(rt: HostRuntime) -> Result<(), Fail> {
-    tracker_after(&rt, rt.alloc(), APART)?;
-    Ok(())
+fn keys_are_measured_apart(rt: HostRuntime) {
+    tracker_after(&rt, rt.alloc(), APART);
 }
 
 /// Three keys at two moments.
@@ -208,26 +201,26 @@ const OF_LISTED: &[Change] = &[
 ];
 
 #[test]
-fn unlisted_keys_are_forgotten(rt: HostRuntime) -> Result<(), Fail> {
+fn unlisted_keys_are_forgotten(rt: HostRuntime) {
     let alloc = rt.alloc();
-    let mut tracker = tracker_after(&rt, alloc, THREE)?;
-    tracker.reconcile(rows(alloc, LISTED)?.as_slice());
-    assert_changes(&rt, alloc, &mut tracker, LATER, OF_LISTED)?;
-    Ok(())
+    let mut tracker = tracker_after(&rt, alloc, THREE);
+    tracker.reconcile(rows(alloc, LISTED).expect(&rt, "memory").as_slice());
+    assert_changes(&rt, alloc, &mut tracker, LATER, OF_LISTED);
 }
 
 #[test]
-fn copies_are_equal_and_independent(rt: HostRuntime) -> Result<(), Fail> {
+fn copies_are_equal_and_independent(rt: HostRuntime) {
     let alloc = rt.alloc();
-    let mut tracker = tracker_after(&rt, alloc, THREE)?;
-    let mut copy = tracker.copy(alloc, rows(alloc, LISTED)?.as_slice())?;
-    let mut later = tracker.copy(alloc, &[])?;
+    let mut tracker = tracker_after(&rt, alloc, THREE);
+    let mut copy = tracker
+        .copy(alloc, rows(alloc, LISTED).expect(&rt, "memory").as_slice())
+        .expect(&rt, "no refusal");
+    let mut later = tracker.copy(alloc, &[]).expect(&rt, "no refusal");
     tracker.reconcile(&[]);
-    assert_changes(&rt, alloc, &mut copy, LATER, &[(1, Some(30), Some(10))])?;
-    assert_changes(&rt, alloc, &mut copy, LAST, &[(1, Some(70), Some(20))])?;
-    assert_changes(&rt, alloc, &mut tracker, LATER, &[(1, Some(30), None)])?;
-    assert_changes(&rt, alloc, &mut later, LATER, &[(1, Some(30), Some(10))])?;
-    Ok(())
+    assert_changes(&rt, alloc, &mut copy, LATER, &[(1, Some(30), Some(10))]);
+    assert_changes(&rt, alloc, &mut copy, LAST, &[(1, Some(70), Some(20))]);
+    assert_changes(&rt, alloc, &mut tracker, LATER, &[(1, Some(30), None)]);
+    assert_changes(&rt, alloc, &mut later, LATER, &[(1, Some(30), Some(10))]);
 }
 
 /// The moment of a frame, the step of a key in it, whether the frame is kept, and the change in one
@@ -256,49 +249,49 @@ fn draw(
     tracker: &mut FrameThroughput,
     rows: &[Row],
     frames: &[Frame],
-) -> Result<(), Refusal> {
+) {
     let key = key_at(&[3]);
     for (at, step, is_kept, want) in frames {
         tracker.begin(*at);
-        let got = tracker.observe(alloc, &key, Some(*step))?;
+        let got = tracker
+            .observe(alloc, &key, Some(*step))
+            .expect(rt, "no refusal");
         let want = want.map(|change| display::Throughput::new(change, 1_000_000_000));
         assert_same(rt, got, want, *at);
         if *is_kept {
             tracker.keep(rows);
         }
     }
-    Ok(())
 }
 
 #[test]
-fn frames_that_are_not_kept_are_taken_back(rt: HostRuntime) -> Result<(), Fail> {
+fn frames_that_are_not_kept_are_taken_back(rt: HostRuntime) {
     let alloc = rt.alloc();
-    let listed = rows(alloc, LISTED)?;
+    let listed = rows(alloc, LISTED).expect(&rt, "memory");
     let mut tracker = FrameThroughput::new(alloc);
-    draw(&rt, alloc, &mut tracker, listed.as_slice(), FRAMES)?;
-    let mut copy = tracker.copy()?;
+    draw(&rt, alloc, &mut tracker, listed.as_slice(), FRAMES);
+    let mut copy = tracker.copy().expect(&rt, "no refusal");
     draw(
         &rt,
         alloc,
         &mut tracker,
         &[],
         &[(3_000_000_000, 90, true, Some(58))],
-    )?;
+    );
     draw(
         &rt,
         alloc,
         &mut tracker,
         &[],
         &[(9_000_000_000, 90, true, None)],
-    )?;
+    );
     draw(
         &rt,
         alloc,
         &mut copy,
         &[],
         &[(9_000_000_000, 90, true, Some(0))],
-    )?;
-    Ok(())
+    );
 }
 
 /// A second in nanoseconds.
@@ -359,10 +352,12 @@ fn watch(
     turn: u64,
     elapsed: u64,
     value: u64,
-) -> Result<(), Refusal> {
-    let got = tracker.update_and_get(alloc, &watched.key, Some(value))?;
+) {
+    let got = tracker
+        .update_and_get(alloc, &watched.key, Some(value))
+        .expect(rt, "no refusal");
     let rise = value.saturating_sub(watched.value);
-    watched.samples.push((elapsed, rise))?;
+    watched.samples.push((elapsed, rise)).expect(rt, "memory");
     watched.value = value;
     if turn % 2_500 == 7 {
         let want = rate_of(&watched.samples);
@@ -371,12 +366,11 @@ fn watch(
     }
     let kept = tracker.kept_samples(&watched.key);
     assert_same(rt, kept <= (ONE_SECOND / SHORTEST) as usize, true, turn);
-    Ok(())
 }
 
 /// 25,000 moments of four keys.
 #[test]
-fn long_runs_forget(rt: HostRuntime) -> Result<(), Fail> {
+fn long_runs_forget(rt: HostRuntime) {
     let alloc = rt.alloc();
     let paths: [&[u32]; 4] = [&[1], &[2], &[2, 1], &[3]];
     let mut all: Vec<Watched> = Vec::new(alloc);
@@ -386,7 +380,8 @@ fn long_runs_forget(rt: HostRuntime) -> Result<(), Fail> {
             key,
             value: 0,
             samples,
-        })?;
+        })
+        .expect(&rt, "memory");
     }
     let mut tracker = Throughput::new(alloc);
     let mut at: u64 = 0;
@@ -397,8 +392,7 @@ fn long_runs_forget(rt: HostRuntime) -> Result<(), Fail> {
         tracker.update_elapsed(at);
         for (number, watched) in all.iter_mut().enumerate() {
             let value = value_at(turn, number);
-            watch(&rt, alloc, &mut tracker, watched, turn, elapsed, value)?;
+            watch(&rt, alloc, &mut tracker, watched, turn, elapsed, value);
         }
     }
-    Ok(())
 }

@@ -7,15 +7,14 @@ use prodash_line::render::line::draw::MemoryScreen;
 use prodash_script::{Labels, number, parse};
 use std::alloc::Global;
 use std::process::Abort;
-use std::test::Fail;
 
 /// Parses an event. Besides the lines of `prodash_script` there are those of a resize that shows no
 /// rows, and of the queries of the tree and of an item.
-pub(crate) fn event_of(alloc: Global, line: &str) -> Result<Event, Fail> {
-    if let Some(event) = parse(alloc, &mut Labels::new(alloc), line)? {
-        return Ok(event);
+pub(crate) fn event_of(rt: &impl Abort, alloc: Global, line: &str) -> Event {
+    if let Some(event) = parse(alloc, &mut Labels::new(alloc), line).expect(rt, "memory") {
+        return event;
     }
-    Ok(unwritten_event(line).ok_or("not an event")?)
+    unwritten_event(line).expect(rt, "an event")
 }
 
 /// Parses an event that has no line in a script.
@@ -65,22 +64,22 @@ fn query_of(word: &str, item: Handle) -> Option<Event> {
 }
 
 /// Returns the events of a transcript.
-pub(crate) fn events_of(alloc: Global, transcript: &str) -> Result<Vec<Event>, Fail> {
+pub(crate) fn events_of(rt: &impl Abort, alloc: Global, transcript: &str) -> Vec<Event> {
     let mut events = Vec::new(alloc);
     for line in transcript.lines() {
-        let (asked, _) = line.split_once(" -> ").ok_or("no reply")?;
-        events.push(event_of(alloc, asked)?)?;
+        let (asked, _) = line.split_once(" -> ").expect(rt, "a reply");
+        events.push(event_of(rt, alloc, asked)).expect(rt, "memory");
     }
-    Ok(events)
+    events
 }
 
 /// Returns what a transcript has after an event.
-fn outcome(alloc: Global, reply: &Reply, bytes: &[u8]) -> Result<String, Fail> {
+fn outcome(rt: &impl Abort, alloc: Global, reply: &Reply, bytes: &[u8]) -> String {
     if bytes.is_empty() {
-        return Ok(format!(in alloc; "{reply:?}")?);
+        return format!(in alloc; "{reply:?}").expect(rt, "memory");
     }
-    let bytes = str::from_utf8(bytes).ok().ok_or("not UTF-8")?;
-    Ok(format!(in alloc; "{reply:?} -> {bytes:?}")?)
+    let bytes = str::from_utf8(bytes).expect(rt, "UTF-8");
+    format!(in alloc; "{reply:?} -> {bytes:?}").expect(rt, "memory")
 }
 
 /// Asserts that a session replies and draws as in the transcript.
@@ -89,32 +88,25 @@ pub(crate) fn assert_session(
     alloc: Global,
     session: &mut Session,
     transcript: &str,
-) -> Result<(), Fail> {
+) {
     for line in transcript.lines() {
-        assert_line(rt, alloc, session, line)?;
+        assert_line(rt, alloc, session, line);
     }
-    Ok(())
 }
 
 /// Asserts that a session replies and draws as a line of a transcript says.
-fn assert_line(
-    rt: &impl Abort,
-    alloc: Global,
-    session: &mut Session,
-    line: &str,
-) -> Result<(), Fail> {
-    let (asked, told) = line.split_once(" -> ").ok_or("no reply")?;
-    let event = event_of(alloc, asked)?;
-    let got = outcome_of(alloc, session, &event)?;
+fn assert_line(rt: &impl Abort, alloc: Global, session: &mut Session, line: &str) {
+    let (asked, told) = line.split_once(" -> ").expect(rt, "a reply");
+    let event = event_of(rt, alloc, asked);
+    let got = outcome_of(rt, alloc, session, &event);
     assert_same(rt, got.as_str(), told, asked);
-    Ok(())
 }
 
 /// Applies an event to a session, and returns what a transcript has after it.
-fn outcome_of(alloc: Global, session: &mut Session, event: &Event) -> Result<String, Fail> {
-    let mut screen = MemoryScreen::new(alloc, 0)?;
+fn outcome_of(rt: &impl Abort, alloc: Global, session: &mut Session, event: &Event) -> String {
+    let mut screen = MemoryScreen::new(alloc, 0).expect(rt, "memory");
     let reply = applied(alloc, session, event, &mut screen);
-    outcome(alloc, &reply, screen.bytes())
+    outcome(rt, alloc, &reply, screen.bytes())
 }
 
 /// Applies an event to a session, without a promise about the reply.
@@ -134,10 +126,9 @@ pub(crate) fn assert_reply(
     tree: &mut TreeState,
     event: &Event,
     told: &str,
-) -> Result<(), Fail> {
+) {
     assert!(rt; !event.is_frame());
     let reply = tree.apply(alloc, event).unwrap_or_else(Reply::Refused);
-    let got = format!(in alloc; "{reply:?}")?;
+    let got = format!(in alloc; "{reply:?}").expect(rt, "memory");
     assert_same(rt, got.as_str(), told, event);
-    Ok(())
 }

@@ -2,7 +2,6 @@ use crate::drawings::Ask::Measure;
 use crate::drawings::{Drawing, assert_draws};
 use prodash_base::unit::human::Formatter;
 use prodash_base::unit::{Bytes, Duration, Human, Kind, Range};
-use std::test::Fail;
 
 /// Large numbers of `objects`, with two decimals.
 const OBJECTS: Kind = Kind::Human(Human {
@@ -37,6 +36,6 @@ const LINES: &[Drawing] = &[
 ];
 
 #[test]
-fn rows_show_their_units(rt: HostRuntime) -> Result<(), Fail> {
+fn rows_show_their_units(rt: HostRuntime) {
     assert_draws(&rt, rt.alloc(), LINES)
 }

@@ -1,5 +1,4 @@
 use crate::fixtures::{assert_ascending, assert_distinct, assert_hashed, assert_same};
-use prodash_base::Refusal;
 use prodash_base::progress::Step;
 use prodash_base::unit::display::{self, Location, Mode, Throughput, UnitDisplay};
 use prodash_base::unit::human::Formatter;
@@ -9,7 +8,6 @@ use prodash_base::unit::{
 };
 use std::alloc::{AllocError, Global};
 use std::process::Abort;
-use std::test::Fail;
 
 const SECOND: u64 = 1_000_000_000;
 
@@ -110,51 +108,42 @@ fn display_of(alloc: Global, line: &Line) -> UnitDisplay {
     unit(kind, shows).display(alloc, value, bound, throughput)
 }
 
-fn assert_text(
-    rt: &impl Abort,
-    alloc: Global,
-    display: &UnitDisplay,
-    want: &str,
-) -> Result<(), AllocError> {
-    assert_same(rt, display.to_string(alloc)?.as_str(), want, "display");
-    Ok(())
+fn assert_text(rt: &impl Abort, alloc: Global, display: &UnitDisplay, want: &str) {
+    assert_same(
+        rt,
+        display.to_string(alloc).expect(rt, "memory").as_str(),
+        want,
+        "display",
+    );
 }
 
 /// The text is appended to what is there.
-fn assert_appended(
-    rt: &impl Abort,
-    alloc: Global,
-    display: &UnitDisplay,
-    want: &str,
-) -> Result<(), Refusal> {
-    let mut text = String::from_str(alloc, "> ")?;
-    display.append_to(&mut text)?;
+fn assert_appended(rt: &impl Abort, alloc: Global, display: &UnitDisplay, want: &str) {
+    let mut text = String::from_str(alloc, "> ").expect(rt, "memory");
+    display.append_to(&mut text).expect(rt, "memory");
     assert_same(rt, text.as_str().strip_prefix("> "), Some(want), "appended");
-    Ok(())
 }
 
 #[test]
-fn values_have_texts(rt: HostRuntime) -> Result<(), Fail> {
+fn values_have_texts(rt: HostRuntime) {
     for line in TEXTS {
         let display = display_of(rt.alloc(), line);
-        assert_text(&rt, rt.alloc(), &display, line.5)?;
-        assert_appended(&rt, rt.alloc(), &display, line.5)?;
+        assert_text(&rt, rt.alloc(), &display, line.5);
+        assert_appended(&rt, rt.alloc(), &display, line.5);
     }
-    Ok(())
 }
 
 #[test]
-fn a_display_keeps_its_part(rt: HostRuntime) -> Result<(), Fail> {
+fn a_display_keeps_its_part(rt: HostRuntime) {
     let alloc = rt.alloc();
     let unit = label_and_mode("B", Mode::with_percentage());
     let mut display = unit.display(alloc, 3, Some(10), None);
-    assert_text(&rt, alloc, &display, "3/10 B [30%]")?;
-    assert_text(&rt, alloc, display.values(), "3/10")?;
-    assert_text(&rt, alloc, &display, "3/10")?;
-    assert_text(&rt, alloc, display.unit(), "B [30%]")?;
-    assert_text(&rt, alloc, &display, "B [30%]")?;
-    assert_text(&rt, alloc, display.all(), "3/10 B [30%]")?;
-    Ok(())
+    assert_text(&rt, alloc, &display, "3/10 B [30%]");
+    assert_text(&rt, alloc, display.values(), "3/10");
+    assert_text(&rt, alloc, &display, "3/10");
+    assert_text(&rt, alloc, display.unit(), "B [30%]");
+    assert_text(&rt, alloc, &display, "B [30%]");
+    assert_text(&rt, alloc, display.all(), "3/10 B [30%]");
 }
 
 /// The moments of the begin and the end, a step, the kind of its unit if it has one, and the text.
@@ -171,20 +160,18 @@ const MESSAGES: &[Message] = &[
     (0, SECOND, 1, Some(STEPS), "done 2 steps in 1.00s (2 steps/s)"),
 ];
 
-fn assert_message(rt: &impl Abort, alloc: Global, row: &Message) -> Result<(), Refusal> {
+fn assert_message(rt: &impl Abort, alloc: Global, row: &Message) {
     let (start, now, step, kind, want) = *row;
     let unit = kind.map(|kind| dynamic(kind));
-    let text = throughput_message(alloc, start, now, step, unit.as_ref())?;
+    let text = throughput_message(alloc, start, now, step, unit.as_ref()).expect(rt, "memory");
     assert_same(rt, text.as_str(), want, "message");
-    Ok(())
 }
 
 #[test]
-fn throughput_messages(rt: HostRuntime) -> Result<(), Fail> {
+fn throughput_messages(rt: HostRuntime) {
     for row in MESSAGES {
-        assert_message(&rt, rt.alloc(), row)?;
+        assert_message(&rt, rt.alloc(), row);
     }
-    Ok(())
 }
 
 #[test]
@@ -249,8 +236,8 @@ fn orders_go_by_the_fields(rt: HostRuntime) {
 }
 
 #[test]
-fn modes_and_locations_are_hashed(rt: HostRuntime) -> Result<(), Fail> {
-    assert_hashed(&rt, rt.alloc(), &modes())?;
+fn modes_and_locations_are_hashed(rt: HostRuntime) {
+    assert_hashed(&rt, rt.alloc(), &modes());
     assert_hashed(
         &rt,
         rt.alloc(),
@@ -320,29 +307,30 @@ impl DisplayValue for Stars {
 }
 
 #[test]
-fn an_own_kind_is_appended(rt: HostRuntime) -> Result<(), Fail> {
+fn an_own_kind_is_appended(rt: HostRuntime) {
     let mode = Some(Mode::with_percentage().and_throughput());
     let throughput = Some(Throughput::new(5, 7));
-    let mut text = String::from_str(rt.alloc(), "> ")?;
-    display::append(&mut text, &Stars, mode, 3, Some(10), throughput)?;
-    display::append_values(&mut text, &Stars, mode, 4, Some(10), throughput)?;
-    display::append_unit(&mut text, &Stars, mode, 5, Some(10), throughput)?;
+    let mut text = String::from_str(rt.alloc(), "> ").expect(&rt, "memory");
+    display::append(&mut text, &Stars, mode, 3, Some(10), throughput).expect(&rt, "memory");
+    display::append_values(&mut text, &Stars, mode, 4, Some(10), throughput).expect(
+        &rt,
+        "no refusal",
+    );
+    display::append_unit(&mut text, &Stars, mode, 5, Some(10), throughput).expect(&rt, "memory");
     let want = "> 3 ~ 10 stars [30%] |5/tick|4 ~ 10stars [50%] |5/tick|";
     assert_same(&rt, text.as_str(), want, "text");
-    Ok(())
 }
 
 #[test]
-fn displays_ignore_width_and_precision(rt: HostRuntime) -> Result<(), Fail> {
+fn displays_ignore_width_and_precision(rt: HostRuntime) {
     let alloc = rt.alloc();
     let display = label("items").display(alloc, 3, Some(10), None);
     let texts = [
-        format!(in alloc; "{display:>20}")?,
-        format!(in alloc; "{display:020}")?,
-        format!(in alloc; "{display:.2}")?,
+        format!(in alloc; "{display:>20}").expect(&rt, "memory"),
+        format!(in alloc; "{display:020}").expect(&rt, "memory"),
+        format!(in alloc; "{display:.2}").expect(&rt, "memory"),
     ];
     for text in &texts {
         assert_same(&rt, text.as_str(), "3/10 items", "display");
     }
-    Ok(())
 }

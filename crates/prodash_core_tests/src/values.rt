@@ -9,7 +9,6 @@ use prodash_base::{Refusal, Text};
 use std::alloc::{AllocError, Global};
 use std::fmt::Debug;
 use std::process::Abort;
-use std::test::Fail;
 
 const STATES: &[State] = &[
     State::Blocked("a", None),
@@ -35,7 +34,7 @@ fn derived_orders(rt: HostRuntime) {
 }
 
 #[test]
-fn states_are_hashed(rt: HostRuntime) -> Result<(), Fail> {
+fn states_are_hashed(rt: HostRuntime) {
     assert_hashed(&rt, rt.alloc(), STATES)
 }
 
@@ -72,9 +71,9 @@ const TEXTS: &[(Refusal, &str)] = &[
 ];
 
 #[test]
-fn refusals_have_texts(rt: HostRuntime) -> Result<(), Fail> {
+fn refusals_have_texts(rt: HostRuntime) {
     for (refusal, want) in TEXTS {
-        let text = format!(in rt.alloc(); "{refusal}")?;
+        let text = format!(in rt.alloc(); "{refusal}").expect(&rt, "memory");
         assert_same(&rt, text.as_str(), *want, *refusal);
     }
     assert_same(
@@ -83,7 +82,6 @@ fn refusals_have_texts(rt: HostRuntime) -> Result<(), Fail> {
         Refusal::Memory,
         "allocation",
     );
-    Ok(())
 }
 
 #[test]
@@ -103,7 +101,7 @@ fn plain_values_differ_by_any_field(rt: HostRuntime) {
 }
 
 /// Values that differ in one field each.
-fn some_values(alloc: Global) -> Result<Vec<Value>, AllocError> {
+fn some_values(rt: &impl Abort, alloc: Global) -> Vec<Value> {
     let mut values = Vec::new(alloc);
     for (step, done_at, state) in [
         (3, Some(10), State::Running),
@@ -112,14 +110,16 @@ fn some_values(alloc: Global) -> Result<Vec<Value>, AllocError> {
         (3, None, State::Running),
         (3, Some(10), State::Halted("a", None)),
     ] {
-        values.push(Value {
-            step,
-            done_at,
-            unit: None,
-            state,
-        })?;
+        values
+            .push(Value {
+                step,
+                done_at,
+                unit: None,
+                state,
+            })
+            .expect(rt, "memory");
     }
-    Ok(values)
+    values
 }
 
 const ROWS: &[(&[u32], &str, Id, Progress)] = &[
@@ -131,19 +131,19 @@ const ROWS: &[(&[u32], &str, Id, Progress)] = &[
 ];
 
 /// Rows that differ in one field each.
-fn some_rows(alloc: Global) -> Result<Vec<Row>, AllocError> {
+fn some_rows(rt: &impl Abort, alloc: Global) -> Vec<Row> {
     let mut rows = Vec::new(alloc);
     for (numbers, name, id, progress) in ROWS {
-        let mut row = row(alloc, key_at(numbers), name, *progress)?;
+        let mut row = row(alloc, key_at(numbers), name, *progress).expect(rt, "memory");
         let id = *id;
         row.id = id;
-        rows.push(row)?;
+        rows.push(row).expect(rt, "memory");
     }
-    Ok(rows)
+    rows
 }
 
 /// Messages that differ in one field each.
-fn some_messages(alloc: Global) -> Result<Vec<Message>, AllocError> {
+fn some_messages(rt: &impl Abort, alloc: Global) -> Vec<Message> {
     let mut messages = Vec::new(alloc);
     for (time, level, origin, text) in [
         (1, MessageLevel::Info, "task", "text"),
@@ -152,90 +152,91 @@ fn some_messages(alloc: Global) -> Result<Vec<Message>, AllocError> {
         (1, MessageLevel::Info, "text", "text"),
         (1, MessageLevel::Info, "task", "task"),
     ] {
-        messages.push(message(alloc, time, level, origin, text)?)?;
+        messages
+            .push(message(alloc, time, level, origin, text).expect(rt, "memory"))
+            .expect(rt, "memory");
     }
-    Ok(messages)
+    messages
 }
 
 #[test]
-fn values_differ_by_any_field(rt: HostRuntime) -> Result<(), Fail> {
-    let values = some_values(rt.alloc())?;
-    assert_distinct(&rt, &values, &clones(rt.alloc(), &values)?);
-    Ok(())
+fn values_differ_by_any_field(rt: HostRuntime) {
+    let values = some_values(&rt, rt.alloc());
+    assert_distinct(
+        &rt,
+        &values,
+        &clones(rt.alloc(), &values).expect(&rt, "memory"),
+    );
 }
 
 #[test]
-fn rows_differ_by_any_field(rt: HostRuntime) -> Result<(), Fail> {
-    let rows = some_rows(rt.alloc())?;
-    assert_distinct(&rt, &rows, &clones(rt.alloc(), &rows)?);
-    Ok(())
+fn rows_differ_by_any_field(rt: HostRuntime) {
+    let rows = some_rows(&rt, rt.alloc());
+    assert_distinct(&rt, &rows, &clones(rt.alloc(), &rows).expect(&rt, "memory"));
 }
 
 #[test]
-fn messages_differ_by_any_field(rt: HostRuntime) -> Result<(), Fail> {
-    let messages = some_messages(rt.alloc())?;
-    assert_distinct(&rt, &messages, &clones(rt.alloc(), &messages)?);
-    Ok(())
+fn messages_differ_by_any_field(rt: HostRuntime) {
+    let messages = some_messages(&rt, rt.alloc());
+    assert_distinct(
+        &rt,
+        &messages,
+        &clones(rt.alloc(), &messages).expect(&rt, "memory"),
+    );
 }
 
 #[test]
-fn texts_keep_their_bytes(rt: HostRuntime) -> Result<(), Fail> {
-    let text = Text::from_str(rt.alloc(), "日本")?;
-    let other = Text::from_str(rt.alloc(), "日")?;
-    let copy = text.clone()?;
+fn texts_keep_their_bytes(rt: HostRuntime) {
+    let text = Text::from_str(rt.alloc(), "日本").expect(&rt, "memory");
+    let other = Text::from_str(rt.alloc(), "日").expect(&rt, "memory");
+    let copy = text.clone().expect(&rt, "memory");
     assert_same(&rt, text.as_str(), "日本", "text");
     assert_same(&rt, (copy == text, copy == other), (true, false), "copy");
     assert_same(&rt, Text::new(copy.into_string()), text, "string");
-    Ok(())
 }
 
 const LISTED: &[ShortRow] = &[(&[1], "a", Some((3, Some(10)))), (&[2], "b", None)];
 
 #[test]
-fn rows_keep_their_list(rt: HostRuntime) -> Result<(), Fail> {
-    let snapshot = rows(rt.alloc(), LISTED)?;
+fn rows_keep_their_list(rt: HostRuntime) {
+    let snapshot = rows(rt.alloc(), LISTED).expect(&rt, "memory");
     assert_same(&rt, snapshot.as_slice().len(), 2, "rows");
     let list = snapshot.into_vec();
+    assert_same(&rt, list.len(), 2, "list");
     let [a, b] = list.as_slice() else {
-        return Err(Fail::new("not two rows"));
+        return;
     };
     assert_same(&rt, (a.name.as_str(), b.name.as_str()), ("a", "b"), "names");
-    Ok(())
 }
 
 #[test]
-fn messages_keep_their_list(rt: HostRuntime) -> Result<(), Fail> {
-    let copy = messages(rt.alloc(), &[("a", "x"), ("b", "y")])?;
+fn messages_keep_their_list(rt: HostRuntime) {
+    let copy = messages(rt.alloc(), &[("a", "x"), ("b", "y")]).expect(&rt, "memory");
     assert_same(&rt, copy.as_slice().len(), 2, "messages");
     let list = copy.into_vec();
+    assert_same(&rt, list.len(), 2, "list");
     let [a, b] = list.as_slice() else {
-        return Err(Fail::new("not two messages"));
+        return;
     };
     let texts = (a.message.as_str(), b.message.as_str());
     assert_same(&rt, texts, ("x", "y"), "texts");
-    Ok(())
 }
 
-fn assert_debug<T: Debug>(
-    rt: &impl Abort,
-    alloc: Global,
-    value: &T,
-    want: &str,
-) -> Result<(), AllocError> {
-    let text = format!(in alloc; "{value:?}")?;
+fn assert_debug<T: Debug>(rt: &impl Abort, alloc: Global, value: &T, want: &str) {
+    let text = format!(in alloc; "{value:?}").expect(rt, "memory");
     assert_same(rt, text.as_str(), want, "Debug");
-    Ok(())
 }
 
 #[test]
-fn rings_show_the_messages_that_they_keep(rt: HostRuntime) -> Result<(), Fail> {
+fn rings_show_the_messages_that_they_keep(rt: HostRuntime) {
     let alloc = rt.alloc();
-    let mut ring = MessageRingBuffer::with_capacity(alloc, 1)?;
-    ring.push_overwrite(alloc, 5, MessageLevel::Info, "task", "begins")?;
-    ring.push_overwrite(alloc, 9, MessageLevel::Success, "task", "ends")?;
+    let mut ring = MessageRingBuffer::with_capacity(alloc, 1).expect(&rt, "memory");
+    ring.push_overwrite(alloc, 5, MessageLevel::Info, "task", "begins")
+        .expect(&rt, "no refusal");
+    ring.push_overwrite(alloc, 9, MessageLevel::Success, "task", "ends")
+        .expect(&rt, "no refusal");
     let want = r#"MessageRingBuffer { ring: [Message 9 Success "task" "ends"], pushed: 2 }"#;
-    assert_debug(&rt, alloc, &ring, want)?;
-    Ok(())
+    assert_debug(&rt, alloc, &ring, want);
 }
 
 /// The numbers of a key, an identifier, a step with a bound and a state, and the row's `Debug`.
@@ -250,10 +251,10 @@ const ROW_TEXTS: &[(&[u32], Id, Option<(u64, Option<u64>, State)>, &str)] = &[
 ];
 
 #[test]
-fn rows_have_short_debug_texts(rt: HostRuntime) -> Result<(), Fail> {
+fn rows_have_short_debug_texts(rt: HostRuntime) {
     let alloc = rt.alloc();
     for (numbers, id, progress, want) in ROW_TEXTS {
-        let mut row = row(alloc, key_at(numbers), "task", None)?;
+        let mut row = row(alloc, key_at(numbers), "task", None).expect(&rt, "memory");
         row.id = *id;
         row.progress = progress.map(|(step, done_at, state)| Value {
             step,
@@ -261,9 +262,9 @@ fn rows_have_short_debug_texts(rt: HostRuntime) -> Result<(), Fail> {
             unit: None,
             state,
         });
-        assert_debug(&rt, alloc, &row, want)?;
+        assert_debug(&rt, alloc, &row, want);
     }
-    let mut measured = row(alloc, key_at(&[0]), "task", None)?;
+    let mut measured = row(alloc, key_at(&[0]), "task", None).expect(&rt, "memory");
     measured.progress = Some(Value {
         step: 3,
         done_at: None,
@@ -271,24 +272,22 @@ fn rows_have_short_debug_texts(rt: HostRuntime) -> Result<(), Fail> {
         state: State::Running,
     });
     let want = r#"Row [0] "task" 3 Unit { kind: Label("items"), mode: None }"#;
-    assert_debug(&rt, alloc, &measured, want)?;
-    Ok(())
+    assert_debug(&rt, alloc, &measured, want);
 }
 
 #[test]
-fn lists_have_short_debug_texts(rt: HostRuntime) -> Result<(), Fail> {
+fn lists_have_short_debug_texts(rt: HostRuntime) {
     let alloc = rt.alloc();
-    let rows = rows(alloc, LISTED)?;
-    let messages = messages(alloc, &[("a", "x"), ("b", "y")])?;
+    let rows = rows(alloc, LISTED).expect(&rt, "memory");
+    let messages = messages(alloc, &[("a", "x"), ("b", "y")]).expect(&rt, "memory");
     let lines = r#"Messages [Message 0 Info "a" "x", Message 0 Info "b" "y"]"#;
-    assert_debug(&rt, alloc, &rows, r#"Rows [Row [1] "a" 3/10, Row [2] "b"]"#)?;
-    assert_debug(&rt, alloc, &messages, lines)?;
-    assert_debug(&rt, alloc, &key_at(&[0, 1]), "Key [0, 1]")?;
+    assert_debug(&rt, alloc, &rows, r#"Rows [Row [1] "a" 3/10, Row [2] "b"]"#);
+    assert_debug(&rt, alloc, &messages, lines);
+    assert_debug(&rt, alloc, &key_at(&[0, 1]), "Key [0, 1]");
     assert_debug(
         &rt,
         alloc,
-        &Text::from_str(alloc, "a \"b\"")?,
+        &Text::from_str(alloc, "a \"b\"").expect(&rt, "memory"),
         r#""a \"b\"""#,
-    )?;
-    Ok(())
+    );
 }

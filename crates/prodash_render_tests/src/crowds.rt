@@ -9,6 +9,7 @@ use prodash::time::SystemClock;
 use prodash::tree::Root as TreeRoot;
 use prodash::tree::root::Options;
 use std::alloc::Global;
+use std::process::Abort;
 use std::rt;
 use std::sync::atomic::{AtomicU64, Ordering};
 use std::sync::{Arc, Wait};
@@ -42,18 +43,20 @@ fn work<R: Wait + rt::Clock + Clone + Drop>(
 }
 
 /// Starts the threads.
-fn start<R: Wait + Threads + rt::Clock + Clone + Drop + Send + Sync + 'static>(
+fn start<R: Wait + Threads + Abort + rt::Clock + Clone + Drop + Send + Sync + 'static>(
     rt: &R,
     alloc: Global,
     root: &TreeRoot<R>,
     clock: &Arc<SteppedClock<R>>,
-) -> Result<Vec<thread::JoinHandle<Result<(), Refusal>>>, Fail> {
+) -> Vec<thread::JoinHandle<Result<(), Refusal>>> {
     let mut running = Vec::new(alloc);
     for _ in 0..THREADS {
-        let (root, clock) = (root.clone()?, Arc::try_clone(clock)?);
-        running.push(thread::spawn(rt, move || work(alloc, &root, &clock))?)?;
+        let root = root.clone().expect(rt, "no refusal");
+        let clock = Arc::try_clone(clock).expect(rt, "memory");
+        let worker = thread::spawn(rt, move || work(alloc, &root, &clock)).expect(rt, "a thread");
+        running.push(worker).expect(rt, "memory");
     }
-    Ok(running)
+    running
 }
 
 /// Gives a renderer another size every millisecond.
@@ -78,15 +81,16 @@ fn messages_in(bytes: &[u8]) -> usize {
 /// No message is lost, and no task is left, while the renderer draws and is resized. It draws at
 /// most one frame for each task, and one for each size, so it can't keep the lock from the threads.
 #[test]
-fn a_crowd_loses_no_message(rt: HostRuntime) -> Result<(), Fail> {
+fn a_crowd_loses_no_message(rt: HostRuntime) {
     let alloc: Global = rt.alloc();
     let kept = Options {
         message_buffer_capacity: THREADS * TASKS,
         ..Options::default()
     };
-    let root = kept.create(rt, alloc)?;
-    let it = make_collecting(&rt, alloc, root.downgrade()?, true)?;
-    let running = start(&rt, alloc, &root, &it.clock)?;
+    let root = kept.create(rt, alloc).expect(&rt, "no refusal");
+    let weak = root.downgrade().expect(&rt, "no refusal");
+    let it = make_collecting(&rt, alloc, weak, true);
+    let running = start(&rt, alloc, &root, &it.clock);
     resize(&rt, &it.handle);
     for worker in running {
         assert_same(&rt, worker.join(&rt), Ok(()), "a thread's calls");
@@ -96,39 +100,39 @@ fn a_crowd_loses_no_message(rt: HostRuntime) -> Result<(), Fail> {
     assert_same(&rt, drawn, THREADS * TASKS, "messages");
     assert_same(&rt, root.num_tasks(), 0, "tasks");
     assert_ended(&rt, &it.clock);
-    Ok(())
 }
 
 /// Starts a renderer and ends it.
-fn draw_once<R: Wait + Threads + rt::Clock + Clone + Drop + Send + Sync + 'static>(
+fn draw_once<R: Wait + Threads + Abort + rt::Clock + Clone + Drop + Send + Sync + 'static>(
     rt: &R,
     alloc: Global,
     root: &TreeRoot<R>,
     clock: &Arc<SystemClock<R>>,
     writes: &Arc<AtomicU64>,
-) -> Result<(), Refusal> {
-    let writes = Arc::try_clone(writes)?;
-    let (weak, clock) = (root.downgrade()?, Arc::try_clone(clock)?);
+) {
+    let writes = Arc::try_clone(writes).expect(rt, "memory");
+    let weak = root.downgrade().expect(rt, "no refusal");
+    let clock = Arc::try_clone(clock).expect(rt, "memory");
     let out = Counting { writes };
-    render(rt.clone()?, alloc, out, weak, clock, options())?.shutdown_and_wait();
-    Ok(())
+    let theirs = rt.clone().expect(rt, "memory");
+    let handle = render(theirs, alloc, out, weak, clock, options()).expect(rt, "no refusal");
+    handle.shutdown_and_wait();
 }
 
 /// Renderers that are started and ended one after another leave no thread behind.
 #[test]
-fn renderers_leave_no_thread(rt: HostRuntime) -> Result<(), Fail> {
+fn renderers_leave_no_thread(rt: HostRuntime) {
     let alloc: Global = rt.alloc();
-    let root = TreeRoot::new(rt, alloc)?;
-    let task = root.add_child(alloc, "task")?;
-    let clock = Arc::new(alloc, SystemClock::new(rt))?;
-    let writes = Arc::new(alloc, AtomicU64::new(0))?;
+    let root = TreeRoot::new(rt, alloc).expect(&rt, "no refusal");
+    let task = root.add_child(alloc, "task").expect(&rt, "no refusal");
+    let clock = Arc::new(alloc, SystemClock::new(rt)).expect(&rt, "memory");
+    let writes = Arc::new(alloc, AtomicU64::new(0)).expect(&rt, "memory");
     for _ in 0..RENDERERS {
-        draw_once(&rt, alloc, &root, &clock, &writes)?;
+        draw_once(&rt, alloc, &root, &clock, &writes);
     }
     let has_drawn = writes.load(Ordering::SeqCst) >= RENDERERS as u64;
     assert_same(&rt, has_drawn, true, "frames of each");
     let is_ended = is_so_soon(&rt, &|| Arc::strong_count(&clock) == 1);
     assert_same(&rt, is_ended, true, "their threads end");
     drop(task);
-    Ok(())
 }

@@ -117,12 +117,13 @@ struct WeakTask {
 
 impl WeakTask {
     /// What finds the root of `task` at 3 of 10.
-    fn new(alloc: Global, next: &Arc<AtomicU64>) -> Result<WeakTask, Refusal> {
-        Ok(WeakTask {
-            row: row(alloc, key_at(&[0]), "task", Some((3, Some(10))))?,
-            next: Arc::try_clone(next)?,
-            asked: Arc::new(alloc, AtomicU64::new(0))?,
-        })
+    fn new(rt: &impl Abort, alloc: Global, next: &Arc<AtomicU64>) -> WeakTask {
+        let row = row(alloc, key_at(&[0]), "task", Some((3, Some(10))));
+        WeakTask {
+            row: row.expect(rt, "memory"),
+            next: Arc::try_clone(next).expect(rt, "memory"),
+            asked: Arc::new(alloc, AtomicU64::new(0)).expect(rt, "memory"),
+        }
     }
 
     fn found(&self, has_memory: bool) -> Result<Option<OneTask>, Refusal>
@@ -235,11 +236,11 @@ fn assert_each<W: WeakRoot + Drop>(
     weak: W,
     next: &AtomicU64,
     steps: &[Step],
-) -> Result<(), Refusal>
+)
 where
     W::Root: Root + Drop,
 {
-    let mut engine = Engine::new(alloc, screen, weak, TERMINAL, false)?;
+    let mut engine = Engine::new(alloc, screen, weak, TERMINAL, false).expect(rt, "no refusal");
     let mut before = 0;
     for (ask, result, bytes) in steps {
         let got = step(&mut engine, next, *ask);
@@ -248,23 +249,20 @@ where
         assert_same(rt, taken.get(before..), Some(bytes.as_bytes()), *ask);
         before = taken.len();
     }
-    Ok(())
 }
 
-fn assert_steps(rt: &impl Abort, alloc: Global, room: usize, steps: &[Step]) -> Result<(), Fail> {
-    let next = Arc::new(alloc, AtomicU64::new(FINDS))?;
-    let weak = WeakTask::new(alloc, &next)?;
-    let screen = FakeScreen::new(alloc, 200, room, true)?;
-    assert_each(rt, alloc, screen, weak, &next, steps)?;
-    Ok(())
+fn assert_steps(rt: &impl Abort, alloc: Global, room: usize, steps: &[Step]) {
+    let next = Arc::new(alloc, AtomicU64::new(FINDS)).expect(rt, "memory");
+    let weak = WeakTask::new(rt, alloc, &next);
+    let screen = FakeScreen::new(alloc, 200, room, true).expect(rt, "memory");
+    assert_each(rt, alloc, screen, weak, &next, steps);
 }
 
 #[test]
-fn steps_draw_or_are_refused(rt: HostRuntime) -> Result<(), Fail> {
+fn steps_draw_or_are_refused(rt: HostRuntime) {
     for (room, steps) in STEPS {
-        assert_steps(&rt, rt.alloc(), *room, steps)?;
+        assert_steps(&rt, rt.alloc(), *room, steps);
     }
-    Ok(())
 }
 
 /// When a task has taken how many steps of 100.
@@ -280,36 +278,38 @@ const STEPS_TAKEN: &[(u64, u64)] = &[
 const MEASURED_FRAME: &str = " t 50/100 items |33/s| [=======>-------]\n\x1b[1A";
 
 /// Ticks an engine that measures throughput. Returns the bytes that it has written.
-fn measured<W: WeakRoot + Drop>(alloc: Global, weak: W, task: &Steps) -> Result<Vec<u8>, Refusal>
+fn measured<W: WeakRoot + Drop>(rt: &impl Abort, alloc: Global, weak: W, task: &Steps) -> Vec<u8>
 where
     W::Root: Root + Drop,
 {
-    let screen = FakeScreen::new(alloc, 200, 1000, true)?;
-    let mut engine = Engine::new(alloc, screen, weak, TERMINAL, true)?;
+    let screen = FakeScreen::new(alloc, 200, 1000, true).expect(rt, "memory");
+    let mut engine = Engine::new(alloc, screen, weak, TERMINAL, true).expect(rt, "no refusal");
     for (at, step) in STEPS_TAKEN {
         task.set(*step);
-        engine.step(EngineEvent::Tick {
+        let tick = EngineEvent::Tick {
             at: *at,
             show: true,
-        })?;
+        };
+        engine.step(tick).expect(rt, "no refusal");
     }
     let mut bytes = Vec::new(alloc);
-    bytes.extend_from_slice(engine.screen().bytes.as_slice())?;
-    Ok(bytes)
+    let written = engine.screen().bytes.as_slice();
+    bytes.extend_from_slice(written).expect(rt, "memory");
+    bytes
 }
 
 #[test]
-fn frames_show_throughput(rt: HostRuntime) -> Result<(), Fail> {
+fn frames_show_throughput(rt: HostRuntime) {
     let alloc: Global = rt.alloc();
-    let root = TreeRoot::new(rt, alloc)?;
-    let item = root.add_child(alloc, "t")?;
+    let root = TreeRoot::new(rt, alloc).expect(&rt, "no refusal");
+    let item = root.add_child(alloc, "t").expect(&rt, "no refusal");
     let unit = label_and_mode("items", Mode::with_throughput());
     item.init(Some(100), Some(unit));
-    let bytes = measured(alloc, root.downgrade()?, item.steps())?;
+    let weak = root.downgrade().expect(&rt, "no refusal");
+    let bytes = measured(&rt, alloc, weak, item.steps());
     let is_last = bytes.ends_with(MEASURED_FRAME.as_bytes());
     assert_same(&rt, is_last, true, bytes.as_slice());
     drop(item);
-    Ok(())
 }
 
 /// The nanoseconds from one frame to the next.
@@ -355,58 +355,60 @@ pub(crate) struct Collecting<R: Wait + Threads + rt::Clock + Clone + Drop> {
 /// A renderer of this root, which holds its first write if it isn't open. Its ticker sleeps until
 /// the clock lets it go on.
 pub(crate) fn make_collecting<
-    R: Wait + Threads + rt::Clock + Clone + Drop + Send + Sync + 'static,
+    R: Wait + Threads + Abort + rt::Clock + Clone + Drop + Send + Sync + 'static,
     T: Root + Drop + Send + 'static,
     W: WeakRoot<Root = T> + Drop + Send + 'static,
->(rt: &R, alloc: Global, weak: W, is_open: bool) -> Result<Collecting<R>, Fail> {
-    let collected = Collected::new(alloc, is_open)?;
+>(rt: &R, alloc: Global, weak: W, is_open: bool) -> Collecting<R> {
+    let collected = Collected::new(alloc, is_open).expect(rt, "memory");
     let out = Collector {
-        rt: rt.clone()?,
+        rt: rt.clone().expect(rt, "memory"),
         alloc,
-        collected: Arc::try_clone(&collected)?,
+        collected: Arc::try_clone(&collected).expect(rt, "memory"),
     };
-    let clock = SteppedClock::new(alloc, rt.clone()?)?;
-    let theirs = Arc::try_clone(&clock)?;
-    let handle = render(rt.clone()?, alloc, out, weak, theirs, options())?;
-    Ok(Collecting {
+    let of_clock = rt.clone().expect(rt, "memory");
+    let clock = SteppedClock::new(alloc, of_clock).expect(rt, "memory");
+    let theirs = Arc::try_clone(&clock).expect(rt, "memory");
+    let of_handle = rt.clone().expect(rt, "memory");
+    let handle = render(of_handle, alloc, out, weak, theirs, options()).expect(rt, "no refusal");
+    Collecting {
         collected,
         clock,
         handle,
-    })
+    }
 }
 
 /// A renderer of a task at 3 of 10, which has drawn it, or holds that write if it isn't open. Its
 /// ticker sleeps until the clock lets it go on.
-fn make_drawn<R: Wait + Threads + rt::Clock + Clone + Drop + Send + Sync + 'static>(
+fn make_drawn<R: Wait + Threads + Abort + rt::Clock + Clone + Drop + Send + Sync + 'static>(
     rt: &R,
     alloc: Global,
     is_open: bool,
-) -> Result<Drawn<R>, Fail> {
-    let root = TreeRoot::new(rt.clone()?, alloc)?;
-    let item = root.add_child(alloc, "task")?;
+) -> Drawn<R> {
+    let of_tree = rt.clone().expect(rt, "memory");
+    let root = TreeRoot::new(of_tree, alloc).expect(rt, "no refusal");
+    let item = root.add_child(alloc, "task").expect(rt, "no refusal");
     item.init(Some(10), None);
     item.set(3);
-    let made = make_collecting(rt, alloc, root.downgrade()?, is_open)?;
+    let weak = root.downgrade().expect(rt, "no refusal");
     let Collecting {
         collected,
         clock,
         handle,
-    } = made;
+    } = make_collecting(rt, alloc, weak, is_open);
     let is_drawn = if is_open {
         is_collected_soon(rt, &collected, TASK_FRAME)
     } else {
         is_set_soon(rt, &collected.has_begun)
     };
-    if !is_drawn || !clock.has_begun_soon(1) {
-        return Err(Fail::new("no first frame"));
-    }
-    Ok(Drawn {
+    assert_same(rt, is_drawn, true, "first frame");
+    assert_same(rt, clock.has_begun_soon(1), true, "first sleep");
+    Drawn {
         root,
         item,
         collected,
         clock,
         handle,
-    })
+    }
 }
 
 /// Asserts that these frames are written.
@@ -447,8 +449,8 @@ pub(crate) fn assert_ended<R: rt::Clock + Abort + Drop>(rt: &R, clock: &Arc<Step
 /// While the first frame is held, `render` has returned, and the tree and the handle are used. Then
 /// comes the size that was asked for last, the last frame, and the closing frame.
 #[test]
-fn a_thread_draws(rt: HostRuntime) -> Result<(), Fail> {
-    let mut it = make_drawn(&rt, rt.alloc(), false)?;
+fn a_thread_draws(rt: HostRuntime) {
+    let mut it = make_drawn(&rt, rt.alloc(), false);
     assert_same(&rt, it.root.num_tasks(), 1, "tasks");
     it.item.set(4);
     it.handle.resize(50, 5);
@@ -460,13 +462,12 @@ fn a_thread_draws(rt: HostRuntime) -> Result<(), Fail> {
     assert_frames(&rt, &it.collected, &frames);
     assert_ended(&rt, &it.clock);
     drop(it.item);
-    Ok(())
 }
 
 /// The first frame comes at once, that of a size too, and each other after a sleep of the interval.
 #[test]
-fn frames_are_an_interval_apart(rt: HostRuntime) -> Result<(), Fail> {
-    let it = make_drawn(&rt, rt.alloc(), true)?;
+fn frames_are_an_interval_apart(rt: HostRuntime) {
+    let it = make_drawn(&rt, rt.alloc(), true);
     let length = it.clock.length.load(Ordering::SeqCst);
     assert_same(&rt, length, FRAME, "length of a sleep");
     // in this time the event loop comes to wait
@@ -488,24 +489,22 @@ fn frames_are_an_interval_apart(rt: HostRuntime) -> Result<(), Fail> {
     );
     assert_ended(&rt, &it.clock);
     drop(it.item);
-    Ok(())
 }
 
 /// A handle that is dropped draws a last frame and the closing frame, and waits for them.
 #[test]
-fn a_drop_closes(rt: HostRuntime) -> Result<(), Fail> {
-    let it = make_drawn(&rt, rt.alloc(), true)?;
+fn a_drop_closes(rt: HostRuntime) {
+    let it = make_drawn(&rt, rt.alloc(), true);
     it.item.set(4);
     drop(it.handle);
     assert_frames(&rt, &it.collected, &[TASK_FRAME, NEXT_FRAME, CLOSING_WIDE]);
     drop(it.item);
-    Ok(())
 }
 
 /// A renderer that is left to itself runs until its root is gone.
 #[test]
-fn a_detached_renderer_ends_with_its_root(rt: HostRuntime) -> Result<(), Fail> {
-    let it = make_drawn(&rt, rt.alloc(), true)?;
+fn a_detached_renderer_ends_with_its_root(rt: HostRuntime) {
+    let it = make_drawn(&rt, rt.alloc(), true);
     it.handle.detach();
     it.item.set(4);
     it.clock.end(1);
@@ -514,13 +513,12 @@ fn a_detached_renderer_ends_with_its_root(rt: HostRuntime) -> Result<(), Fail> {
     assert_ended(&rt, &it.clock);
     assert_drawn(&rt, &it.collected, &[TASK_FRAME, NEXT_FRAME, CLOSING_WIDE]);
     drop(it.item);
-    Ok(())
 }
 
 /// A disconnected handle asks for nothing, and still waits.
 #[test]
-fn a_disconnected_handle_waits(rt: HostRuntime) -> Result<(), Fail> {
-    let mut it = make_drawn(&rt, rt.alloc(), true)?;
+fn a_disconnected_handle_waits(rt: HostRuntime) {
+    let mut it = make_drawn(&rt, rt.alloc(), true);
     it.handle.disconnect();
     it.handle.resize(30, 4);
     it.handle.shutdown();
@@ -532,25 +530,23 @@ fn a_disconnected_handle_waits(rt: HostRuntime) -> Result<(), Fail> {
     it.handle.wait();
     assert_frames(&rt, &it.collected, &[TASK_FRAME, NEXT_FRAME, CLOSING_WIDE]);
     drop(it.item);
-    Ok(())
 }
 
 /// A forgotten renderer closes, and the drop of its handle doesn't wait for the frame that is held.
 #[test]
-fn a_forgotten_renderer_closes(rt: HostRuntime) -> Result<(), Fail> {
-    let mut it = make_drawn(&rt, rt.alloc(), false)?;
+fn a_forgotten_renderer_closes(rt: HostRuntime) {
+    let mut it = make_drawn(&rt, rt.alloc(), false);
     it.handle.forget();
     drop(it.handle);
     it.collected.is_open.store(true, Ordering::SeqCst);
     assert_drawn(&rt, &it.collected, &[TASK_FRAME, CLOSING_WIDE]);
     drop(it.item);
-    Ok(())
 }
 
 /// A handle that waits doesn't end its renderer, which ends with its root.
 #[test]
-fn a_wait_ends_nothing(rt: HostRuntime) -> Result<(), Fail> {
-    let it = make_drawn(&rt, rt.alloc(), true)?;
+fn a_wait_ends_nothing(rt: HostRuntime) {
+    let it = make_drawn(&rt, rt.alloc(), true);
     let Drawn {
         root,
         item,
@@ -558,7 +554,7 @@ fn a_wait_ends_nothing(rt: HostRuntime) -> Result<(), Fail> {
         clock,
         handle,
     } = it;
-    let theirs = Arc::try_clone(&collected)?;
+    let theirs = Arc::try_clone(&collected).expect(&rt, "memory");
     let worker = thread::spawn(&rt, move || {
         // in this time the handle waits
         thread::sleep(&rt, Duration::from_millis(100));
@@ -571,11 +567,11 @@ fn a_wait_ends_nothing(rt: HostRuntime) -> Result<(), Fail> {
         drop(root);
         clock.end(u64::MAX);
         is_drawn
-    })?;
+    })
+    .expect(&rt, "a thread");
     handle.wait();
     assert_frames(&rt, &collected, &[TASK_FRAME, NEXT_FRAME, CLOSING_WIDE]);
     assert_same(&rt, worker.join(&rt), true, "drawn before the end");
-    Ok(())
 }
 
 /// Waits until a root was looked for this often.
@@ -586,12 +582,12 @@ fn assert_asked<R: rt::Clock + Abort>(rt: &R, asked: &AtomicU64, count: u64) {
 
 /// Ticks that find no memory, and a root of too many owners, draw nothing and end nothing.
 #[test]
-fn refused_ticks_are_skipped(rt: HostRuntime) -> Result<(), Fail> {
+fn refused_ticks_are_skipped(rt: HostRuntime) {
     let alloc: Global = rt.alloc();
-    let next = Arc::new(alloc, AtomicU64::new(HAS_NO_MEMORY))?;
-    let weak = WeakTask::new(alloc, &next)?;
-    let asked = Arc::try_clone(&weak.asked)?;
-    let it = make_collecting(&rt, alloc, weak, true)?;
+    let next = Arc::new(alloc, AtomicU64::new(HAS_NO_MEMORY)).expect(&rt, "memory");
+    let weak = WeakTask::new(&rt, alloc, &next);
+    let asked = Arc::try_clone(&weak.asked).expect(&rt, "memory");
+    let it = make_collecting(&rt, alloc, weak, true);
     assert_asked(&rt, &asked, 1);
     next.store(IS_FULL, Ordering::SeqCst);
     it.clock.end(1);
@@ -601,17 +597,16 @@ fn refused_ticks_are_skipped(rt: HostRuntime) -> Result<(), Fail> {
     assert_drawn(&rt, &it.collected, &[TASK_FRAME]);
     it.handle.shutdown_and_wait();
     assert_ended(&rt, &it.clock);
-    Ok(())
 }
 
 /// A last frame that finds no memory is drawn once there is memory, and then the closing frame.
 #[test]
-fn the_last_frame_is_tried_again(rt: HostRuntime) -> Result<(), Fail> {
+fn the_last_frame_is_tried_again(rt: HostRuntime) {
     let alloc: Global = rt.alloc();
-    let next = Arc::new(alloc, AtomicU64::new(HAS_NO_MEMORY))?;
-    let weak = WeakTask::new(alloc, &next)?;
-    let asked = Arc::try_clone(&weak.asked)?;
-    let mut it = make_collecting(&rt, alloc, weak, true)?;
+    let next = Arc::new(alloc, AtomicU64::new(HAS_NO_MEMORY)).expect(&rt, "memory");
+    let weak = WeakTask::new(&rt, alloc, &next);
+    let asked = Arc::try_clone(&weak.asked).expect(&rt, "memory");
+    let mut it = make_collecting(&rt, alloc, weak, true);
     assert_asked(&rt, &asked, 1);
     it.handle.shutdown();
     assert_asked(&rt, &asked, 2);
@@ -619,7 +614,6 @@ fn the_last_frame_is_tried_again(rt: HostRuntime) -> Result<(), Fail> {
     it.clock.end(u64::MAX);
     it.handle.wait();
     assert_frames(&rt, &it.collected, &[TASK_FRAME, CLOSING_WIDE]);
-    Ok(())
 }
 
 /// A writer that takes a number of bytes and then fails.
@@ -648,28 +642,29 @@ impl Write for Breaking {
 /// A writer that breaks in the middle of a frame ends its renderer. The tree can be drawn by
 /// another.
 #[test]
-fn a_broken_writer_ends_its_renderer(rt: HostRuntime) -> Result<(), Fail> {
+fn a_broken_writer_ends_its_renderer(rt: HostRuntime) {
     let alloc: Global = rt.alloc();
-    let root = TreeRoot::new(rt, alloc)?;
-    let item = root.add_child(alloc, "task")?;
+    let root = TreeRoot::new(rt, alloc).expect(&rt, "no refusal");
+    let item = root.add_child(alloc, "task").expect(&rt, "no refusal");
     item.init(Some(10), None);
-    let failures = Arc::new(alloc, AtomicU64::new(0))?;
+    let failures = Arc::new(alloc, AtomicU64::new(0)).expect(&rt, "memory");
     let out = Breaking {
         left: 5,
-        failures: Arc::try_clone(&failures)?,
+        failures: Arc::try_clone(&failures).expect(&rt, "memory"),
     };
-    let clock = SteppedClock::new(alloc, rt)?;
-    let (weak, theirs) = (root.downgrade()?, Arc::try_clone(&clock)?);
-    let handle = render(rt, alloc, out, weak, theirs, options())?;
+    let clock = SteppedClock::new(alloc, rt).expect(&rt, "memory");
+    let weak = root.downgrade().expect(&rt, "no refusal");
+    let theirs = Arc::try_clone(&clock).expect(&rt, "memory");
+    let handle = render(rt, alloc, out, weak, theirs, options()).expect(&rt, "no refusal");
     assert_ended(&rt, &clock);
     handle.wait();
     assert_same(&rt, failures.load(Ordering::SeqCst), 1, "failed writes");
     item.set(3);
-    let it = make_collecting(&rt, alloc, root.downgrade()?, true)?;
+    let weak = root.downgrade().expect(&rt, "no refusal");
+    let it = make_collecting(&rt, alloc, weak, true);
     it.handle.shutdown_and_wait();
     assert_frames(&rt, &it.collected, &[TASK_FRAME, CLOSING_WIDE]);
     drop(item);
-    Ok(())
 }
 
 #[test]

@@ -8,8 +8,8 @@ use std::sync::atomic::{AtomicBool, Ordering};
 use std::test::*;
 use std::thread;
 
-/// A part of a runtime. While it is not open, a copy of it waits for ten seconds at most. An owner of a
-/// tree is cloned under the lock, and copies its runtime there.
+/// A part of a runtime. While it is not open, a copy of it waits for ten seconds at most. An owner
+/// of a tree is cloned under the lock, and copies its runtime there.
 #[derive(Drop)]
 struct Gate {
     rt: HostRuntime,
@@ -21,6 +21,7 @@ struct Gate {
 }
 
 impl Gate {
+    /// An open gate of this runtime.
     fn new(rt: HostRuntime, alloc: Global) -> Result<Gate, AllocError> {
         Ok(Gate {
             rt,
@@ -59,16 +60,18 @@ impl Clone for Gate {
 }
 
 #[test]
-fn steps_do_not_wait_for_the_lock(rt: HostRuntime) -> Result<(), Fail> {
+fn steps_do_not_wait_for_the_lock(rt: HostRuntime) {
     let alloc: Global = rt.alloc();
-    let gate = Gate::new(rt, alloc)?;
-    let root = Root::new((rt, gate.share()?), alloc)?;
-    let item = root.add_child(alloc, "task")?;
+    let gate = Gate::new(rt, alloc).expect(&rt, "memory");
+    let shared = gate.share().expect(&rt, "memory");
+    let root = Root::new((rt, shared), alloc).expect(&rt, "no refusal");
+    let item = root.add_child(alloc, "task").expect(&rt, "no refusal");
     gate.open.store(false, Ordering::SeqCst);
     let worker = thread::spawn(&rt, move || {
         let is_cloned = root.clone().is_ok();
         (root, is_cloned)
-    })?;
+    })
+    .expect(&rt, "a thread");
     is_set_soon(&rt, &gate.waits);
     item.set(3);
     item.inc_by(2);
@@ -87,5 +90,4 @@ fn steps_do_not_wait_for_the_lock(rt: HostRuntime) -> Result<(), Fail> {
     );
     drop(item);
     assert_same(&rt, root.num_tasks(), 0, "tasks");
-    Ok(())
 }

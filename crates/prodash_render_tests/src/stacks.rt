@@ -40,28 +40,31 @@ fn assert_no_thread<R: Wait + Threads + Abort + rt::Clock + Clone + Drop + Send 
     rt: &R,
     alloc: Global,
     stacks: StackSizes,
-) -> Result<(), Refusal> {
-    let writes = Arc::new(alloc, AtomicU64::new(0))?;
-    let clock = Arc::new(alloc, SystemClock::new(rt.clone()?))?;
-    let root = TreeRoot::new(rt.clone()?, alloc)?;
+) {
+    let writes = Arc::new(alloc, AtomicU64::new(0)).expect(rt, "memory");
+    let of_clock = rt.clone().expect(rt, "memory");
+    let clock = Arc::new(alloc, SystemClock::new(of_clock)).expect(rt, "memory");
+    let of_tree = rt.clone().expect(rt, "memory");
+    let root = TreeRoot::new(of_tree, alloc).expect(rt, "no refusal");
     let options = Options {
         initial_delay: Some(1_000_000),
         ..Options::default()
     };
     let out = Counting {
-        writes: Arc::try_clone(&writes)?,
+        writes: Arc::try_clone(&writes).expect(rt, "memory"),
     };
-    let (weak, theirs) = (root.downgrade()?, Arc::try_clone(&clock)?);
-    let refused = render_with_stacks(rt.clone()?, alloc, out, weak, theirs, options, stacks);
+    let weak = root.downgrade().expect(rt, "no refusal");
+    let theirs = Arc::try_clone(&clock).expect(rt, "memory");
+    let of_handle = rt.clone().expect(rt, "memory");
+    let refused = render_with_stacks(of_handle, alloc, out, weak, theirs, options, stacks);
     assert_same(rt, refused.err(), Some(Refusal::NoThread), stacks);
     assert_same(rt, writes.load(Ordering::SeqCst), 0, stacks);
     let owners = (Arc::strong_count(&writes), Arc::strong_count(&clock));
     assert_same(rt, owners, (1, 1), stacks);
-    Ok(())
 }
 
 #[test]
-fn renderers_without_a_thread_are_refused(rt: HostRuntime) -> Result<(), Fail> {
+fn renderers_without_a_thread_are_refused(rt: HostRuntime) {
     let alloc: Global = rt.alloc();
     let sizes = StackSizes::default();
     let refused = [
@@ -79,9 +82,8 @@ fn renderers_without_a_thread_are_refused(rt: HostRuntime) -> Result<(), Fail> {
         },
     ];
     for stacks in &refused {
-        assert_no_thread(&rt, alloc, *stacks)?;
+        assert_no_thread(&rt, alloc, *stacks);
     }
-    Ok(())
 }
 
 /// A clock that doesn't wait.
@@ -97,14 +99,14 @@ impl Clock for Idle {
 }
 
 #[test]
-fn logs_without_a_thread_are_refused(rt: HostRuntime) -> Result<(), Fail> {
+fn logs_without_a_thread_are_refused(rt: HostRuntime) {
     let alloc: Global = rt.alloc();
-    let logger = Arc::new(alloc, rt)?;
-    let clock = Arc::new(alloc, Idle)?;
-    let (theirs, their_clock) = (Arc::try_clone(&logger)?, Arc::try_clone(&clock)?);
+    let logger = Arc::new(alloc, rt).expect(&rt, "memory");
+    let clock = Arc::new(alloc, Idle).expect(&rt, "memory");
+    let theirs = Arc::try_clone(&logger).expect(&rt, "memory");
+    let their_clock = Arc::try_clone(&clock).expect(&rt, "memory");
     let refused = Log::with_stack_size(&rt, alloc, "main", None, theirs, their_clock, TOO_LARGE);
     assert_same(&rt, refused.err(), Some(Refusal::NoThread), "log");
     let owners = (Arc::strong_count(&logger), Arc::strong_count(&clock));
     assert_same(&rt, owners, (1, 1), "owners");
-    Ok(())
 }

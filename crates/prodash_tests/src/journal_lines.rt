@@ -2,7 +2,6 @@
 use crate::fixtures::assert_same;
 use crate::receipts::assert_last;
 use crate::recorded::{Replay, Round, Task, Work, add, assert_replayed, call_lines, on_new_tree};
-use prodash::Refusal;
 use prodash::tree::recorded::{Journal, Receipt, RecordedItem, TreeLedger};
 use prodash::tree::{Event, Reply, RootOptions, TreeState};
 use prodash_script::{Labels, Lines, Next, parse, to_line};
@@ -10,7 +9,6 @@ use std::alloc::Global;
 use std::process::Abort;
 use std::sync::Wait;
 use std::sync::ledger::Ledger;
-use std::test::*;
 
 const LINES: &[Round] = &[
     Round {
@@ -28,8 +26,8 @@ const LINES: &[Round] = &[
 ];
 
 #[test]
-fn a_journal_is_read_again_from_its_lines(rt: HostRuntime) -> Result<(), Fail> {
-    on_new_tree(rt, rt.alloc(), LINES, 171, Replay::Lines)
+fn a_journal_is_read_again_from_its_lines(rt: HostRuntime) {
+    on_new_tree(rt, rt.alloc(), LINES, 171, Replay::Lines);
 }
 
 const CALLS: &str = "init task 10 items
@@ -46,65 +44,66 @@ pub(crate) fn call_written<C: TreeLedger, S: Ledger, R: Wait + Abort>(
     alloc: Global,
     item: &mut RecordedItem<C, S>,
     receipts: &mut Vec<Receipt<C>>,
-) -> Result<(), Refusal> {
+) {
     for step in 0..10u64 {
         let task = Task {
-            item: add(rt, alloc, item, receipts)?,
+            item: add(rt, alloc, item, receipts),
             now: step,
         };
-        call_lines(rt, alloc, item, receipts, task, CALLS)?;
+        call_lines(rt, alloc, item, receipts, task, CALLS);
         if step % 2 == 0 {
-            call_lines(rt, alloc, item, receipts, task, "drop task")?;
+            call_lines(rt, alloc, item, receipts, task, "drop task");
         }
     }
-    Ok(())
 }
 
 /// Appends the line of an event, with a line feed. Returns whether it has one.
-fn push_line(alloc: Global, text: &mut String, event: &Event) -> Result<bool, Refusal> {
-    match to_line(alloc, event)? {
+fn push_line(rt: &impl Abort, alloc: Global, text: &mut String, event: &Event) -> bool {
+    match to_line(alloc, event).expect(rt, "memory") {
         Some(line) => {
-            text.push_str(line.as_str())?;
-            text.push_str("\n")?;
-            Ok(true)
+            text.push_str(line.as_str()).expect(rt, "memory");
+            text.push_str("\n").expect(rt, "memory");
+            true
         }
-        None => Ok(false),
+        None => false,
     }
 }
 
 /// Appends the lines of a journal's events, and returns how many have no line.
 fn write<C: TreeLedger>(
+    rt: &impl Abort,
     alloc: Global,
     text: &mut String,
     journal: &Journal<C>,
-) -> Result<usize, Refusal> {
+) -> usize {
     let mut without: usize = 0;
     for (event, _) in journal.entries() {
-        if !push_line(alloc, text, event)? {
+        if !push_line(rt, alloc, text, event) {
             without = without.wrapping_add(1);
         }
     }
-    Ok(without)
+    without
 }
 
 /// Returns the event that a line has.
-fn read_line(alloc: Global, line: &[u8]) -> Result<Event, Fail> {
-    let line = str::from_utf8(line).ok().ok_or("not a text")?;
-    let event = parse(alloc, &mut Labels::new(alloc), line)?.ok_or("not an event")?;
-    Ok(event)
+fn read_line(rt: &impl Abort, alloc: Global, line: &[u8]) -> Event {
+    let line = str::from_utf8(line).expect(rt, "a text");
+    let event = parse(alloc, &mut Labels::new(alloc), line).expect(rt, "memory");
+    event.expect(rt, "an event")
 }
 
 /// Returns the events that a text has as lines.
-fn read(alloc: Global, text: &str) -> Result<Vec<Event>, Fail> {
+fn read(rt: &impl Abort, alloc: Global, text: &str) -> Vec<Event> {
     let mut lines = Lines::new(alloc, text.as_bytes());
     let mut events = Vec::new(alloc);
     for _ in 0..=text.len() {
-        if lines.advance()? == Next::End {
+        if lines.advance().expect(rt, "a line") == Next::End {
             break;
         }
-        events.push(read_line(alloc, lines.line())?)?;
+        let event = read_line(rt, alloc, lines.line());
+        events.push(event).expect(rt, "memory");
     }
-    Ok(events)
+    events
 }
 
 /// Asserts that a new tree that gets these events has the replies of a journal, of which these are
@@ -115,13 +114,13 @@ fn assert_events<C: TreeLedger>(
     events: &[Event],
     journal: &Journal<C>,
     receipts: &[Receipt<C>],
-) -> Result<(), Fail> {
-    let mut tree = TreeState::new(alloc, &RootOptions::default())?;
+) {
+    let mut tree = TreeState::new(alloc, &RootOptions::default()).expect(rt, "no refusal");
     for (event, (_, reply)) in events.iter().zip(journal.entries().iter()) {
-        assert_replayed(rt, alloc, &mut tree, event, reply)?;
+        assert_replayed(rt, alloc, &mut tree, event, reply);
     }
-    let rows = Reply::Rows(tree.rows(alloc)?);
-    assert_last(rt, receipts, &rows, "rows")
+    let rows = Reply::Rows(tree.rows(alloc).expect(rt, "no refusal"));
+    assert_last(rt, receipts, &rows, "rows");
 }
 
 /// Asserts that the journal of two workers ends with a snapshot. All other entries have lines, and
@@ -132,11 +131,11 @@ pub(crate) fn assert_lines<C: TreeLedger>(
     alloc: Global,
     journal: &Journal<C>,
     receipts: &[Receipt<C>],
-) -> Result<(), Fail> {
+) {
     let mut text = String::new(alloc);
-    let without = write(alloc, &mut text, journal)?;
+    let without = write(rt, alloc, &mut text, journal);
     assert_same(rt, without, 1, "entries without a line");
-    let events = read(alloc, text.as_str())?;
+    let events = read(rt, alloc, text.as_str());
     assert_same(rt, events.len(), 170, "events");
-    assert_events(rt, alloc, &events, journal, receipts)
+    assert_events(rt, alloc, &events, journal, receipts);
 }

@@ -9,13 +9,12 @@ use std::alloc::Global;
 use std::process::Abort;
 use std::sync::Wait;
 use std::sync::atomic::Ordering;
-use std::test::*;
 use std::thread;
 
 const CAPACITIES: [usize; 5] = [0, 1, 20, 300, 70_000];
 
 #[test]
-fn options_have_defaults(rt: HostRuntime) -> Result<(), Fail> {
+fn options_have_defaults(rt: HostRuntime) {
     let options = Options::default();
     assert_same(&rt, options.initial_capacity, 100, "rows");
     assert_same(&rt, options.message_buffer_capacity, 20, "messages");
@@ -24,10 +23,10 @@ fn options_have_defaults(rt: HostRuntime) -> Result<(), Fail> {
             message_buffer_capacity: *capacity,
             ..options
         }
-        .create(rt, rt.alloc())?;
+        .create(rt, rt.alloc())
+        .expect(&rt, "no refusal");
         assert_same(&rt, root.messages_capacity(), *capacity, "capacity");
     }
-    Ok(())
 }
 
 /// Asserts that another owner sees the tasks, and is dropped.
@@ -37,21 +36,27 @@ fn assert_owner<R: Wait + Clone + Drop>(rt: &impl Abort, owner: Root<R>, tasks: 
 
 /// Every owner sees the task, and once the last is dropped the weak handle finds none.
 #[test]
-fn items_are_no_owners(rt: HostRuntime) -> Result<(), Fail> {
-    let root = Root::new(rt, rt.alloc())?;
-    let weak = root.downgrade()?;
-    let item = root.add_child(rt.alloc(), "task")?;
-    let other = root.clone()?;
+fn items_are_no_owners(rt: HostRuntime) {
+    let root = Root::new(rt, rt.alloc()).expect(&rt, "no refusal");
+    let weak = root.downgrade().expect(&rt, "no refusal");
+    let item = root.add_child(rt.alloc(), "task").expect(&rt, "no refusal");
+    let other = root.clone().expect(&rt, "no refusal");
     drop(root);
-    let third = weak.upgrade()?.ok_or("there is an owner")?;
+    let third = weak.upgrade().expect(&rt, "no refusal");
+    let third = third.expect(&rt, "an owner");
     assert_owner(&rt, other, 1);
     assert_owner(&rt, third, 1);
-    assert_same(&rt, weak.upgrade()?.is_none(), true, "no owner");
-    assert_counts(&rt, &item)
+    assert_same(
+        &rt,
+        weak.upgrade().expect(&rt, "no refusal").is_none(),
+        true,
+        "no owner",
+    );
+    assert_counts(&rt, &item);
 }
 
 /// Asserts that the item goes on without an owner.
-fn assert_counts<R: Wait + Clone + Drop>(rt: &impl Abort, item: &Item<R>) -> Result<(), Fail> {
+fn assert_counts<R: Wait + Clone + Drop>(rt: &impl Abort, item: &Item<R>) {
     item.init(Some(10), None);
     item.set(5);
     item.inc_by(2);
@@ -61,10 +66,10 @@ fn assert_counts<R: Wait + Clone + Drop>(rt: &impl Abort, item: &Item<R>) -> Res
     item.steps().set(1);
     assert_same(rt, item.step(), Some(1), "step of the item after set");
     assert_same(rt, item.steps().step(), 1, "step after set");
-    let (steps, counter) = (item.steps().counter()?, item.counter()?);
+    let steps = item.steps().counter().expect(rt, "no refusal");
+    let counter = item.counter().expect(rt, "no refusal");
     assert_same(rt, steps.load(Ordering::SeqCst), 1, "counter of the steps");
     assert_same(rt, counter.load(Ordering::SeqCst), 1, "counter of the item");
-    Ok(())
 }
 
 /// Adds 2 and 1 to a counter, in a function that has no leave to wait.
@@ -75,25 +80,23 @@ fn advance(steps: &Steps) -> u64 {
 }
 
 #[test]
-fn steps_wrap(rt: HostRuntime) -> Result<(), Fail> {
-    let root = Root::new(rt, rt.alloc())?;
-    let item = root.add_child(rt.alloc(), "task")?;
+fn steps_wrap(rt: HostRuntime) {
+    let root = Root::new(rt, rt.alloc()).expect(&rt, "no refusal");
+    let item = root.add_child(rt.alloc(), "task").expect(&rt, "no refusal");
     item.set(u64::MAX);
     assert_same(&rt, advance(item.steps()), 2, "steps");
     assert_same(&rt, item.step(), Some(2), "item");
-    Ok(())
 }
 
 #[test]
-fn items_show_key_and_step(rt: HostRuntime) -> Result<(), Fail> {
-    let root = Root::new(rt, rt.alloc())?;
-    let item = root.add_child(rt.alloc(), "task")?;
+fn items_show_key_and_step(rt: HostRuntime) {
+    let root = Root::new(rt, rt.alloc()).expect(&rt, "no refusal");
+    let item = root.add_child(rt.alloc(), "task").expect(&rt, "no refusal");
     item.set(3);
-    let text = format!(in rt.alloc(); "{item:?}")?;
+    let text = format!(in rt.alloc(); "{item:?}").expect(&rt, "memory");
     let begins = text.as_str().starts_with("Item { key: Key [0]");
     let ends = text.as_str().ends_with("step: 3, .. }");
     assert_same(&rt, (begins, ends), (true, true), text.as_str());
-    Ok(())
 }
 
 /// Adds and drops children of the root.
@@ -109,20 +112,17 @@ fn add_and_drop<R: Wait + Clone + Drop>(
 }
 
 /// Asserts that an item without an entry has a step alone, and its messages have no origin.
-fn assert_no_entry<R: Wait + Clone + Drop>(
-    rt: &impl Abort,
-    alloc: Global,
-    item: &mut Item<R>,
-) -> Result<(), Refusal> {
-    assert_same(rt, item.name(alloc)?, None, "name");
+fn assert_no_entry<R: Wait + Clone + Drop>(rt: &impl Abort, alloc: Global, item: &mut Item<R>) {
+    assert_same(rt, item.name(alloc).expect(rt, "no refusal"), None, "name");
     assert_same(rt, item.id(), UNKNOWN, "identifier");
     item.set(5);
     item.init(Some(10), None);
     assert_same(rt, item.step(), Some(5), "step");
     assert_same(rt, item.max(), None, "bound");
     assert_same(rt, item.set_max(Some(7)), None, "bound before");
-    item.set_name(alloc, "nobody")?;
+    item.set_name(alloc, "nobody").expect(rt, "no refusal");
     item.message(alloc, 0, MessageLevel::Info, "said")
+        .expect(rt, "no refusal");
 }
 
 /// Asserts that an item whose entry is gone says so, and that its message has no origin.
@@ -131,65 +131,77 @@ fn assert_message_without_origin<R: Wait + Clone + Drop>(
     alloc: Global,
     root: &Root<R>,
     item: &mut Item<R>,
-) -> Result<(), Refusal> {
-    assert_no_entry(rt, alloc, item)?;
+) {
+    assert_no_entry(rt, alloc, item);
     let mut said = Vec::new(alloc);
-    root.copy_messages(alloc, &mut said)?;
-    let want = messages_of(alloc, &[("", "said")])?;
+    root.copy_messages(alloc, &mut said)
+        .expect(rt, "no refusal");
+    let want = messages_of(alloc, &[("", "said")]).expect(rt, "memory");
     assert_same(rt, said.as_slice(), want.as_slice(), "messages");
-    Ok(())
 }
 
 /// The child of an item at the sixth level takes its place, and loses its entry once that item is
 /// dropped.
 #[test]
-fn a_child_of_the_sixth_level_loses_its_entry_with_its_parent(rt: HostRuntime) -> Result<(), Fail> {
+fn a_child_of_the_sixth_level_loses_its_entry_with_its_parent(rt: HostRuntime) {
     let alloc: Global = rt.alloc();
-    let root = Root::new(rt, alloc)?;
-    let mut parent = root.add_child(alloc, "task")?;
+    let root = Root::new(rt, alloc).expect(&rt, "no refusal");
+    let mut parent = root.add_child(alloc, "task").expect(&rt, "no refusal");
     for _ in 1..6 {
-        parent = parent.add_child(alloc, "part")?;
+        parent = parent.add_child(alloc, "part").expect(&rt, "no refusal");
     }
-    let mut child = parent.add_child_with_id(alloc, "Z", *b"LAST")?;
+    let mut child = parent
+        .add_child_with_id(alloc, "Z", *b"LAST")
+        .expect(&rt, "no refusal");
     assert_same(&rt, root.num_tasks(), 1, "tasks");
-    assert_same(&rt, child.name(alloc)?.as_deref(), Some("Z"), "name");
+    assert_same(
+        &rt,
+        child.name(alloc).expect(&rt, "no refusal").as_deref(),
+        Some("Z"),
+        "name",
+    );
     assert_same(&rt, parent.id(), *b"LAST", "identifier");
     drop(parent);
-    assert_message_without_origin(&rt, alloc, &root, &mut child)?;
-    Ok(())
+    assert_message_without_origin(&rt, alloc, &root, &mut child);
 }
 
 /// Asserts that the last row of a tree is the 65537th of the root's children, and has a progress.
-fn assert_last_row<R: Wait + Clone + Drop>(
-    rt: &impl Abort,
-    alloc: Global,
-    root: &Root<R>,
-) -> Result<(), Fail> {
+fn assert_last_row<R: Wait + Clone + Drop>(rt: &impl Abort, alloc: Global, root: &Root<R>) {
     let mut rows = Vec::new(alloc);
-    root.sorted_snapshot(alloc, &mut rows)?;
-    let row = rows.last().ok_or("no row")?;
+    root.sorted_snapshot(alloc, &mut rows)
+        .expect(rt, "no refusal");
+    let row = rows.last().expect(rt, "a row");
     assert_same(rt, row.key, key_at(&[65536]), "key");
     assert_same(rt, row.name.as_str(), "Z", "name");
     assert_same(rt, row.progress.is_some(), true, "progress");
-    Ok(())
 }
 
 /// After 65536 children of the root the next one has a number of its own, so the first keeps its
 /// entry.
 #[test]
-fn the_child_after_65536_has_a_place_of_its_own(rt: HostRuntime) -> Result<(), Fail> {
+fn the_child_after_65536_has_a_place_of_its_own(rt: HostRuntime) {
     let alloc: Global = rt.alloc();
-    let root = Root::new(rt, alloc)?;
-    let first = root.add_child(alloc, "A")?;
-    add_and_drop(&root, alloc, 65535)?;
-    let last = root.add_child(alloc, "Z")?;
-    assert_same(&rt, first.name(alloc)?.as_deref(), Some("A"), "first name");
+    let root = Root::new(rt, alloc).expect(&rt, "no refusal");
+    let first = root.add_child(alloc, "A").expect(&rt, "no refusal");
+    add_and_drop(&root, alloc, 65535).expect(&rt, "no refusal");
+    let last = root.add_child(alloc, "Z").expect(&rt, "no refusal");
+    assert_same(
+        &rt,
+        first.name(alloc).expect(&rt, "no refusal").as_deref(),
+        Some("A"),
+        "first name",
+    );
     assert_same(&rt, root.num_tasks(), 2, "tasks");
     drop(first);
-    assert_same(&rt, last.name(alloc)?.as_deref(), Some("Z"), "last name");
+    assert_same(
+        &rt,
+        last.name(alloc).expect(&rt, "no refusal").as_deref(),
+        Some("Z"),
+        "last name",
+    );
     last.init(Some(1), None);
     assert_same(&rt, last.max(), Some(1), "bound");
-    assert_last_row(&rt, alloc, &root)
+    assert_last_row(&rt, alloc, &root);
 }
 
 /// Adds and drops children of an item.
@@ -210,35 +222,39 @@ fn assert_keys<R: Wait + Clone + Drop>(
     alloc: Global,
     root: &Root<R>,
     keys: &[&[u32]],
-) -> Result<(), Fail> {
+) {
     let mut rows = Vec::new(alloc);
-    root.sorted_snapshot(alloc, &mut rows)?;
+    root.sorted_snapshot(alloc, &mut rows)
+        .expect(rt, "no refusal");
     assert_same(rt, rows.len(), keys.len(), "rows");
     for (row, numbers) in rows.iter().zip(keys) {
         assert_same(rt, row.key, key_at(numbers), *numbers);
     }
-    Ok(())
 }
 
 /// None of 200,000 children that are added and dropped one after another takes the place of one
 /// that stays.
 #[test]
-fn children_that_stay_keep_their_rows(rt: HostRuntime) -> Result<(), Fail> {
+fn children_that_stay_keep_their_rows(rt: HostRuntime) {
     let alloc: Global = rt.alloc();
-    let root = Root::new(rt, alloc)?;
-    let mut item = root.add_child(alloc, "task")?;
-    let first = item.add_child(alloc, "first")?;
-    add_and_drop_below(&mut item, alloc, 200000)?;
-    let last = item.add_child(alloc, "last")?;
-    assert_keys(&rt, alloc, &root, &[&[0], &[0, 0], &[0, 200001]])?;
+    let root = Root::new(rt, alloc).expect(&rt, "no refusal");
+    let mut item = root.add_child(alloc, "task").expect(&rt, "no refusal");
+    let first = item.add_child(alloc, "first").expect(&rt, "no refusal");
+    add_and_drop_below(&mut item, alloc, 200000).expect(&rt, "no refusal");
+    let last = item.add_child(alloc, "last").expect(&rt, "no refusal");
+    assert_keys(&rt, alloc, &root, &[&[0], &[0, 0], &[0, 200001]]);
     assert_same(
         &rt,
-        first.name(alloc)?.as_deref(),
+        first.name(alloc).expect(&rt, "no refusal").as_deref(),
         Some("first"),
         "first name",
     );
-    assert_same(&rt, last.name(alloc)?.as_deref(), Some("last"), "last name");
-    Ok(())
+    assert_same(
+        &rt,
+        last.name(alloc).expect(&rt, "no refusal").as_deref(),
+        Some("last"),
+        "last name",
+    );
 }
 
 /// Asserts that a tree has these rows, and these messages since an earlier copy, which returned
@@ -250,37 +266,42 @@ fn assert_holds<R: Wait + Clone + Drop>(
     rows: &[Row],
     messages: &[Message],
     previous: Option<MessageCopyState>,
-) -> Result<(), Refusal> {
+) {
     let mut later_rows = Vec::new(alloc);
-    root.sorted_snapshot(alloc, &mut later_rows)?;
+    root.sorted_snapshot(alloc, &mut later_rows)
+        .expect(rt, "no refusal");
     assert_same(rt, rows, later_rows.as_slice(), "rows");
     let mut later = Vec::new(alloc);
-    root.copy_new_messages(alloc, &mut later, previous)?;
+    root.copy_new_messages(alloc, &mut later, previous)
+        .expect(rt, "no refusal");
     assert_same(rt, messages, later.as_slice(), "messages");
-    Ok(())
 }
 
 #[test]
-fn snapshot_with_new_messages(rt: HostRuntime) -> Result<(), Fail> {
+fn snapshot_with_new_messages(rt: HostRuntime) {
     let alloc: Global = rt.alloc();
-    let root = Root::new(rt, alloc)?;
-    let mut item = root.add_child(alloc, "task")?;
-    item.info(alloc, 1, "one")?;
+    let root = Root::new(rt, alloc).expect(&rt, "no refusal");
+    let mut item = root.add_child(alloc, "task").expect(&rt, "no refusal");
+    item.info(alloc, 1, "one").expect(&rt, "no refusal");
     let (mut rows, mut said) = (Vec::new(alloc), Vec::new(alloc));
-    let state = root.snapshot_and_new_messages(alloc, &mut rows, &mut said, None)?;
-    assert_holds(&rt, alloc, &root, &rows, &said, None)?;
+    let state = root
+        .snapshot_and_new_messages(alloc, &mut rows, &mut said, None)
+        .expect(&rt, "no refusal");
+    assert_holds(&rt, alloc, &root, &rows, &said, None);
     let sizes = (rows.len(), said.len(), state.pushed());
     assert_same(&rt, sizes, (1, 1, 1), "first look");
-    item.done(alloc, 2, "two")?;
-    item.fail(alloc, 3, "three")?;
-    let child = item.add_child(alloc, "part")?;
-    let next = root.snapshot_and_new_messages(alloc, &mut rows, &mut said, Some(state))?;
-    assert_holds(&rt, alloc, &root, &rows, &said, Some(state))?;
+    item.done(alloc, 2, "two").expect(&rt, "no refusal");
+    item.fail(alloc, 3, "three").expect(&rt, "no refusal");
+    let child = item.add_child(alloc, "part").expect(&rt, "no refusal");
+    let next = root
+        .snapshot_and_new_messages(alloc, &mut rows, &mut said, Some(state))
+        .expect(&rt, "no refusal");
+    assert_holds(&rt, alloc, &root, &rows, &said, Some(state));
     let sizes = (rows.len(), said.len(), next.pushed());
     assert_same(&rt, sizes, (2, 2, 3), "second look");
     drop(child);
     let spare = (Rows::new(rows), Messages::new(said));
-    let (rows, said, last) = root.look(spare, Some(next))?;
+    let (rows, said, last) = root.look(spare, Some(next)).expect(&rt, "no refusal");
     assert_holds(
         &rt,
         alloc,
@@ -288,26 +309,27 @@ fn snapshot_with_new_messages(rt: HostRuntime) -> Result<(), Fail> {
         rows.as_slice(),
         said.as_slice(),
         Some(next),
-    )?;
+    );
     let sizes = (rows.as_slice().len(), said.as_slice().len(), last.pushed());
     assert_same(&rt, sizes, (1, 0, 3), "look with spare rows");
-    Ok(())
 }
 
 /// A copy of a tree keeps its capacity, and takes messages.
 #[test]
-fn deep_clones_take_messages(rt: HostRuntime) -> Result<(), Fail> {
+fn deep_clones_take_messages(rt: HostRuntime) {
     let alloc: Global = rt.alloc();
-    let root = Root::new(rt, alloc)?;
-    let copy = root.deep_clone(alloc)?;
+    let root = Root::new(rt, alloc).expect(&rt, "no refusal");
+    let copy = root.deep_clone(alloc).expect(&rt, "no refusal");
     assert_same(&rt, copy.messages_capacity(), 20, "capacity");
-    copy.add_child(alloc, "task")?.info(alloc, 0, "one")?;
+    let mut item = copy.add_child(alloc, "task").expect(&rt, "no refusal");
+    item.info(alloc, 0, "one").expect(&rt, "no refusal");
+    drop(item);
     let mut messages = Vec::new(alloc);
-    copy.copy_messages(alloc, &mut messages)?;
+    copy.copy_messages(alloc, &mut messages)
+        .expect(&rt, "no refusal");
     assert_same(&rt, messages.len(), 1, "messages");
     let tasks = (root.num_tasks(), copy.num_tasks());
     assert_same(&rt, tasks, (0, 0), "tasks");
-    Ok(())
 }
 
 const COPIED: &[ShortRow] = &[(&[0], "task", Some((3, Some(10))))];
@@ -319,14 +341,15 @@ fn assert_copied<R: Wait + Clone + Drop>(
     copy: &Root<R>,
     rows: &mut Vec<Row>,
     messages: &mut Vec<Message>,
-) -> Result<(), Refusal> {
-    copy.sorted_snapshot(alloc, rows)?;
-    let want = rows_of(alloc, COPIED)?;
+) {
+    copy.sorted_snapshot(alloc, rows).expect(rt, "no refusal");
+    let want = rows_of(alloc, COPIED).expect(rt, "memory");
     assert_same(rt, rows.as_slice(), want.as_slice(), "rows");
-    let state = copy.copy_new_messages(alloc, messages, None)?;
+    let state = copy
+        .copy_new_messages(alloc, messages, None)
+        .expect(rt, "no refusal");
     let counts = (messages.len(), state.pushed());
     assert_same(rt, counts, (1, 1), "messages");
-    Ok(())
 }
 
 /// Asserts that the next child of the copy has the number 1.
@@ -335,37 +358,36 @@ fn assert_grows<R: Wait + Clone + Drop>(
     alloc: Global,
     copy: &Root<R>,
     rows: &mut Vec<Row>,
-) -> Result<(), Refusal> {
-    let other = copy.add_child(alloc, "other")?;
-    copy.sorted_snapshot(alloc, rows)?;
+) {
+    let other = copy.add_child(alloc, "other").expect(rt, "no refusal");
+    copy.sorted_snapshot(alloc, rows).expect(rt, "no refusal");
     assert_same(rt, rows.len(), 2, "rows");
     let last = rows.last().map(|row| row.key);
     assert_same(rt, last, Some(key_at(&[1])), "key");
     drop(other);
     assert_same(rt, copy.num_tasks(), 1, "tasks");
-    Ok(())
 }
 
 /// A copy has counters of its own, and goes on without the tree.
 #[test]
-fn deep_clones_are_apart(rt: HostRuntime) -> Result<(), Fail> {
+fn deep_clones_are_apart(rt: HostRuntime) {
     let alloc: Global = rt.alloc();
-    let root = Root::new(rt, alloc)?;
-    let mut item = root.add_child(alloc, "task")?;
+    let root = Root::new(rt, alloc).expect(&rt, "no refusal");
+    let mut item = root.add_child(alloc, "task").expect(&rt, "no refusal");
     item.init(Some(10), None);
     item.set(3);
-    item.info(alloc, 0, "two")?;
-    let copy = root.deep_clone(alloc)?;
+    item.info(alloc, 0, "two").expect(&rt, "no refusal");
+    let copy = root.deep_clone(alloc).expect(&rt, "no refusal");
     item.set(4);
-    item.done(alloc, 1, "three")?;
+    item.done(alloc, 1, "three").expect(&rt, "no refusal");
     let (mut rows, mut said) = (Vec::new(alloc), Vec::new(alloc));
-    root.copy_messages(alloc, &mut said)?;
+    root.copy_messages(alloc, &mut said)
+        .expect(&rt, "no refusal");
     assert_same(&rt, said.len(), 2, "messages of the tree");
-    assert_copied(&rt, alloc, &copy, &mut rows, &mut said)?;
+    assert_copied(&rt, alloc, &copy, &mut rows, &mut said);
     drop(item);
     drop(root);
-    assert_grows(&rt, alloc, &copy, &mut rows)?;
-    Ok(())
+    assert_grows(&rt, alloc, &copy, &mut rows);
 }
 
 /// Adds tasks with parts, sets their steps, sends two messages for each, and drops them.
@@ -388,24 +410,22 @@ fn works<R: Wait + Clone + Drop>(root: &Root<R>, alloc: Global) -> bool {
 }
 
 /// Asserts that of 800 messages the tree keeps the last 20.
-fn assert_last_kept<R: Wait + Clone + Drop>(
-    rt: &impl Abort,
-    alloc: Global,
-    root: &Root<R>,
-) -> Result<(), Refusal> {
+fn assert_last_kept<R: Wait + Clone + Drop>(rt: &impl Abort, alloc: Global, root: &Root<R>) {
     let (mut kept, mut last) = (Vec::new(alloc), Vec::new(alloc));
-    root.copy_messages(alloc, &mut kept)?;
+    root.copy_messages(alloc, &mut kept)
+        .expect(rt, "no refusal");
     let seen = Some(MessageCopyState::new(780));
-    let state = root.copy_new_messages(alloc, &mut last, seen)?;
+    let state = root
+        .copy_new_messages(alloc, &mut last, seen)
+        .expect(rt, "no refusal");
     assert_same(rt, (kept.len(), state.pushed()), (20, 800), "messages");
     assert_same(rt, kept.as_slice(), last.as_slice(), "last messages");
-    Ok(())
 }
 
 #[test]
-fn four_threads_share_a_root(rt: HostRuntime) -> Result<(), Fail> {
+fn four_threads_share_a_root(rt: HostRuntime) {
     let alloc: Global = rt.alloc();
-    let root = Root::new(rt, alloc)?;
+    let root = Root::new(rt, alloc).expect(&rt, "no refusal");
     let shared = &root;
     thread::scope(thread::scope_env(), &rt, |scope| {
         for _ in 0..4u32 {
@@ -415,8 +435,7 @@ fn four_threads_share_a_root(rt: HostRuntime) -> Result<(), Fail> {
         }
     });
     assert_same(&rt, root.num_tasks(), 0, "tasks");
-    assert_last_kept(&rt, alloc, &root)?;
-    Ok(())
+    assert_last_kept(&rt, alloc, &root);
 }
 
 /// Adds to the counter of an item, in each way.
@@ -430,9 +449,9 @@ fn count_up<R: Wait + Clone + Drop>(item: &Item<R>) {
 
 /// No step is lost if four threads add to one counter, which wraps.
 #[test]
-fn four_threads_share_a_counter(rt: HostRuntime) -> Result<(), Fail> {
-    let root = Root::new(rt, rt.alloc())?;
-    let item = root.add_child(rt.alloc(), "task")?;
+fn four_threads_share_a_counter(rt: HostRuntime) {
+    let root = Root::new(rt, rt.alloc()).expect(&rt, "no refusal");
+    let item = root.add_child(rt.alloc(), "task").expect(&rt, "no refusal");
     item.set(u64::MAX);
     let shared = &item;
     thread::scope(thread::scope_env(), &rt, |scope| {
@@ -444,18 +463,19 @@ fn four_threads_share_a_counter(rt: HostRuntime) -> Result<(), Fail> {
     });
     assert_same(&rt, item.step(), Some(799_999), "step");
     drop(item);
-    Ok(())
 }
 
 #[test]
-fn there_may_be_many_tasks(rt: HostRuntime) -> Result<(), Fail> {
-    let root = Root::new(rt, rt.alloc())?;
+fn there_may_be_many_tasks(rt: HostRuntime) {
+    let root = Root::new(rt, rt.alloc()).expect(&rt, "no refusal");
     let mut items = Vec::new(rt.alloc());
     for _ in 0..1001u32 {
-        items.push(root.add_child(rt.alloc(), "task")?)?;
+        let item = root.add_child(rt.alloc(), "task");
+        items
+            .push(item.expect(&rt, "no refusal"))
+            .expect(&rt, "memory");
     }
     assert_same(&rt, root.num_tasks(), 1001, "tasks");
     drop(items);
     assert_same(&rt, root.num_tasks(), 0, "tasks after the drop");
-    Ok(())
 }

@@ -1,15 +1,14 @@
 //! A locked tree and a session that get the same events: their replies are equal.
 use crate::fixtures::{TERMINAL, assert_same};
+use prodash::Text;
 use prodash::messages::{MessageCopyState, MessageLevel, Messages};
 use prodash::progress::{Id, Rows, UNKNOWN};
 use prodash::render::line::draw::MemoryScreen;
 use prodash::tree::{Event, Handle, Item, Reply, Root, RootOptions, Session, SessionOptions};
 use prodash::unit::label;
-use prodash::{Refusal, Text};
 use std::alloc::{AllocError, Global};
 use std::process::Abort;
 use std::sync::Wait;
-use std::test::*;
 
 /// A locked tree whose items are named by handles, as those of a session. No item has the handle 0,
 /// and a dropped item's place is empty.
@@ -22,14 +21,14 @@ struct LockedTree<R: Wait + Clone + Drop> {
 }
 
 impl<R: Wait + Clone + Drop> LockedTree<R> {
-    fn new(rt: R, alloc: Global) -> Result<LockedTree<R>, Refusal> {
+    fn new(rt: &impl Abort, alloc: Global, root: Root<R>) -> LockedTree<R> {
         let mut items = Vec::new(alloc);
-        items.push(None)?;
-        Ok(LockedTree {
-            root: Root::new(rt, alloc)?,
+        items.push(None).expect(rt, "memory");
+        LockedTree {
+            root,
             items,
             calls: Vec::new(alloc),
-        })
+        }
     }
 
     /// Returns the last handle of an item that isn't past `wanted`, or the first if all are.
@@ -43,59 +42,66 @@ impl<R: Wait + Clone + Drop> LockedTree<R> {
         found
     }
 
-    fn item(&self, handle: Handle) -> Result<&Item<R>, Refusal> {
+    fn item<'a>(&'a self, rt: &impl Abort, handle: Handle) -> &'a Item<R> {
         match self.items.get(handle as usize) {
-            Some(Some(item)) => Ok(item),
-            _ => Err(Refusal::Gone),
+            Some(Some(item)) => item,
+            _ => panic!(rt; "no item"),
         }
     }
 
-    fn item_mut(&mut self, handle: Handle) -> Result<&mut Item<R>, Refusal> {
+    fn item_mut<'a>(&'a mut self, rt: &impl Abort, handle: Handle) -> &'a mut Item<R> {
         match self.items.get_mut(handle as usize) {
-            Some(Some(item)) => Ok(item),
-            _ => Err(Refusal::Gone),
+            Some(Some(item)) => item,
+            _ => panic!(rt; "no item"),
         }
     }
 
     /// Adds a child by the call with an identifier if it has one, and else by the other.
     fn child_of(
         &mut self,
+        rt: &impl Abort,
         alloc: Global,
         parent: Handle,
         name: &str,
         id: Id,
-    ) -> Result<Item<R>, Refusal> {
-        match (parent, id == UNKNOWN) {
+    ) -> Item<R> {
+        let child = match (parent, id == UNKNOWN) {
             (0, true) => {
-                self.calls.push("Root::add_child")?;
+                self.calls.push("Root::add_child").expect(rt, "memory");
                 self.root.add_child(alloc, name)
             }
             (0, false) => {
-                self.calls.push("Root::add_child_with_id")?;
+                self.calls
+                    .push("Root::add_child_with_id")
+                    .expect(rt, "memory");
                 self.root.add_child_with_id(alloc, name, id)
             }
             (_, true) => {
-                self.calls.push("Item::add_child")?;
-                self.item_mut(parent)?.add_child(alloc, name)
+                self.calls.push("Item::add_child").expect(rt, "memory");
+                self.item_mut(rt, parent).add_child(alloc, name)
             }
             (_, false) => {
-                self.calls.push("Item::add_child_with_id")?;
-                self.item_mut(parent)?.add_child_with_id(alloc, name, id)
+                self.calls
+                    .push("Item::add_child_with_id")
+                    .expect(rt, "memory");
+                self.item_mut(rt, parent).add_child_with_id(alloc, name, id)
             }
-        }
+        };
+        child.expect(rt, "no refusal")
     }
 
     fn add_child(
         &mut self,
+        rt: &impl Abort,
         alloc: Global,
         parent: Handle,
         name: &str,
         id: Id,
-    ) -> Result<Reply, Refusal> {
+    ) -> Reply {
         let made = self.items.len() as Handle;
-        let child = self.child_of(alloc, parent, name, id)?;
-        self.items.push(Some(child))?;
-        Ok(Reply::Made(made))
+        let child = self.child_of(rt, alloc, parent, name, id);
+        self.items.push(Some(child)).expect(rt, "memory");
+        Reply::Made(made)
     }
 
     fn drop_item(&mut self, handle: Handle) -> Reply {
@@ -108,87 +114,96 @@ impl<R: Wait + Clone + Drop> LockedTree<R> {
     /// Sends a message by `message` at an even moment, and else by the call for its level.
     fn say(
         &mut self,
+        rt: &impl Abort,
         alloc: Global,
         handle: Handle,
         at: u64,
         level: MessageLevel,
         text: &str,
-    ) -> Result<Reply, Refusal> {
+    ) -> Reply {
         let call = match level {
             _ if at % 2 == 0 => "Item::message",
             MessageLevel::Info => "Item::info",
             MessageLevel::Success => "Item::done",
             MessageLevel::Failure => "Item::fail",
         };
-        self.calls.push(call)?;
-        let item = self.item_mut(handle)?;
-        match level {
-            _ if at % 2 == 0 => item.message(alloc, at, level, text)?,
-            MessageLevel::Info => item.info(alloc, at, text)?,
-            MessageLevel::Success => item.done(alloc, at, text)?,
-            MessageLevel::Failure => item.fail(alloc, at, text)?,
-        }
-        Ok(Reply::Done)
+        self.calls.push(call).expect(rt, "memory");
+        let item = self.item_mut(rt, handle);
+        let sent = match level {
+            _ if at % 2 == 0 => item.message(alloc, at, level, text),
+            MessageLevel::Info => item.info(alloc, at, text),
+            MessageLevel::Success => item.done(alloc, at, text),
+            MessageLevel::Failure => item.fail(alloc, at, text),
+        };
+        sent.expect(rt, "no refusal");
+        Reply::Done
     }
 
     /// Applies an event to items.
-    fn change(&mut self, alloc: Global, event: &Event) -> Result<Reply, Refusal> {
-        self.calls.push(name_of(event))?;
+    fn change(&mut self, rt: &impl Abort, alloc: Global, event: &Event) -> Reply {
+        self.calls.push(name_of(event)).expect(rt, "memory");
         match event {
             Event::AddChild { parent, name, id } => {
-                return self.add_child(alloc, *parent, name.as_str(), *id);
+                return self.add_child(rt, alloc, *parent, name.as_str(), *id);
             }
-            Event::Drop { item } => return Ok(self.drop_item(*item)),
+            Event::Drop { item } => return self.drop_item(*item),
             Event::Message {
                 item,
                 at,
                 level,
                 text,
-            } => return self.say(alloc, *item, *at, *level, text.as_str()),
+            } => return self.say(rt, alloc, *item, *at, *level, text.as_str()),
             Event::SetMax { item, max } => {
-                return Ok(Reply::Bound(self.item(*item)?.set_max(*max)));
+                return Reply::Bound(self.item(rt, *item).set_max(*max));
             }
-            Event::Init { item, max, unit } => self.item(*item)?.init(*max, *unit),
-            Event::SetName { item, name } => self.item(*item)?.set_name(alloc, name.as_str())?,
-            Event::Set { item, step } => self.item(*item)?.set(*step),
-            Event::IncBy { item, step: 1 } => self.item(*item)?.inc(),
-            Event::IncBy { item, step } => self.item(*item)?.inc_by(*step),
-            Event::Blocked { item, reason, eta } => self.item(*item)?.blocked(reason, *eta),
-            Event::Halted { item, reason, eta } => self.item(*item)?.halted(reason, *eta),
-            Event::Running { item } => self.item(*item)?.running(),
-            _ => return self.look(alloc, event),
+            Event::Init { item, max, unit } => self.item(rt, *item).init(*max, *unit),
+            Event::SetName { item, name } => {
+                let set = self.item(rt, *item).set_name(alloc, name.as_str());
+                set.expect(rt, "no refusal");
+            }
+            Event::Set { item, step } => self.item(rt, *item).set(*step),
+            Event::IncBy { item, step: 1 } => self.item(rt, *item).inc(),
+            Event::IncBy { item, step } => self.item(rt, *item).inc_by(*step),
+            Event::Blocked { item, reason, eta } => self.item(rt, *item).blocked(reason, *eta),
+            Event::Halted { item, reason, eta } => self.item(rt, *item).halted(reason, *eta),
+            Event::Running { item } => self.item(rt, *item).running(),
+            _ => return self.look(rt, alloc, event),
         }
-        Ok(Reply::Done)
+        Reply::Done
     }
 
     /// Applies an event that only reads.
-    fn look(&self, alloc: Global, event: &Event) -> Result<Reply, Refusal> {
-        Ok(match event {
-            Event::Name { item } => Reply::Name(self.item(*item)?.name(alloc)?.map(Text::new)),
-            Event::Id { item } => Reply::Id(self.item(*item)?.id()),
-            Event::Step { item } => { Reply::Step(self.item(*item)?.step().ok_or(Refusal::Gone)?) }
-            Event::Max { item } => Reply::Bound(self.item(*item)?.max()),
-            Event::Unit { item } => Reply::Unit(self.item(*item)?.unit()),
+    fn look(&self, rt: &impl Abort, alloc: Global, event: &Event) -> Reply {
+        match event {
+            Event::Name { item } => {
+                let name = self.item(rt, *item).name(alloc);
+                Reply::Name(name.expect(rt, "no refusal").map(Text::new))
+            }
+            Event::Id { item } => Reply::Id(self.item(rt, *item).id()),
+            Event::Step { item } => Reply::Step(self.item(rt, *item).step().expect(rt, "a step")),
+            Event::Max { item } => Reply::Bound(self.item(rt, *item).max()),
+            Event::Unit { item } => Reply::Unit(self.item(rt, *item).unit()),
             Event::NumTasks => Reply::Count(self.root.num_tasks()),
             Event::Snapshot => {
                 let mut rows = Vec::new(alloc);
-                self.root.sorted_snapshot(alloc, &mut rows)?;
+                let looked = self.root.sorted_snapshot(alloc, &mut rows);
+                looked.expect(rt, "no refusal");
                 Reply::Rows(Rows::new(rows))
             }
             Event::CopyMessages => {
                 let mut messages = Vec::new(alloc);
-                self.root.copy_messages(alloc, &mut messages)?;
+                let looked = self.root.copy_messages(alloc, &mut messages);
+                looked.expect(rt, "no refusal");
                 Reply::Messages(Messages::new(messages))
             }
             Event::CopyNew { previous } => {
                 let mut messages = Vec::new(alloc);
-                let state = self
-                    .root
-                    .copy_new_messages(alloc, &mut messages, *previous)?;
+                let looked = self.root.copy_new_messages(alloc, &mut messages, *previous);
+                let state = looked.expect(rt, "no refusal");
                 Reply::New(Messages::new(messages), state)
             }
-            _ => return Err(Refusal::Closed),
-        })
+            _ => panic!(rt; "not a look"),
+        }
     }
 }
 
@@ -345,17 +360,17 @@ struct Mirror<R: Wait + Clone + Drop> {
 }
 
 impl<R: Wait + Clone + Drop> Mirror<R> {
-    fn new(rt: R, alloc: Global) -> Result<Mirror<R>, Refusal> {
+    fn new(rt: &impl Abort, alloc: Global, root: Root<R>) -> Mirror<R> {
         let options = SessionOptions {
             root: RootOptions::default(),
             draw: TERMINAL,
             throughput: false,
         };
-        Ok(Mirror {
-            session: Session::new(alloc, &options)?,
-            screen: MemoryScreen::new(alloc, 0)?,
-            tree: LockedTree::new(rt, alloc)?,
-        })
+        Mirror {
+            session: Session::new(alloc, &options).expect(rt, "no refusal"),
+            screen: MemoryScreen::new(alloc, 0).expect(rt, "no refusal"),
+            tree: LockedTree::new(rt, alloc, root),
+        }
     }
 
     /// The event at a place, which a number decides: on the newest item for an even number.
@@ -373,65 +388,45 @@ impl<R: Wait + Clone + Drop> Mirror<R> {
     }
 
     /// Asserts that both reply the same to an event, and the session refuses none.
-    fn assert_changes(
-        &mut self,
-        rt: &impl Abort,
-        alloc: Global,
-        place: u64,
-        event: &Event,
-    ) -> Result<(), Refusal> {
+    fn assert_changes(&mut self, rt: &impl Abort, alloc: Global, place: u64, event: &Event) {
         let want = self.session.apply(alloc, event, &mut self.screen);
         let refused = matches!(want, Reply::Refused(_));
         assert_same(rt, refused, false, (place, event));
-        let got = self.tree.change(alloc, event)?;
+        let got = self.tree.change(rt, alloc, event);
         assert_same(rt, got, want, (place, event));
-        Ok(())
     }
 
     /// Asserts that both reply the same to an event that only reads, after the event at a place.
-    fn assert_looks(
-        &mut self,
-        rt: &impl Abort,
-        alloc: Global,
-        look: &Event,
-        after: (u64, &Event),
-    ) -> Result<(), Refusal> {
+    fn assert_looks(&mut self, rt: &impl Abort, alloc: Global, look: &Event, after: (u64, &Event)) {
         let want = self.session.apply(alloc, look, &mut self.screen);
-        let got = self.tree.look(alloc, look)?;
+        let got = self.tree.look(rt, alloc, look);
         assert_same(rt, got, want, after);
-        Ok(())
     }
 
     /// Asserts that both reply the same to the event at a place, and look the same after it.
-    fn assert_place(
-        &mut self,
-        rt: &impl Abort,
-        alloc: Global,
-        place: u64,
-        n: u64,
-    ) -> Result<(), Refusal> {
-        let event = self.event_at(alloc, place, n)?;
-        self.assert_changes(rt, alloc, place, &event)?;
+    fn assert_place(&mut self, rt: &impl Abort, alloc: Global, place: u64, n: u64) {
+        let event = self.event_at(alloc, place, n).expect(rt, "memory");
+        self.assert_changes(rt, alloc, place, &event);
         let after = (place, &event);
-        self.assert_looks(rt, alloc, &Event::Snapshot, after)?;
-        self.assert_looks(rt, alloc, &Event::CopyMessages, after)?;
-        self.assert_looks(rt, alloc, &Event::NumTasks, after)
+        self.assert_looks(rt, alloc, &Event::Snapshot, after);
+        self.assert_looks(rt, alloc, &Event::CopyMessages, after);
+        self.assert_looks(rt, alloc, &Event::NumTasks, after);
     }
 }
 
 /// After each of 2000 events the replies, the snapshots, the messages and the numbers of tasks of
 /// both are equal. All kinds of events and calls come often.
 #[test]
-fn a_locked_tree_replies_as_a_session(rt: HostRuntime) -> Result<(), Fail> {
+fn a_locked_tree_replies_as_a_session(rt: HostRuntime) {
     let alloc: Global = rt.alloc();
-    let mut mirror = Mirror::new(rt, alloc)?;
+    let root = Root::new(rt, alloc).expect(&rt, "no refusal");
+    let mut mirror = Mirror::new(&rt, alloc, root);
     let mut n = 1u64;
     for place in 0..2000u64 {
         n = number_after(n);
-        mirror.assert_place(&rt, alloc, place, n)?;
+        mirror.assert_place(&rt, alloc, place, n);
     }
     assert_same(&rt, mirror.screen.bytes().is_empty(), true, "screen");
     assert_called(&rt, &mirror.tree.calls, EVENTS, 50);
     assert_called(&rt, &mirror.tree.calls, CALLS, 10);
-    Ok(())
 }

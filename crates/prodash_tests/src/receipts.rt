@@ -1,14 +1,12 @@
 //! Receipts: callers find their own calls in the journal.
 use crate::fixtures::{assert_reply, assert_same};
 use crate::recorded::{Replay, Round, Work, add, call, on_new_tree};
-use prodash::Refusal;
 use prodash::tree::recorded::{Journal, Receipt, RecordedItem, TreeLedger};
 use prodash::tree::{Event, Reply};
 use std::alloc::Global;
 use std::process::Abort;
 use std::sync::Wait;
 use std::sync::ledger::Ledger;
-use std::test::*;
 
 const ONE_ITEM: &[Round] = &[Round {
     workers: 1,
@@ -18,8 +16,8 @@ const ONE_ITEM: &[Round] = &[Round {
 }];
 
 #[test]
-fn receipts_of_one_item_are_in_order(rt: HostRuntime) -> Result<(), Fail> {
-    on_new_tree(rt, rt.alloc(), ONE_ITEM, 4, Replay::Step(7))
+fn receipts_of_one_item_are_in_order(rt: HostRuntime) {
+    on_new_tree(rt, rt.alloc(), ONE_ITEM, 4, Replay::Step(7));
 }
 
 /// Adds a task, sets its step to 3, adds 4, and asks for the step.
@@ -28,13 +26,12 @@ pub(crate) fn call_in_order<C: TreeLedger, S: Ledger, R: Wait + Abort>(
     alloc: Global,
     item: &mut RecordedItem<C, S>,
     receipts: &mut Vec<Receipt<C>>,
-) -> Result<(), Refusal> {
-    add(rt, alloc, item, receipts)?;
-    call(rt, alloc, item, receipts, Event::Set { item: 1, step: 3 })?;
-    call(rt, alloc, item, receipts, Event::IncBy { item: 1, step: 4 })?;
-    let step = call(rt, alloc, item, receipts, Event::Step { item: 1 })?;
+) {
+    add(rt, alloc, item, receipts);
+    call(rt, alloc, item, receipts, Event::Set { item: 1, step: 3 });
+    call(rt, alloc, item, receipts, Event::IncBy { item: 1, step: 4 });
+    let step = call(rt, alloc, item, receipts, Event::Step { item: 1 });
     assert_reply(rt, &step, &Reply::Step(7), "step");
-    Ok(())
 }
 
 /// Asserts that an entry of the journal is the call of a receipt.
@@ -74,16 +71,15 @@ pub(crate) fn assert_receipts<C: TreeLedger>(
     journal: &Journal<C>,
     receipts: &[Receipt<C>],
     entries: usize,
-) -> Result<(), Fail> {
+) {
     assert_same(rt, journal.entries().len(), entries, "entries");
     assert_same(rt, receipts.len(), entries, "receipts");
     let mut numbers = Vec::new(alloc);
     for receipt in receipts {
         assert_found(rt, journal, receipt);
-        numbers.push(receipt.number())?;
+        numbers.push(receipt.number()).expect(rt, "memory");
     }
     assert_all(rt, numbers);
-    Ok(())
 }
 
 /// Asserts that the last of these receipts has this reply.
@@ -92,8 +88,7 @@ pub(crate) fn assert_last<C: TreeLedger>(
     receipts: &[Receipt<C>],
     want: &Reply,
     of: &str,
-) -> Result<(), Fail> {
-    let last = receipts.last().ok_or("no receipt")?;
+) {
+    let last = receipts.last().expect(rt, "a receipt");
     assert_reply(rt, last.reply(), want, of);
-    Ok(())
 }

@@ -20,7 +20,6 @@ use std::marker::Brand;
 use std::process::Abort;
 use std::sync::Wait;
 use std::sync::ledger::Ledger;
-use std::test::*;
 use std::thread;
 use std::thread::{JoinHandle, Threads};
 
@@ -156,33 +155,33 @@ const DROPPED: &[Round] = &[
 ];
 
 #[test]
-fn two_workers_have_one_journal(rt: HostRuntime) -> Result<(), Fail> {
-    on_new_tree(rt, rt.alloc(), TWO, 2001, Replay::Step(6000))
+fn two_workers_have_one_journal(rt: HostRuntime) {
+    on_new_tree(rt, rt.alloc(), TWO, 2001, Replay::Step(6000));
 }
 
 #[test]
-fn eight_workers_have_one_journal(rt: HostRuntime) -> Result<(), Fail> {
-    on_new_tree(rt, rt.alloc(), EIGHT, 2001, Replay::Step(6000))
+fn eight_workers_have_one_journal(rt: HostRuntime) {
+    on_new_tree(rt, rt.alloc(), EIGHT, 2001, Replay::Step(6000));
 }
 
 #[test]
-fn mixed_calls_have_one_journal(rt: HostRuntime) -> Result<(), Fail> {
-    on_new_tree(rt, rt.alloc(), MIXED, 1521, Replay::Rows(240))
+fn mixed_calls_have_one_journal(rt: HostRuntime) {
+    on_new_tree(rt, rt.alloc(), MIXED, 1521, Replay::Rows(240));
 }
 
 #[test]
-fn a_crowd_has_one_journal(rt: HostRuntime) -> Result<(), Fail> {
-    on_new_tree(rt, rt.alloc(), CROWD, 2433, Replay::Rows(384))
+fn a_crowd_has_one_journal(rt: HostRuntime) {
+    on_new_tree(rt, rt.alloc(), CROWD, 2433, Replay::Rows(384));
 }
 
 #[test]
-fn a_missing_share_hands_back_the_root(rt: HostRuntime) -> Result<(), Fail> {
-    on_new_tree(rt, rt.alloc(), MISSING, 1, Replay::Replies)
+fn a_missing_share_hands_back_the_root(rt: HostRuntime) {
+    on_new_tree(rt, rt.alloc(), MISSING, 1, Replay::Replies);
 }
 
 #[test]
-fn a_refused_call_does_not_count(rt: HostRuntime) -> Result<(), Fail> {
-    on_new_tree(rt, rt.alloc(), DROPPED, 2, Replay::Replies)
+fn a_refused_call_does_not_count(rt: HostRuntime) {
+    on_new_tree(rt, rt.alloc(), DROPPED, 2, Replay::Replies);
 }
 
 /// Makes the calls of these rounds on a new tree, whose ledgers have types of their own, and
@@ -193,33 +192,27 @@ pub(crate) fn on_new_tree<R: Threads + Wait + Abort + Copy + Send + Sync + 'stat
     rounds: &[Round],
     entries: usize,
     replay: Replay,
-) -> Result<(), Fail> {
-    done::<Brand, Brand, R>(rt, alloc, Ledgers::new(), rounds, entries, replay)
+) {
+    done::<Brand, Brand, R>(rt, alloc, Ledgers::new(), rounds, entries, replay);
 }
 
 fn done<
     C: TreeLedger + Send + Sync + 'static,
     S: Ledger + Send + Sync + 'static,
     R: Threads + Wait + Abort + Copy + Send + Sync + 'static,
->(
-    rt: R,
-    alloc: Global,
-    ledgers: Ledgers,
-    rounds: &[Round],
-    entries: usize,
-    replay: Replay,
-) -> Result<(), Fail>
+>(rt: R, alloc: Global, ledgers: Ledgers, rounds: &[Round], entries: usize, replay: Replay)
     requires calls { (ledgers.calls.name ≡ C.name) × (ledgers.calls.parts ≡ C.parts) }
     requires sums { (ledgers.sums.name ≡ S.name) × (ledgers.sums.parts ≡ S.parts) }
     requires history { ledgers.history.seen.book ≡ C.history }
     requires capacity { C.message_buffer_capacity ≡ 20 }
 {
-    let root = RecordedRoot::<C, S>::new(alloc, ledgers, &Options::default())?;
+    let root = RecordedRoot::<C, S>::new(alloc, ledgers, &Options::default());
+    let root = root.expect(&rt, "no refusal");
     let (mut shares, mut receipts) = (Vec::new(alloc), Vec::new(alloc));
-    work_in_rounds(rt, alloc, &root, rounds, &mut shares, &mut receipts)?;
-    let journal = closed(&rt, root, shares)?;
-    assert_receipts(&rt, alloc, &journal, &receipts, entries)?;
-    assert_replay(&rt, alloc, &journal, &receipts, replay)
+    work_in_rounds(rt, alloc, &root, rounds, &mut shares, &mut receipts);
+    let journal = closed(&rt, root, shares);
+    assert_receipts(&rt, alloc, &journal, &receipts, entries);
+    assert_replay(&rt, alloc, &journal, &receipts, replay);
 }
 
 /// Makes a call, and keeps its receipt. Asserts that the receipt has the reply, and returns it.
@@ -229,13 +222,13 @@ pub(crate) fn call<C: TreeLedger, S: Ledger, R: Wait + Abort>(
     item: &mut RecordedItem<C, S>,
     receipts: &mut Vec<Receipt<C>>,
     event: Event,
-) -> Result<Reply, Refusal>
+) -> Reply
     requires { is_frame event ≡ false }
 {
-    let (reply, receipt) = item.call(rt, alloc, event)?;
+    let (reply, receipt) = item.call(rt, alloc, event).expect(rt, "no refusal");
     assert_reply(rt, &reply, receipt.reply(), "a receipt");
-    receipts.push(receipt)?;
-    Ok(reply)
+    receipts.push(receipt).expect(rt, "memory");
+    reply
 }
 
 /// Adds a task below the root, and returns its handle.
@@ -244,18 +237,13 @@ pub(crate) fn add<C: TreeLedger, S: Ledger, R: Wait + Abort>(
     alloc: Global,
     item: &mut RecordedItem<C, S>,
     receipts: &mut Vec<Receipt<C>>,
-) -> Result<Handle, Refusal> {
-    let (parent, name, id) = (0, Text::from_str(alloc, "task")?, UNKNOWN);
-    let made = call(
-        rt,
-        alloc,
-        item,
-        receipts,
-        Event::AddChild { parent, name, id },
-    )?;
-    match made {
-        Reply::Made(handle) => Ok(handle),
-        _ => Err(Refusal::Gone),
+) -> Handle {
+    let name = Text::from_str(alloc, "task").expect(rt, "memory");
+    let (parent, id) = (0, UNKNOWN);
+    let event = Event::AddChild { parent, name, id };
+    match call(rt, alloc, item, receipts, event) {
+        Reply::Made(handle) => handle,
+        _ => panic!(rt; "no handle"),
     }
 }
 
@@ -265,11 +253,10 @@ fn add_first<C: TreeLedger, S: Ledger, R: Wait + Abort>(
     alloc: Global,
     item: &mut RecordedItem<C, S>,
     receipts: &mut Vec<Receipt<C>>,
-) -> Result<(), Refusal> {
-    assert_same(rt, add(rt, alloc, item, receipts)?, 1, "handle");
-    let first = receipts.as_slice().last().ok_or(Refusal::Gone)?;
+) {
+    assert_same(rt, add(rt, alloc, item, receipts), 1, "handle");
+    let first = receipts.as_slice().last().expect(rt, "a receipt");
     assert_same(rt, first.number(), 0, "the first number");
-    Ok(())
 }
 
 /// Adds 3 to the step of the first task, that many times.
@@ -279,11 +266,10 @@ fn call_steps<C: TreeLedger, S: Ledger, R: Wait + Abort>(
     item: &mut RecordedItem<C, S>,
     receipts: &mut Vec<Receipt<C>>,
     each: u32,
-) -> Result<(), Refusal> {
+) {
     for _ in 0..each {
-        call(rt, alloc, item, receipts, Event::IncBy { item: 1, step: 3 })?;
+        call(rt, alloc, item, receipts, Event::IncBy { item: 1, step: 3 });
     }
-    Ok(())
 }
 
 /// Names an item `task` and a moment `-`, and others by their numbers.
@@ -336,18 +322,17 @@ fn call_mixed<C: TreeLedger, S: Ledger, R: Wait + Abort>(
     item: &mut RecordedItem<C, S>,
     receipts: &mut Vec<Receipt<C>>,
     times: u32,
-) -> Result<(), Refusal> {
+) {
     for round in 0..times {
         let task = Task {
-            item: add(rt, alloc, item, receipts)?,
+            item: add(rt, alloc, item, receipts),
             now: 0,
         };
-        call_lines(rt, alloc, item, receipts, task, CALLS)?;
+        call_lines(rt, alloc, item, receipts, task, CALLS);
         if round % 2 == 0 {
-            call_lines(rt, alloc, item, receipts, task, "drop task")?;
+            call_lines(rt, alloc, item, receipts, task, "drop task");
         }
     }
-    Ok(())
 }
 
 /// Parses an event on a task, or one of two that read the tree.
@@ -367,15 +352,12 @@ pub(crate) fn call_lines<C: TreeLedger, S: Ledger, R: Wait + Abort>(
     receipts: &mut Vec<Receipt<C>>,
     task: Task,
     lines: &str,
-) -> Result<(), Refusal> {
+) {
     for line in lines.lines() {
-        let event = event_of(alloc, &task, line)?;
-        if event.is_frame() {
-            return Err(Refusal::Closed);
-        }
-        call(rt, alloc, item, receipts, event)?;
+        let event = event_of(alloc, &task, line).expect(rt, "an event");
+        assert!(rt; !event.is_frame(), "a frame");
+        call(rt, alloc, item, receipts, event);
     }
-    Ok(())
 }
 
 /// Adds the first task of a tree, and drops it.
@@ -384,10 +366,9 @@ fn add_and_drop<C: TreeLedger, S: Ledger, R: Wait + Abort>(
     alloc: Global,
     item: &mut RecordedItem<C, S>,
     receipts: &mut Vec<Receipt<C>>,
-) -> Result<(), Refusal> {
-    add_first(rt, alloc, item, receipts)?;
-    call(rt, alloc, item, receipts, Event::Drop { item: 1 })?;
-    Ok(())
+) {
+    add_first(rt, alloc, item, receipts);
+    call(rt, alloc, item, receipts, Event::Drop { item: 1 });
 }
 
 /// Asserts that a call at a handle that another item made and dropped is refused.
@@ -409,18 +390,15 @@ fn do_work<C: TreeLedger, S: Ledger, R: Wait + Abort>(
     item: &mut RecordedItem<C, S>,
     receipts: &mut Vec<Receipt<C>>,
     work: Work,
-) -> Result<(), Refusal> {
+) {
     match work {
-        Work::Nothing => Ok(()),
+        Work::Nothing => {}
         Work::AddFirst => add_first(rt, alloc, item, receipts),
         Work::Steps(each) => call_steps(rt, alloc, item, receipts, each),
         Work::Mixed(times) => call_mixed(rt, alloc, item, receipts, times),
         Work::Snapshot => call_lines(rt, alloc, item, receipts, NO_TASK, "snapshot"),
         Work::AddAndDrop => add_and_drop(rt, alloc, item, receipts),
-        Work::CallDropped => {
-            assert_gone(rt, alloc, item);
-            Ok(())
-        }
+        Work::CallDropped => assert_gone(rt, alloc, item),
         Work::Lines => call_written(rt, alloc, item, receipts),
         Work::Children => call_children(rt, alloc, item, receipts),
         Work::OneItem => call_in_order(rt, alloc, item, receipts),
@@ -428,7 +406,7 @@ fn do_work<C: TreeLedger, S: Ledger, R: Wait + Abort>(
 }
 
 /// A worker's share and its receipts.
-type Worked<C, S> = Result<(Share<C, S>, Vec<Receipt<C>>), Refusal>;
+type Worked<C, S> = (Share<C, S>, Vec<Receipt<C>>);
 
 /// What workers hand back.
 type Running<C, S> = Vec<JoinHandle<Worked<C, S>>>;
@@ -441,8 +419,8 @@ fn worked<C: TreeLedger, S: Ledger, R: Wait + Abort>(
     work: Work,
 ) -> Worked<C, S> {
     let mut receipts = Vec::new(alloc);
-    do_work(rt, alloc, &mut item, &mut receipts, work)?;
-    Ok((item.give_back(), receipts))
+    do_work(rt, alloc, &mut item, &mut receipts, work);
+    (item.give_back(), receipts)
 }
 
 /// Begins the workers of a round.
@@ -450,14 +428,17 @@ fn begin<
     C: TreeLedger + Send + Sync + 'static,
     S: Ledger + Send + Sync + 'static,
     R: Threads + Wait + Abort + Copy + Send + Sync + 'static,
->(rt: R, alloc: Global, root: &RecordedRoot<C, S>, round: &Round) -> Result<Running<C, S>, Fail> {
+>(rt: R, alloc: Global, root: &RecordedRoot<C, S>, round: &Round) -> Running<C, S> {
     let mut running = Vec::new(alloc);
     let work = round.work;
     for _ in 0..round.workers {
-        let item = root.share(&rt)?;
-        running.push(thread::spawn(&rt, move || worked(&rt, alloc, item, work))?)?;
+        let item = root.share(&rt).expect(&rt, "no refusal");
+        let worker = thread::spawn(&rt, move || worked(&rt, alloc, item, work));
+        running
+            .push(worker.expect(&rt, "a thread"))
+            .expect(&rt, "memory");
     }
-    Ok(running)
+    running
 }
 
 /// Takes a worker's share and its receipts, and asserts that these are in order, and that the share
@@ -465,17 +446,16 @@ fn begin<
 fn take<C: TreeLedger, S: Ledger>(
     rt: &impl Abort,
     round: &Round,
-    worked: (Share<C, S>, Vec<Receipt<C>>),
+    worked: Worked<C, S>,
     shares: &mut Vec<Share<C, S>>,
     receipts: &mut Vec<Receipt<C>>,
-) -> Result<(), Fail> {
+) {
     let (share, mut given) = worked;
     assert_same(rt, share.calls(), round.calls, "calls");
     assert_same(rt, share.sum(), round.sum, "sum");
     assert_rising(rt, &given);
-    shares.push(share)?;
-    receipts.append(&mut given)?;
-    Ok(())
+    shares.push(share).expect(rt, "memory");
+    receipts.append(&mut given).expect(rt, "memory");
 }
 
 /// Waits for the workers of a round, and takes what they hand back.
@@ -485,12 +465,10 @@ fn join_all<C: TreeLedger, S: Ledger, R: Threads + Wait + Abort>(
     running: Running<C, S>,
     shares: &mut Vec<Share<C, S>>,
     receipts: &mut Vec<Receipt<C>>,
-) -> Result<(), Fail> {
+) {
     for worker in running {
-        let worked = worker.join(rt)?;
-        take(rt, round, worked, shares, receipts)?;
+        take(rt, round, worker.join(rt), shares, receipts);
     }
-    Ok(())
 }
 
 /// Has workers make the calls of each round, and takes what they hand back.
@@ -505,12 +483,11 @@ fn work_in_rounds<
     rounds: &[Round],
     shares: &mut Vec<Share<C, S>>,
     receipts: &mut Vec<Receipt<C>>,
-) -> Result<(), Fail> {
+) {
     for round in rounds {
-        let running = begin(rt, alloc, root, round)?;
-        join_all(&rt, round, running, shares, receipts)?;
+        let running = begin(rt, alloc, root, round);
+        join_all(&rt, round, running, shares, receipts);
     }
-    Ok(())
 }
 
 /// Asserts that a tree can't be closed with these shares, and that they are handed back.
@@ -518,11 +495,11 @@ fn refused<C: TreeLedger, S: Ledger>(
     rt: &(impl Wait + Abort),
     root: RecordedRoot<C, S>,
     shares: Vec<Share<C, S>>,
-) -> Result<Unclosed<C, S>, Fail> {
+) -> Unclosed<C, S> {
     let given = shares.len();
-    let unclosed = root.close(rt, shares).err().ok_or("a share is missing")?;
+    let unclosed = root.close(rt, shares).err().expect(rt, "a refusal");
     assert_same(rt, unclosed.shares.len(), given, "shares");
-    Ok(unclosed)
+    unclosed
 }
 
 /// Closes a tree with all its shares, after it was refused without the last.
@@ -530,18 +507,14 @@ fn closed<C: TreeLedger, S: Ledger>(
     rt: &(impl Wait + Abort),
     root: RecordedRoot<C, S>,
     shares: Vec<Share<C, S>>,
-) -> Result<Journal<C>, Fail> {
+) -> Journal<C> {
     let mut shares = shares;
-    let last = shares.pop().ok_or("no share")?;
-    let unclosed = refused(rt, root, shares)?;
+    let last = shares.pop().expect(rt, "a share");
+    let unclosed = refused(rt, root, shares);
     let mut shares = unclosed.shares;
-    shares.push(last)?;
-    let journal = unclosed
-        .root
-        .close(rt, shares)
-        .ok()
-        .ok_or("all shares are there")?;
-    Ok(journal)
+    shares.push(last).expect(rt, "memory");
+    let closed = unclosed.root.close(rt, shares).ok();
+    closed.expect(rt, "a journal")
 }
 
 /// Asserts that a tree replies to an event of no frame as an entry says.
@@ -551,49 +524,33 @@ pub(crate) fn assert_replayed(
     tree: &mut TreeState,
     event: &Event,
     want: &Reply,
-) -> Result<(), Refusal> {
-    if event.is_frame() {
-        return Err(Refusal::Closed);
-    }
-    let got = tree.apply(alloc, event)?;
+) {
+    assert!(rt; !event.is_frame(), "a frame");
+    let got = tree.apply(alloc, event).expect(rt, "no refusal");
     assert!(rt; got == *want, "another reply");
-    Ok(())
 }
 
 /// A new tree that gets the events of a journal has its replies.
-fn replayed<C: TreeLedger>(
-    rt: &impl Abort,
-    alloc: Global,
-    journal: &Journal<C>,
-) -> Result<TreeState, Refusal> {
-    let mut tree = TreeState::new(alloc, &RootOptions::default())?;
+fn replayed<C: TreeLedger>(rt: &impl Abort, alloc: Global, journal: &Journal<C>) -> TreeState {
+    let mut tree = TreeState::new(alloc, &RootOptions::default()).expect(rt, "no refusal");
     for (event, reply) in journal.entries() {
-        assert_replayed(rt, alloc, &mut tree, event, reply)?;
+        assert_replayed(rt, alloc, &mut tree, event, reply);
     }
-    Ok(tree)
+    tree
 }
 
 /// Asserts that the first task of a tree has this step.
-fn assert_step(
-    rt: &impl Abort,
-    alloc: Global,
-    tree: &mut TreeState,
-    want: u64,
-) -> Result<(), Fail> {
-    let step = tree.apply(alloc, &Event::Step { item: 1 })?;
+fn assert_step(rt: &impl Abort, alloc: Global, tree: &mut TreeState, want: u64) {
+    let step = tree
+        .apply(alloc, &Event::Step { item: 1 })
+        .expect(rt, "no refusal");
     assert_reply(rt, &step, &Reply::Step(want), "counter");
-    Ok(())
 }
 
 /// Asserts that there are that many rows, those of the snapshot that the last receipt has.
-fn assert_rows<C: TreeLedger>(
-    rt: &impl Abort,
-    rows: Rows,
-    want: usize,
-    receipts: &[Receipt<C>],
-) -> Result<(), Fail> {
+fn assert_rows<C: TreeLedger>(rt: &impl Abort, rows: Rows, want: usize, receipts: &[Receipt<C>]) {
     assert_same(rt, rows.as_slice().len(), want, "rows");
-    assert_last(rt, receipts, &Reply::Rows(rows), "rows of the replay")
+    assert_last(rt, receipts, &Reply::Rows(rows), "rows of the replay");
 }
 
 /// Asserts that the replay of a journal has its replies, and what it ends with.
@@ -603,13 +560,19 @@ fn assert_replay<C: TreeLedger>(
     journal: &Journal<C>,
     receipts: &[Receipt<C>],
     replay: Replay,
-) -> Result<(), Fail> {
-    let mut tree = replayed(rt, alloc, journal)?;
+) {
+    let mut tree = replayed(rt, alloc, journal);
     match replay {
-        Replay::Replies => Ok(()),
+        Replay::Replies => {}
         Replay::Step(want) => assert_step(rt, alloc, &mut tree, want),
-        Replay::Rows(want) => assert_rows(rt, tree.rows(alloc)?, want, receipts),
-        Replay::Children => assert_last_row(rt, &tree.rows(alloc)?),
+        Replay::Rows(want) => {
+            let rows = tree.rows(alloc).expect(rt, "no refusal");
+            assert_rows(rt, rows, want, receipts);
+        }
+        Replay::Children => {
+            let rows = tree.rows(alloc).expect(rt, "no refusal");
+            assert_last_row(rt, &rows);
+        }
         Replay::Lines => assert_lines(rt, alloc, journal, receipts),
     }
 }

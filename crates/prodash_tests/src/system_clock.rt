@@ -4,7 +4,6 @@ use prodash::time::{Clock, SystemClock};
 use std::io::{Error, ErrorKind};
 use std::process::Abort;
 use std::sync::atomic::{AtomicU64, Ordering};
-use std::test::*;
 use std::time::Duration;
 use std::{io, rt};
 

@@ -11,7 +11,6 @@ use std::mem;
 use std::process::Abort;
 use std::sync::atomic::Ordering;
 use std::sync::{Arc, Wait};
-use std::test::*;
 
 /// Makes each required call of a progress but those that read.
 pub(crate) fn drive<P: Progress>(alloc: Global, progress: &mut P) -> Result<(), Refusal> {
@@ -25,22 +24,22 @@ pub(crate) fn drive<P: Progress>(alloc: Global, progress: &mut P) -> Result<(), 
 }
 
 /// Asserts that the progress is where `drive` leaves it.
-pub(crate) fn assert_driven<P: Progress>(
-    rt: &impl Abort,
-    alloc: Global,
-    progress: &mut P,
-) -> Result<(), Refusal> {
+pub(crate) fn assert_driven<P: Progress>(rt: &impl Abort, alloc: Global, progress: &mut P) {
     let unit = label("items");
     assert_same(rt, progress.step(), 6, "step");
-    let counter = progress.counter(alloc)?;
+    let counter = progress.counter(alloc).expect(rt, "no refusal");
     assert_same(rt, counter.load(Ordering::SeqCst), 6, "counter");
     assert_same(rt, progress.unit(), Some(unit), "unit");
     assert_same(rt, progress.max(), Some(10), "bound");
     assert_same(rt, progress.set_max(Some(20)), Some(10), "bound before");
     assert_same(rt, progress.max(), Some(20), "bound after");
-    assert_same(rt, progress.name(alloc)?.as_deref(), Some("other"), "name");
+    assert_same(
+        rt,
+        progress.name(alloc).expect(rt, "no refusal").as_deref(),
+        Some("other"),
+        "name",
+    );
     assert_same(rt, progress.id(), *b"TASK", "identifier");
-    Ok(())
 }
 
 /// A message in short: its moment, level and text.
@@ -52,38 +51,35 @@ pub(crate) fn assert_sent<R: Wait + Clone + Drop>(
     alloc: Global,
     root: &tree::Root<R>,
     want: &[Sent],
-) -> Result<(), Refusal> {
+) {
     let mut messages = Vec::new(alloc);
-    root.copy_messages(alloc, &mut messages)?;
+    root.copy_messages(alloc, &mut messages)
+        .expect(rt, "no refusal");
     assert_same(rt, messages.len(), want.len(), "messages");
     for (message, (time, level, text)) in messages.iter().zip(want.iter()) {
         assert_same(rt, message.message.as_str(), *text, "text");
         assert_same(rt, (message.time, message.level), (*time, *level), *text);
     }
-    Ok(())
 }
 
 /// The message that `drive` sends.
 pub(crate) const DRIVEN: &[Sent] = &[(1, MessageLevel::Failure, "sent")];
 
 /// Asserts that each call reaches the item.
-fn assert_reaches_item<P: Progress>(
-    rt: &impl Abort,
-    alloc: Global,
-    progress: &mut P,
-) -> Result<(), Refusal> {
-    drive(alloc, progress)?;
-    assert_driven(rt, alloc, progress)
+fn assert_reaches_item<P: Progress>(rt: &impl Abort, alloc: Global, progress: &mut P) {
+    drive(alloc, progress).expect(rt, "no refusal");
+    assert_driven(rt, alloc, progress);
 }
 
 #[test]
-fn references_reach_the_item(rt: HostRuntime) -> Result<(), Fail> {
+fn references_reach_the_item(rt: HostRuntime) {
     let alloc: Global = rt.alloc();
-    let root = tree::Root::new(rt, alloc)?;
-    let mut item = root.add_child_with_id(alloc, "task", *b"TASK")?;
-    assert_reaches_item(&rt, alloc, &mut &mut item)?;
-    assert_sent(&rt, alloc, &root, DRIVEN)?;
-    Ok(())
+    let root = tree::Root::new(rt, alloc).expect(&rt, "no refusal");
+    let mut item = root
+        .add_child_with_id(alloc, "task", *b"TASK")
+        .expect(&rt, "no refusal");
+    assert_reaches_item(&rt, alloc, &mut &mut item);
+    assert_sent(&rt, alloc, &root, DRIVEN);
 }
 
 /// Progress whose calls, default or not, leave steps of their own, and which keeps its bound, and of
@@ -226,40 +222,42 @@ pub(crate) fn make_peculiar(alloc: Global) -> Result<Peculiar, Refusal> {
 }
 
 /// Asserts that each call that has a default body reaches the progress itself.
-fn assert_hands_all_on<P: Progress>(
-    rt: &impl Abort,
-    alloc: Global,
-    progress: &P,
-) -> Result<(), Refusal> {
+fn assert_hands_all_on<P: Progress>(rt: &impl Abort, alloc: Global, progress: &P) {
     progress.inc();
     assert_same(rt, progress.step(), 3, "inc");
-    progress.info(alloc, 0, "")?;
+    progress.info(alloc, 0, "").expect(rt, "no refusal");
     assert_same(rt, progress.step(), 6, "info");
-    progress.done(alloc, 0, "")?;
+    progress.done(alloc, 0, "").expect(rt, "no refusal");
     assert_same(rt, progress.step(), 7, "done");
-    progress.fail(alloc, 0, "")?;
+    progress.fail(alloc, 0, "").expect(rt, "no refusal");
     assert_same(rt, progress.step(), 8, "fail");
-    progress.message(alloc, 4, MessageLevel::Failure, "sent")?;
+    progress
+        .message(alloc, 4, MessageLevel::Failure, "sent")
+        .expect(rt, "no refusal");
     assert_same(rt, progress.step(), 204, "message");
-    progress.show_throughput(alloc, 0, 0)?;
+    progress
+        .show_throughput(alloc, 0, 0)
+        .expect(rt, "no refusal");
     assert_same(rt, progress.step(), 304, "show_throughput");
     let unit = Some(label("items"));
-    progress.show_throughput_with(alloc, 0, 0, 5, unit, MessageLevel::Success)?;
+    progress
+        .show_throughput_with(alloc, 0, 0, 5, unit, MessageLevel::Success)
+        .expect(rt, "no refusal");
     assert_same(rt, progress.step(), 315, "show_throughput_with");
-    Ok(())
 }
 
 /// Asserts that name, bound and unit are those of the progress itself.
-fn assert_keeps<P: Progress>(
-    rt: &impl Abort,
-    alloc: Global,
-    progress: &mut P,
-) -> Result<(), Refusal> {
-    assert_same(rt, progress.name(alloc)?.as_deref(), Some("odd"), "name");
-    progress.set_name(alloc, "other")?;
+fn assert_keeps<P: Progress>(rt: &impl Abort, alloc: Global, progress: &mut P) {
     assert_same(
         rt,
-        progress.name(alloc)?.as_deref(),
+        progress.name(alloc).expect(rt, "no refusal").as_deref(),
+        Some("odd"),
+        "name",
+    );
+    progress.set_name(alloc, "other").expect(rt, "no refusal");
+    assert_same(
+        rt,
+        progress.name(alloc).expect(rt, "no refusal").as_deref(),
         Some("other"),
         "name set",
     );
@@ -270,39 +268,36 @@ fn assert_keeps<P: Progress>(
     assert_same(rt, progress.set_max(Some(20)), Some(10), "bound before");
     assert_same(rt, progress.max(), Some(20), "bound after");
     assert_same(rt, progress.id(), *b"ODDS", "identifier");
-    Ok(())
 }
 
 /// Asserts that each call of a counter reaches the counter itself.
-fn assert_counts<C: Count>(rt: &impl Abort, alloc: Global, count: &C) -> Result<(), Refusal> {
+fn assert_counts<C: Count>(rt: &impl Abort, alloc: Global, count: &C) {
     count.set(0);
     assert_same(rt, count.step(), 1, "set");
     count.inc_by(0);
     assert_same(rt, count.step(), 2, "inc_by");
     count.inc();
-    let counter = count.counter(alloc)?;
+    let counter = count.counter(alloc).expect(rt, "no refusal");
     assert_same(rt, counter.load(Ordering::SeqCst), 3, "inc");
-    Ok(())
 }
 
 #[test]
-fn references_hand_all_on(rt: HostRuntime) -> Result<(), Fail> {
+fn references_hand_all_on(rt: HostRuntime) {
     let alloc: Global = rt.alloc();
-    let mut progress = make_peculiar(alloc)?;
-    assert_counts(&rt, alloc, &&progress)?;
-    assert_counts(&rt, alloc, &&mut progress)?;
-    assert_hands_all_on(&rt, alloc, &&mut progress)?;
-    Ok(())
+    let mut progress = make_peculiar(alloc).expect(&rt, "no refusal");
+    assert_counts(&rt, alloc, &&progress);
+    assert_counts(&rt, alloc, &&mut progress);
+    assert_hands_all_on(&rt, alloc, &&mut progress);
 }
 
 #[test]
-fn boxes_hand_all_on(rt: HostRuntime) -> Result<(), Fail> {
+fn boxes_hand_all_on(rt: HostRuntime) {
     let alloc: Global = rt.alloc();
-    let mut boxed: BoxedProgress = Box::new(alloc, make_peculiar(alloc)?)?;
-    assert_counts(&rt, alloc, &boxed)?;
-    assert_hands_all_on(&rt, alloc, &boxed)?;
-    assert_keeps(&rt, alloc, &mut boxed)?;
-    Ok(())
+    let peculiar = make_peculiar(alloc).expect(&rt, "no refusal");
+    let mut boxed: BoxedProgress = Box::new(alloc, peculiar).expect(&rt, "memory");
+    assert_counts(&rt, alloc, &boxed);
+    assert_hands_all_on(&rt, alloc, &boxed);
+    assert_keeps(&rt, alloc, &mut boxed);
 }
 
 /// What an item sends by the default bodies.
@@ -323,91 +318,109 @@ pub(crate) const BY_DEFAULT: &[Sent] = &[
 ];
 
 /// Sends what the default bodies send.
-fn send_by_default<P: Progress>(alloc: Global, progress: &mut P) -> Result<(), Refusal> {
+fn send_by_default<P: Progress>(rt: &impl Abort, alloc: Global, progress: &mut P) {
     progress.init(None, Some(label("steps")));
-    progress.info(alloc, 1, "one")?;
-    progress.done(alloc, 2, "two")?;
-    progress.fail(alloc, 3, "three")?;
+    progress.info(alloc, 1, "one").expect(rt, "no refusal");
+    progress.done(alloc, 2, "two").expect(rt, "no refusal");
+    progress.fail(alloc, 3, "three").expect(rt, "no refusal");
     progress.set(10);
-    progress.show_throughput(alloc, 0, 2_500_000_000)?;
+    progress
+        .show_throughput(alloc, 0, 2_500_000_000)
+        .expect(rt, "no refusal");
     let unit = Some(label("parts"));
-    progress.show_throughput_with(alloc, 0, 2_500_000_000, 5, unit, MessageLevel::Failure)
+    progress
+        .show_throughput_with(alloc, 0, 2_500_000_000, 5, unit, MessageLevel::Failure)
+        .expect(rt, "no refusal");
 }
 
 #[test]
-fn default_bodies_send(rt: HostRuntime) -> Result<(), Fail> {
+fn default_bodies_send(rt: HostRuntime) {
     let alloc: Global = rt.alloc();
-    let root = tree::Root::new(rt, alloc)?;
-    let mut item = root.add_child(alloc, "task")?;
-    send_by_default(alloc, &mut item)?;
-    assert_sent(&rt, alloc, &root, BY_DEFAULT)?;
-    Ok(())
+    let root = tree::Root::new(rt, alloc).expect(&rt, "no refusal");
+    let mut item = root.add_child(alloc, "task").expect(&rt, "no refusal");
+    send_by_default(&rt, alloc, &mut item);
+    assert_sent(&rt, alloc, &root, BY_DEFAULT);
 }
 
 #[test]
-fn default_bodies_of_wrappers_send(rt: HostRuntime) -> Result<(), Fail> {
+fn default_bodies_of_wrappers_send(rt: HostRuntime) {
     let alloc: Global = rt.alloc();
-    let root = tree::Root::new(rt, alloc)?;
-    let item = root.add_child(alloc, "task")?;
+    let root = tree::Root::new(rt, alloc).expect(&rt, "no refusal");
+    let item = root.add_child(alloc, "task").expect(&rt, "no refusal");
     let mut left: Either<Item<HostRuntime>, Discard> = Either::Left(item);
-    send_by_default(alloc, &mut left)?;
-    assert_sent(&rt, alloc, &root, BY_DEFAULT)?;
-    Ok(())
+    send_by_default(&rt, alloc, &mut left);
+    assert_sent(&rt, alloc, &root, BY_DEFAULT);
 }
 
 /// Adds a part, and a part of that, which is at step 3.
-fn add_parts<P: NestedProgress>(alloc: Global, progress: &mut P) -> Result<P::SubProgress, Refusal>
+fn add_parts<P: NestedProgress>(rt: &impl Abort, alloc: Global, progress: &mut P) -> P::SubProgress
 where
     P::SubProgress: NestedProgress + Drop,
     <P::SubProgress as NestedProgress>::SubProgress: Progress + Drop,
 {
-    let mut part = progress.add_child_with_id(alloc, "part", *b"PART")?;
-    let mut smaller = part.add_child(alloc, "smaller")?;
+    let mut part = progress
+        .add_child_with_id(alloc, "part", *b"PART")
+        .expect(rt, "no refusal");
+    let mut smaller = part.add_child(alloc, "smaller").expect(rt, "no refusal");
     smaller.init(Some(4), None);
     smaller.set(3);
-    smaller.info(alloc, 5, "three")?;
-    Ok(part)
+    smaller.info(alloc, 5, "three").expect(rt, "no refusal");
+    part
 }
 
 /// Asserts that the tree behind a weak handle has the task with its part and one message.
-fn assert_has_parts<W: WeakRoot>(rt: &impl Abort, alloc: Global, weak: &W) -> Result<(), Fail>
+fn assert_has_parts<W: WeakRoot>(rt: &impl Abort, alloc: Global, weak: &W)
 where
     W::Root: Root + Drop,
 {
-    let root = weak.upgrade()?.ok_or("there is an owner")?;
+    let found = weak.upgrade().expect(rt, "no refusal");
+    let root = found.expect(rt, "an owner");
     let sizes = (root.num_tasks(), root.messages_capacity());
     assert_same(rt, sizes, (2, 20), "tasks and capacity");
     let mut rows: Vec<Row> = Vec::new(alloc);
     let mut messages: Vec<Message> = Vec::new(alloc);
-    let state = root.snapshot_and_new_messages(alloc, &mut rows, &mut messages, None)?;
+    let state = root
+        .snapshot_and_new_messages(alloc, &mut rows, &mut messages, None)
+        .expect(rt, "no refusal");
     let sizes = (rows.len(), messages.len(), state.pushed());
     assert_same(rt, sizes, (2, 1, 1), "one look");
-    root.sorted_snapshot(alloc, &mut rows)?;
-    root.copy_messages(alloc, &mut messages)?;
+    root.sorted_snapshot(alloc, &mut rows)
+        .expect(rt, "no refusal");
+    root.copy_messages(alloc, &mut messages)
+        .expect(rt, "no refusal");
     assert_same(rt, (rows.len(), messages.len()), (2, 1), "two copies");
     let seen = Some(MessageCopyState::new(1));
-    root.copy_new_messages(alloc, &mut messages, seen)?;
+    root.copy_new_messages(alloc, &mut messages, seen)
+        .expect(rt, "no refusal");
     assert_same(rt, messages.len(), 0, "new messages");
-    root.copy_messages(alloc, &mut messages)?;
-    root.snapshot_and_new_messages(alloc, &mut rows, &mut messages, seen)?;
-    assert_same(rt, messages.len(), 0, "new messages of a look");
-    Ok(())
+    root.copy_messages(alloc, &mut messages)
+        .expect(rt, "no refusal");
+    let state = root
+        .snapshot_and_new_messages(alloc, &mut rows, &mut messages, Some(state))
+        .expect(rt, "no refusal");
+    let sizes = (messages.len(), state.pushed());
+    assert_same(rt, sizes, (0, 1), "new messages of a look");
 }
 
 #[test]
-fn trees_behind_their_traits(rt: HostRuntime) -> Result<(), Fail> {
+fn trees_behind_their_traits(rt: HostRuntime) {
     let alloc: Global = rt.alloc();
-    let root = tree::Root::new(rt, alloc)?;
-    let mut item = root.add_child(alloc, "task")?;
-    let part = add_parts(alloc, &mut &mut item)?;
+    let root = tree::Root::new(rt, alloc).expect(&rt, "no refusal");
+    let mut item = root.add_child(alloc, "task").expect(&rt, "no refusal");
+    let part = add_parts(&rt, alloc, &mut &mut item);
     assert_same(&rt, part.id(), *b"PART", "identifier");
     let mut rows = Vec::new(alloc);
-    root.sorted_snapshot(alloc, &mut rows)?;
+    root.sorted_snapshot(alloc, &mut rows)
+        .expect(&rt, "no refusal");
     let last = rows.last().map(|row| row.key);
     assert_same(&rt, last, Some(key_at(&[0, 0])), "key");
-    let weak = Root::downgrade(&root)?;
-    assert_has_parts(&rt, alloc, &weak)?;
+    let weak = Root::downgrade(&root).expect(&rt, "no refusal");
+    assert_has_parts(&rt, alloc, &weak);
     drop(root);
-    assert_same(&rt, WeakRoot::upgrade(&weak)?.is_none(), true, "no owner");
-    Ok(())
+    assert_same(
+        &rt,
+        WeakRoot::upgrade(&weak).expect(&rt, "no refusal").is_none(),
+        true,
+        "no owner",
+    );
 }

@@ -10,7 +10,6 @@ use std::alloc::Global;
 use std::process::Abort;
 use std::sync::atomic::{AtomicU64, Ordering};
 use std::sync::{Arc, Wait};
-use std::test::*;
 
 /// A clock that goes on only when it is waited for.
 #[derive(Drop)]
@@ -39,16 +38,12 @@ pub(crate) fn make_stopped(alloc: Global) -> Result<Arc<Stopped>, Refusal> {
 const PART: &[ShortRow] = &[(&[0], "task", None), (&[0, 0], "part", None)];
 
 /// Asserts that the tree has a task and its part.
-fn assert_part<R: Wait + Clone + Drop>(
-    rt: &impl Abort,
-    alloc: Global,
-    root: &Root<R>,
-) -> Result<(), Refusal> {
+fn assert_part<R: Wait + Clone + Drop>(rt: &impl Abort, alloc: Global, root: &Root<R>) {
     let mut rows = Vec::new(alloc);
-    root.sorted_snapshot(alloc, &mut rows)?;
-    let want = rows_of(alloc, PART)?;
+    root.sorted_snapshot(alloc, &mut rows)
+        .expect(rt, "no refusal");
+    let want = rows_of(alloc, PART).expect(rt, "memory");
     assert_same(rt, rows.as_slice(), want.as_slice(), "rows");
-    Ok(())
 }
 
 /// Asserts that all calls reach the item in the wrapper, which sends no more than they do.
@@ -57,87 +52,99 @@ fn assert_wraps<P: Progress, R: Wait + Clone + Drop>(
     alloc: Global,
     root: &Root<R>,
     progress: &mut P,
-) -> Result<(), Refusal> {
-    drive(alloc, progress)?;
-    assert_driven(rt, alloc, progress)?;
-    assert_sent(rt, alloc, root, &DRIVEN)
+) {
+    drive(alloc, progress).expect(rt, "no refusal");
+    assert_driven(rt, alloc, progress);
+    assert_sent(rt, alloc, root, &DRIVEN);
 }
 
 #[test]
-fn either_wraps_an_item(rt: HostRuntime) -> Result<(), Fail> {
+fn either_wraps_an_item(rt: HostRuntime) {
     let alloc: Global = rt.alloc();
-    let root = Root::new(rt, alloc)?;
-    let item = root.add_child_with_id(alloc, "task", *b"TASK")?;
+    let root = Root::new(rt, alloc).expect(&rt, "no refusal");
+    let item = root
+        .add_child_with_id(alloc, "task", *b"TASK")
+        .expect(&rt, "no refusal");
     let mut left: Either<Item<HostRuntime>, Discard> = Either::Left(item);
-    assert_wraps(&rt, alloc, &root, &mut left)?;
-    Ok(())
+    assert_wraps(&rt, alloc, &root, &mut left);
 }
 
 #[test]
-fn either_wraps_an_item_on_its_right(rt: HostRuntime) -> Result<(), Fail> {
+fn either_wraps_an_item_on_its_right(rt: HostRuntime) {
     let alloc: Global = rt.alloc();
-    let root = Root::new(rt, alloc)?;
-    let item = root.add_child_with_id(alloc, "task", *b"TASK")?;
+    let root = Root::new(rt, alloc).expect(&rt, "no refusal");
+    let item = root
+        .add_child_with_id(alloc, "task", *b"TASK")
+        .expect(&rt, "no refusal");
     let mut right: Either<Discard, Item<HostRuntime>> = Either::Right(item);
-    assert_wraps(&rt, alloc, &root, &mut right)?;
-    Ok(())
+    assert_wraps(&rt, alloc, &root, &mut right);
 }
 
 #[test]
-fn do_or_discard_wraps_an_item(rt: HostRuntime) -> Result<(), Fail> {
+fn do_or_discard_wraps_an_item(rt: HostRuntime) {
     let alloc: Global = rt.alloc();
-    let root = Root::new(rt, alloc)?;
-    let item = root.add_child_with_id(alloc, "task", *b"TASK")?;
+    let root = Root::new(rt, alloc).expect(&rt, "no refusal");
+    let item = root
+        .add_child_with_id(alloc, "task", *b"TASK")
+        .expect(&rt, "no refusal");
     let mut done = DoOrDiscard::from(Some(item));
-    assert_wraps(&rt, alloc, &root, &mut done)?;
-    Ok(())
+    assert_wraps(&rt, alloc, &root, &mut done);
 }
 
 #[test]
-fn any_progress_wraps_an_item(rt: HostRuntime) -> Result<(), Fail> {
+fn any_progress_wraps_an_item(rt: HostRuntime) {
     let alloc: Global = rt.alloc();
-    let root = Root::new(rt, alloc)?;
-    let item = root.add_child_with_id(alloc, "task", *b"TASK")?;
+    let root = Root::new(rt, alloc).expect(&rt, "no refusal");
+    let item = root
+        .add_child_with_id(alloc, "task", *b"TASK")
+        .expect(&rt, "no refusal");
     let mut any: Any = AnyProgress::Item(item);
-    assert_wraps(&rt, alloc, &root, &mut any)?;
-    Ok(())
+    assert_wraps(&rt, alloc, &root, &mut any);
 }
 
 #[test]
-fn throughput_on_drop_wraps_an_item(rt: HostRuntime) -> Result<(), Fail> {
+fn throughput_on_drop_wraps_an_item(rt: HostRuntime) {
     let alloc: Global = rt.alloc();
-    let root = Root::new(rt, alloc)?;
-    let item = root.add_child_with_id(alloc, "task", *b"TASK")?;
-    let mut timed = ThroughputOnDrop::new(alloc, item, make_stopped(alloc)?);
-    assert_wraps(&rt, alloc, &root, &mut timed)?;
-    Ok(())
+    let root = Root::new(rt, alloc).expect(&rt, "no refusal");
+    let item = root
+        .add_child_with_id(alloc, "task", *b"TASK")
+        .expect(&rt, "no refusal");
+    let clock = make_stopped(alloc).expect(&rt, "no refusal");
+    let mut timed = ThroughputOnDrop::new(alloc, item, clock);
+    assert_wraps(&rt, alloc, &root, &mut timed);
 }
 
 #[test]
-fn children_of_items_are_items(rt: HostRuntime) -> Result<(), Fail> {
+fn children_of_items_are_items(rt: HostRuntime) {
     let alloc: Global = rt.alloc();
-    let root = Root::new(rt, alloc)?;
-    let item = root.add_child(alloc, "task")?;
+    let root = Root::new(rt, alloc).expect(&rt, "no refusal");
+    let item = root.add_child(alloc, "task").expect(&rt, "no refusal");
     let mut left: Either<Item<HostRuntime>, Discard> = Either::Left(item);
-    let part = left.add_child(alloc, "part")?;
+    let part = left.add_child(alloc, "part").expect(&rt, "no refusal");
     assert_same(&rt, matches!(part, Either::Left(_)), true, "a left child");
-    assert_part(&rt, alloc, &root)?;
+    assert_part(&rt, alloc, &root);
     drop(part);
     let item = match left {
         Either::Left(item) => Some(item),
         Either::Right(_) => None,
     };
-    let item = item.ok_or("the item")?;
+    let item = item.expect(&rt, "an item");
     let mut done = DoOrDiscard::from(Some(item));
-    let other = done.add_child_with_id(alloc, "other", *b"MORE")?;
+    let other = done
+        .add_child_with_id(alloc, "other", *b"MORE")
+        .expect(&rt, "no refusal");
     assert_same(&rt, other.id(), *b"MORE", "identifier");
-    let other = other.into_inner().ok_or("an item")?;
-    assert_same(&rt, other.name(alloc)?.as_deref(), Some("other"), "name");
+    let other = other.into_inner().expect(&rt, "an item");
+    assert_same(
+        &rt,
+        other.name(alloc).expect(&rt, "no refusal").as_deref(),
+        Some("other"),
+        "name",
+    );
     let mut any: Any = AnyProgress::Item(other);
-    let last = any.add_child(alloc, "last")?;
+    let last = any.add_child(alloc, "last").expect(&rt, "no refusal");
     assert_same(&rt, matches!(last, AnyProgress::Item(_)), true, "an item");
     assert_same(&rt, root.num_tasks(), 3, "tasks");
-    Ok(())
 }
 
 /// Whatever is called, it stays as it was.
@@ -145,53 +152,58 @@ fn assert_discards<P: NestedProgress>(
     rt: &impl Abort,
     alloc: Global,
     progress: &mut P,
-) -> Result<P::SubProgress, Refusal> {
-    drive(alloc, progress)?;
+) -> P::SubProgress {
+    drive(alloc, progress).expect(rt, "no refusal");
     assert_same(rt, progress.set_max(Some(20)), None, "bound before");
     assert_same(rt, progress.step(), 0, "step");
     assert_same(rt, progress.max(), None, "bound");
     assert_same(rt, progress.unit(), None, "unit");
-    assert_same(rt, progress.name(alloc)?, None, "name");
+    assert_same(
+        rt,
+        progress.name(alloc).expect(rt, "no refusal"),
+        None,
+        "name",
+    );
     assert_same(rt, progress.id(), UNKNOWN, "identifier");
-    let counter = progress.counter(alloc)?;
+    let counter = progress.counter(alloc).expect(rt, "no refusal");
     assert_same(rt, counter.load(Ordering::SeqCst), 0, "counter");
-    progress.add_child_with_id(alloc, "part", *b"PART")
+    progress
+        .add_child_with_id(alloc, "part", *b"PART")
+        .expect(rt, "no refusal")
 }
 
 #[test]
-fn discarded_progress_stays(rt: HostRuntime) -> Result<(), Fail> {
+fn discarded_progress_stays(rt: HostRuntime) {
     let alloc: Global = rt.alloc();
-    assert_discards(&rt, alloc, &mut Discard)?;
+    assert_discards(&rt, alloc, &mut Discard);
     let mut right: Either<Item<HostRuntime>, Discard> = Either::Right(Discard);
-    let part = assert_discards(&rt, alloc, &mut right)?;
+    let part = assert_discards(&rt, alloc, &mut right);
     assert_same(&rt, matches!(part, Either::Right(_)), true, "a right child");
     let mut none: DoOrDiscard<Item<HostRuntime>> = DoOrDiscard::from(None);
-    let mut part = assert_discards(&rt, alloc, &mut none)?;
-    assert_discards(&rt, alloc, &mut part)?;
+    let mut part = assert_discards(&rt, alloc, &mut none);
+    assert_discards(&rt, alloc, &mut part);
     let mut any: Any = AnyProgress::Discard(Discard);
-    let part = assert_discards(&rt, alloc, &mut any)?;
+    let part = assert_discards(&rt, alloc, &mut any);
     assert_same(
         &rt,
         matches!(part, AnyProgress::Discard(_)),
         true,
         "a discarded child",
     );
-    Ok(())
 }
 
 #[test]
-fn progress_is_taken_once(rt: HostRuntime) -> Result<(), Fail> {
+fn progress_is_taken_once(rt: HostRuntime) {
     let alloc: Global = rt.alloc();
-    let root = Root::new(rt, alloc)?;
-    let item = root.add_child(alloc, "task")?;
+    let root = Root::new(rt, alloc).expect(&rt, "no refusal");
+    let item = root.add_child(alloc, "task").expect(&rt, "no refusal");
     item.set(5);
     let mut done = DoOrDiscard::from(Some(item));
-    let item = done.take().ok_or("the item")?;
+    let item = done.take().expect(&rt, "an item");
     assert_same(&rt, item.step(), Some(5), "step of the item");
     assert_same(&rt, done.take().is_none(), true, "taken twice");
     assert_same(&rt, done.step(), 0, "step");
     assert_same(&rt, done.into_inner().is_none(), true, "nothing in it");
-    Ok(())
 }
 
 /// What the drops of two parts and of their parent send.
@@ -215,25 +227,27 @@ const FAST: &[Sent] = &[
 
 /// The time of a child counts from when it was made.
 #[test]
-fn drops_say_how_fast_it_was(rt: HostRuntime) -> Result<(), Fail> {
+fn drops_say_how_fast_it_was(rt: HostRuntime) {
     let alloc: Global = rt.alloc();
-    let root = Root::new(rt, alloc)?;
-    let item = root.add_child(alloc, "task")?;
-    let clock = make_stopped(alloc)?;
-    let mut timed = ThroughputOnDrop::new(alloc, item, Arc::try_clone(&clock)?);
+    let root = Root::new(rt, alloc).expect(&rt, "no refusal");
+    let item = root.add_child(alloc, "task").expect(&rt, "no refusal");
+    let clock = make_stopped(alloc).expect(&rt, "no refusal");
+    let shared = Arc::try_clone(&clock).expect(&rt, "memory");
+    let mut timed = ThroughputOnDrop::new(alloc, item, shared);
     timed.set(10);
     clock.sleep(1_000_000_000);
-    let part = timed.add_child(alloc, "part")?;
+    let part = timed.add_child(alloc, "part").expect(&rt, "no refusal");
     part.set(3);
-    assert_part(&rt, alloc, &root)?;
-    let idle = timed.add_child_with_id(alloc, "idle", *b"IDLE")?;
+    assert_part(&rt, alloc, &root);
+    let idle = timed
+        .add_child_with_id(alloc, "idle", *b"IDLE")
+        .expect(&rt, "no refusal");
     clock.sleep(1_500_000_000);
     drop(idle);
     drop(part);
     drop(timed);
-    assert_sent(&rt, alloc, &root, FAST)?;
+    assert_sent(&rt, alloc, &root, FAST);
     assert_same(&rt, root.num_tasks(), 0, "tasks");
-    Ok(())
 }
 
 /// What a drop sends half a second after the first moment.
@@ -245,16 +259,16 @@ const IN_NO_TIME: &[Sent] = &[(
 
 /// On a clock that goes back no time has passed.
 #[test]
-fn a_clock_that_goes_back_counts_no_time(rt: HostRuntime) -> Result<(), Fail> {
+fn a_clock_that_goes_back_counts_no_time(rt: HostRuntime) {
     let alloc: Global = rt.alloc();
-    let root = Root::new(rt, alloc)?;
-    let item = root.add_child(alloc, "task")?;
-    let clock = make_stopped(alloc)?;
+    let root = Root::new(rt, alloc).expect(&rt, "no refusal");
+    let item = root.add_child(alloc, "task").expect(&rt, "no refusal");
+    let clock = make_stopped(alloc).expect(&rt, "no refusal");
     clock.sleep(2_000_000_000);
-    let timed = ThroughputOnDrop::new(alloc, item, Arc::try_clone(&clock)?);
+    let shared = Arc::try_clone(&clock).expect(&rt, "memory");
+    let timed = ThroughputOnDrop::new(alloc, item, shared);
     timed.set(1);
     clock.now.store(500_000_000, Ordering::SeqCst);
     drop(timed);
-    assert_sent(&rt, alloc, &root, IN_NO_TIME)?;
-    Ok(())
+    assert_sent(&rt, alloc, &root, IN_NO_TIME);
 }
