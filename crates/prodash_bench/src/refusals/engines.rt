@@ -1,5 +1,5 @@
 //! Frames that an engine draws.
-use crate::scene::WeakScene;
+use crate::refusals::scene::WeakScene;
 use prodash::Refusal;
 use prodash::render::line::draw::{self, Answer, MemoryScreen};
 use prodash::render::line::engine::{Engine, EngineEvent};
