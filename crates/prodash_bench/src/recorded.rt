@@ -116,22 +116,37 @@ fn make_call<C: TreeLedger, S: Ledger>(
 
 /// Returns an event of one of ten kinds.
 fn event(alloc: Global, kind: u64, item: Handle) -> Result<Event, Refusal> {
-    Ok(match kind {
-        0 => Event::AddChild {
-            parent: 0,
-            name: Text::from_str(alloc, "task")?,
-            id: UNKNOWN,
-        },
-        1 => Event::SetName {
-            item,
-            name: Text::from_str(alloc, "job")?,
-        },
-        2 => Event::Message {
-            item,
-            at: 5,
-            level: MessageLevel::Info,
-            text: Text::from_str(alloc, "begins")?,
-        },
+    match kind {
+        0 => add_child(alloc),
+        1 => set_name(alloc, item),
+        2 => message(alloc, item),
+        _ => Ok(event_without_text(kind, item)),
+    }
+}
+
+fn add_child(alloc: Global) -> Result<Event, Refusal> {
+    let (parent, name, id) = (0, Text::from_str(alloc, "task")?, UNKNOWN);
+    Ok(Event::AddChild { parent, name, id })
+}
+
+fn set_name(alloc: Global, item: Handle) -> Result<Event, Refusal> {
+    let name = Text::from_str(alloc, "job")?;
+    Ok(Event::SetName { item, name })
+}
+
+fn message(alloc: Global, item: Handle) -> Result<Event, Refusal> {
+    let (at, level, text) = (5, MessageLevel::Info, Text::from_str(alloc, "begins")?);
+    Ok(Event::Message {
+        item,
+        at,
+        level,
+        text,
+    })
+}
+
+/// Returns an event that needs no memory.
+fn event_without_text(kind: u64, item: Handle) -> Event {
+    match kind {
         3 => Event::IncBy { item, step: 3 },
         4 => Event::Init {
             item,
@@ -143,7 +158,7 @@ fn event(alloc: Global, kind: u64, item: Handle) -> Result<Event, Refusal> {
         7 => Event::CopyMessages,
         8 => Event::CopyNew { previous: None },
         _ => Event::NumTasks,
-    })
+    }
 }
 
 /// Returns whether a journal agrees with these receipts.

@@ -73,14 +73,25 @@ pub(crate) fn add_groups<R: Wait + Clone + Drop>(
     for _ in 0..tasks / 10 {
         let mut parent = root.add_child(alloc, NAME)?;
         parent.init(Some(1000), unit);
-        for _ in 0..9 {
-            let item = parent.add_child(alloc, NAME)?;
-            item.init(Some(1000), unit);
-            items.push(item)?;
-        }
+        add_children(&mut parent, alloc, unit, &mut items)?;
         items.push(parent)?;
     }
     Ok(items)
+}
+
+/// Adds nine children of a task, and appends them.
+fn add_children<R: Wait + Clone + Drop>(
+    parent: &mut Item<R>,
+    alloc: Global,
+    unit: Option<Unit>,
+    items: &mut Vec<Item<R>>,
+) -> Result<(), Refusal> {
+    for _ in 0..9 {
+        let item = parent.add_child(alloc, NAME)?;
+        item.init(Some(1000), unit);
+        items.push(item)?;
+    }
+    Ok(())
 }
 
 /// Sets all tasks to a step.
@@ -182,12 +193,18 @@ fn set_by_handle(alloc: Global, count: u64) -> Result<(), Refusal> {
         draw: draw::Options::default(),
         throughput: false,
     };
-    let mut session = Session::new(alloc, &options)?;
-    let mut screen = OverWrite::new(io::sink());
     let (parent, name, id) = (0, Text::from_str(alloc, NAME)?, UNKNOWN);
-    session.apply(alloc, &Event::AddChild { parent, name, id }, &mut screen);
+    let add = Event::AddChild { parent, name, id };
+    let mut session = Session::new(alloc, &options)?;
+    set_steps(&mut session, alloc, &add, count);
+    Ok(())
+}
+
+/// Adds a task to a session, and sets it.
+fn set_steps(session: &mut Session, alloc: Global, add: &Event, count: u64) {
+    let mut screen = OverWrite::new(io::sink());
+    session.apply(alloc, add, &mut screen);
     for step in 0..count {
         session.apply(alloc, &Event::Set { item: 1, step }, &mut screen);
     }
-    Ok(())
 }
