@@ -12,7 +12,7 @@ use Rattle.prodash_line.specs.declared.render.line.draw.input.Answer.{Answer}
 use Rattle.prodash_line.specs.declared.render.line.draw.input.Options.{Options as DrawOptions}
 use Rattle.prodash_line.specs.Renderer.{Renderer, Seen, Accepts, RunsOutOfMemory, Refuses, Breaks, Renders, new_renderer}
 use Rattle.prodash_line.specs.Screens.{ScreenState}
-use Rattle.prodash_terminal.specs.declared.environment.Environment.{Environment}
+use Rattle.prodash_line.specs.declared.render.line.terminal.Environment.{Environment}
 use Rattle.prodash.specs.declared.render.line.engine.options.Options.{Options}
 use Rattle.prodash.specs.declared.render.line.engine.event.EngineEvent.{EngineEvent}
 use Rattle.prodash.specs.declared.render.line.engine.event.EngineEvent.TheVariants.{Tick, Resize, Quit}

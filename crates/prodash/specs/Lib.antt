@@ -36,6 +36,8 @@ pub use Rattle.prodash_line.specs.Writers
 pub use Rattle.prodash_line.specs.Shows
 pub use Rattle.prodash_line.specs.Fits
 pub use Rattle.prodash_line.specs.Renderings
+pub use Rattle.prodash_line.specs.Dimensions
+pub use Rattle.prodash_line.specs.Environments
 pub use Rattle.prodash_core.specs.Tables
 pub use Rattle.prodash_core.specs.Trees
 pub use Rattle.prodash_core.specs.Refusals
@@ -45,5 +47,3 @@ pub use Rattle.prodash_core.specs.Runs
 pub use Rattle.prodash_core.specs.Dashboard
 pub use Rattle.prodash_core.specs.Prefixes
 pub use Rattle.prodash_core.specs.Traits
-pub use Rattle.prodash_terminal.specs.Dimensions
-pub use Rattle.prodash_terminal.specs.Environments

@@ -23,4 +23,6 @@ pub mod Fits
 pub mod Renderings
 pub mod ErasedPages
 pub mod ControlCharacters
+pub mod Dimensions
+pub mod Environments
 pub mod plumbing

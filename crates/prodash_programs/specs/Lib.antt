@@ -1,3 +1,3 @@
 pub mod Faults
-pub use Rattle.prodash_terminal.specs.Dimensions
-pub use Rattle.prodash_terminal.specs.Environments
+pub use Rattle.prodash_line.specs.Dimensions
+pub use Rattle.prodash_line.specs.Environments

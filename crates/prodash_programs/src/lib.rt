@@ -8,4 +8,4 @@ mod output;
 pub use command_line::{arguments, number};
 pub use fault::Fault;
 pub use output::{report, write_all};
-pub use prodash_terminal::{Environment, dimension};
+pub use prodash_line::render::line::terminal::{Environment, dimension};

@@ -1,3 +1,4 @@
 mod byte_buffer;
 pub mod draw;
 pub mod page;
+pub mod terminal;

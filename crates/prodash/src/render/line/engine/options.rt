@@ -4,7 +4,7 @@ mod values;
 
 use crate::progress::key::Level;
 pub use detection::StandardStreams;
-pub use prodash_terminal::Environment;
+pub use prodash_line::render::line::terminal::Environment;
 
 /// Options for a renderer with threads of its own.
 ///

@@ -1,6 +1,6 @@
 //! The options for a stream, by what the system and the environment say of it.
 ghost use Rattle.std.specs.Prelude.{◌≡◌, Bool};
-ghost use Rattle.prodash_terminal.specs.declared.environment.Environment.{Environment as Said};
+ghost use Rattle.prodash_line.specs.declared.render.line.terminal.Environment.{Environment as Said};
 ghost use Rattle.prodash.specs.Engines.{terminal_options};
 
 use crate::render::line::engine::options::{Environment, Options, StreamKind};

@@ -1,4 +1,9 @@
-use crate::words::dimension;
+//! What the environment of a program says of the terminal, and the words that name its size.
+ghost use Rattle.std.specs.Prelude.{SomeIff, ℕ, List};
+ghost use Rattle.std.specs.Str.Parse.{digits_value};
+ghost use Rattle.prodash_line.specs.Dimensions.{IsDimension};
+ghost use Rattle.prodash_line.specs.Environments.{IsSaidBy};
+
 use std::env::FillError;
 use std::rt::Env;
 use std::str;
@@ -18,9 +23,6 @@ pub struct Environment {
 }
 
 impl Environment {
-    ghost use Rattle.std.specs.Prelude.{ℕ, List};
-    ghost use Rattle.prodash_terminal.specs.Environments.{IsSaidBy};
-
     /// Returns what the values of `NO_COLOR`, `COLUMNS` and `LINES` say, each of which is empty if
     /// it isn't set. `NO_COLOR` disables colours unless it is empty. A size that isn't written in
     /// decimal digits alone, or isn't from 1 to 65535, is not known.
@@ -48,6 +50,16 @@ impl Environment {
             variable(rt, "LINES", &mut lines),
         )
     }
+}
+
+/// Parses a number of columns or rows: decimal digits alone, from 1 to 65535.
+pub fn dimension(word: &str) -> Option<u16>
+    ensures { SomeIff result (IsDimension word.now) (digits_value 10 word.now) }
+{
+    if word.starts_with('+') {
+        return None;
+    }
+    word.parse::<u16>().ok().filter(|n| *n > 0)
 }
 
 /// Returns the value of a variable, or an empty text if it isn't set. A value that doesn't fit in
