@@ -3,13 +3,10 @@ use prodash_base::Refusal;
 use prodash_base::messages::MessageCopyState;
 use prodash_core::tree::Reply;
 pub(crate) use prodash_fixtures::{
-    FakeScreen, MESSAGE_FRAME, Progress, ShortMessage, ShortRow, TASK_FRAME, TERMINAL, clones,
-    key_at, message, messages, row, rows,
+    FakeScreen, ShortMessage, ShortRow, TERMINAL, clones, key_at, messages, row, rows,
 };
 use std::alloc::Global;
-use std::collections::HashMap;
 use std::fmt::Debug;
-use std::hash::Hash;
 use std::process::Abort;
 
 /// Asserts that both are equal; `of` names the row of a table. A call is proved in a tenth of the
@@ -29,33 +26,6 @@ pub(crate) fn assert_distinct<T: PartialEq>(rt: &impl Abort, values: &[T], copie
         for (j, copy) in copies.iter().enumerate() {
             assert_same(rt, value == copy, i == j, (i, j));
         }
-    }
-}
-
-/// The values ascend, and no two are equal.
-pub(crate) fn assert_ascending<T: Ord>(rt: &impl Abort, values: &[T]) {
-    for (i, value) in values.iter().enumerate() {
-        for (j, other) in values.iter().enumerate() {
-            let got = (value.cmp(other), value.partial_cmp(other), value == other);
-            let want = (i.cmp(&j), Some(i.cmp(&j)), i == j);
-            assert_same(rt, got, want, (i, j));
-        }
-    }
-}
-
-/// A map from the values to their places finds each at its own.
-pub(crate) fn assert_hashed<K: Hash + Eq + Copy + Drop>(
-    rt: &impl Abort,
-    alloc: Global,
-    values: &[K],
-) {
-    let mut places = HashMap::new(alloc);
-    for (n, value) in values.iter().enumerate() {
-        let before: Result<_, _> = places.insert(*value, n);
-        assert_same(rt, before.expect(rt, "memory"), None, n);
-    }
-    for (n, value) in values.iter().enumerate() {
-        assert_same(rt, places.get(value).copied(), Some(n), n);
     }
 }
 
