@@ -15,7 +15,7 @@ use std::alloc::Global;
 use std::io::Write;
 use std::sync::atomic::{AtomicBool, Ordering};
 use std::sync::{Arc, Wait};
-use std::thread::{Builder, Threads};
+use std::thread::{self, Builder, Threads};
 
 /// The sizes of the stacks of the threads that a renderer starts, in bytes: 2 MiB each by default.
 #[derive(Clone, Copy, Debug)]
@@ -123,6 +123,19 @@ struct Shared<R: Wait + Drop, K: Clock + Drop> {
 }
 
 impl<R: Wait + Clone + Drop, K: Clock + Drop> Shared<R, K> {
+    fn new(rt: R, alloc: Global, clock: Arc<K>, options: &Options) -> Result<Shared<R, K>, Refusal>
+        ensures { IsOkUnless result Refusal.Memory }
+    {
+        let delay = options.initial_delay.unwrap_or(0);
+        Ok(Shared {
+            rt,
+            mailbox: Arc::new(alloc, Mailbox::new())?,
+            clock,
+            shown: Arc::new(alloc, AtomicBool::new(delay == 0))?,
+            frame: options.nanoseconds_per_frame,
+        })
+    }
+
     fn share(&self) -> Result<Shared<R, K>, Refusal>
         ensures { IsOkUnless result Refusal.Memory }
     {
@@ -136,7 +149,7 @@ impl<R: Wait + Clone + Drop, K: Clock + Drop> Shared<R, K> {
     }
 }
 
-/// Starts the threads of a renderer.
+/// Starts the threads of a renderer. They wait until all of them are started.
 fn start<
     R: Wait + Threads + Clone + Drop + Send + Sync + 'static,
     S: Screen + Drop + Send + 'static,
@@ -153,52 +166,90 @@ fn start<
 ) -> Result<JoinHandle<R>, Refusal>
     ensures { IfErr result RefusesThread }
 {
-    let delay = options.initial_delay.unwrap_or(0);
-    let shared = Shared {
-        rt,
-        mailbox: Arc::new(alloc, Mailbox::new())?,
-        clock,
-        shown: Arc::new(alloc, AtomicBool::new(delay == 0))?,
-        frame: options.nanoseconds_per_frame,
-    };
-    let for_loop = shared.share()?;
-    let for_ticker = shared.share()?;
-    let for_delay = shared.share()?;
-    let event_loop = Builder::new()
-        .stack_size(stacks.event_loop)
-        .spawn(&shared.rt, move || run(for_loop, engine))
-        .or(Err(Refusal::NoThread))?;
-    let ticker = Builder::new()
-        .stack_size(stacks.ticker)
-        .spawn(&shared.rt, move || tick(for_ticker));
-    let Ok(ticker) = ticker else {
+    let shared = Shared::new(rt, alloc, clock, &options)?;
+    let event_loop = start_event_loop(&shared, engine, stacks.event_loop)?;
+    if let Err(refusal) = start_timers(&shared, options.initial_delay, stacks) {
         shared.mailbox.cancel(&shared.rt);
         event_loop.join(&shared.rt);
-        return Err(Refusal::NoThread);
-    };
-    if delay > 0 && !starts_delay(&shared.rt, for_delay, delay, stacks.delay) {
-        shared.mailbox.cancel(&shared.rt);
-        event_loop.join(&shared.rt);
-        ticker.join(&shared.rt);
-        return Err(Refusal::NoThread);
+        return Err(refusal);
     }
     shared.mailbox.begin(&shared.rt);
     let Shared { rt, mailbox, .. } = shared;
     Ok(JoinHandle::new(rt, mailbox, event_loop))
 }
 
-/// Starts the thread that shows the rows after a delay. Returns whether it is started.
-fn starts_delay<
-    R: Wait + Threads + Drop + Send + Sync + 'static,
+/// Starts the thread that draws.
+fn start_event_loop<
+    R: Wait + Threads + Clone + Drop + Send + Sync + 'static,
+    S: Screen + Drop + Send + 'static,
+    T: Root + Drop + Send + 'static,
+    W: WeakRoot<Root = T> + Drop + Send + 'static,
     K: Clock + Drop + Send + Sync + 'static,
->(rt: &R, shared: Shared<R, K>, delay: u64, stack: usize) -> bool {
+>(
+    shared: &Shared<R, K>,
+    engine: Engine<S, W>,
+    stack: usize,
+) -> Result<thread::JoinHandle<()>, Refusal>
+    ensures { IfErr result RefusesThread }
+{
+    let for_loop = shared.share()?;
     Builder::new()
         .stack_size(stack)
-        .spawn(rt, move || {
-            shared.clock.sleep(delay);
-            shared.shown.store(true, Ordering::SeqCst);
-        })
-        .is_ok()
+        .spawn(&shared.rt, move || run(for_loop, engine))
+        .or(Err(Refusal::NoThread))
+}
+
+/// Starts the ticker, and the thread that shows the rows after a delay if there is one. If the
+/// second can't be started, the first has ended.
+fn start_timers<
+    R: Wait + Threads + Clone + Drop + Send + Sync + 'static,
+    K: Clock + Drop + Send + Sync + 'static,
+>(shared: &Shared<R, K>, delay: Option<u64>, stacks: StackSizes) -> Result<(), Refusal>
+    ensures { IfErr result RefusesThread }
+{
+    let ticker = start_ticker(shared, stacks.ticker)?;
+    let delay = delay.unwrap_or(0);
+    if delay == 0 {
+        return Ok(());
+    }
+    let started = start_delay(shared, delay, stacks.delay);
+    if started.is_err() {
+        shared.mailbox.cancel(&shared.rt);
+        ticker.join(&shared.rt);
+    }
+    started
+}
+
+/// Starts the thread that requests frames.
+fn start_ticker<
+    R: Wait + Threads + Clone + Drop + Send + Sync + 'static,
+    K: Clock + Drop + Send + Sync + 'static,
+>(shared: &Shared<R, K>, stack: usize) -> Result<thread::JoinHandle<()>, Refusal>
+    ensures { IfErr result RefusesThread }
+{
+    let for_ticker = shared.share()?;
+    Builder::new()
+        .stack_size(stack)
+        .spawn(&shared.rt, move || tick(for_ticker))
+        .or(Err(Refusal::NoThread))
+}
+
+/// Starts the thread that shows the rows after a delay.
+fn start_delay<
+    R: Wait + Threads + Clone + Drop + Send + Sync + 'static,
+    K: Clock + Drop + Send + Sync + 'static,
+>(shared: &Shared<R, K>, delay: u64, stack: usize) -> Result<(), Refusal>
+    ensures { IfErr result RefusesThread }
+{
+    let for_delay = shared.share()?;
+    let started = Builder::new().stack_size(stack).spawn(&shared.rt, move || {
+        for_delay.clock.sleep(delay);
+        for_delay.shown.store(true, Ordering::SeqCst);
+    });
+    match started {
+        Ok(_) => Ok(()),
+        Err(_) => Err(Refusal::NoThread),
+    }
 }
 
 /// The event loop: draws a frame for each request, until the renderer has ended. A size, a last
