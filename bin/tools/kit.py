@@ -30,11 +30,11 @@ def crates(rt, top, names=()):
     return [it for it in found if not names or it.name in names]
 
 
-def checked(rt, crate, texts, flags, kept):
+def checked(rt, crate, texts, flags, kept, counted):
     """Checks a copy of a crate with these texts by their paths, over what was kept in a folder.
 
-    Without a folder nothing is kept. Returns the run, as the function of this name of `rt` does.
-    The texts may be of new files.
+    Without a folder nothing is kept. Returns the exit status and the output. The texts may be of
+    new files. `counted` is called with the number of the process, and entered while that runs.
     """
     lib = rt.rtlib
     with tempfile.TemporaryDirectory(prefix="rt-edit-") as room:
@@ -48,4 +48,7 @@ def checked(rt, crate, texts, flags, kept):
         words = [lib.RATTLE, "check", *crate.words(flags, keeps=False)]
         words += ["--incremental", kept] if kept else []
         how = {"stdin": subprocess.DEVNULL, "stdout": subprocess.PIPE, "stderr": subprocess.STDOUT}
-        return subprocess.run([*lib.guarded(), *words], cwd=room, errors="replace", **how)
+        ran = subprocess.Popen([*lib.guarded(), *words], cwd=room, errors="replace", **how)
+        with ran, counted(ran.pid):
+            text, _ = ran.communicate()
+        return ran.returncode, text

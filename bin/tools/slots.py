@@ -4,6 +4,8 @@ import itertools
 import threading
 import time
 
+from turns import Turns
+
 # The bytes that a check is likely to take, and the seconds in which it takes them.
 CHECK_BYTES, GROWTH = 2_500_000_000, 20
 
@@ -18,6 +20,7 @@ class Slots:
 
     def __init__(self, rt, most, kept_free=0):
         self.rt, self.most, self.kept_free = rt, most, kept_free
+        self.turns = Turns(rt.processors())
         # The edits of the crate that has the most.
         self.largest = 0
         # The edits of the crate of each check that runs, and when it began.

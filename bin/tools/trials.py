@@ -1,4 +1,5 @@
 """How the edits of a crate are tried, in few checks that tell of each whether it is refused."""
+import functools
 import os
 import shutil
 import tempfile
@@ -79,7 +80,8 @@ class Trial:
         is_short = kept is None or len(flags) == 2
         jobs = 1 if is_short else max(2, self.rt.processors() * 3 // 4)
         words = ["--jobs", str(jobs), *flags]
-        return Verdict(kit.checked(self.rt, self.crate, texts, words, kept))
+        counted = functools.partial(self.slots.turns.of, edits=len(self.left))
+        return Verdict(*kit.checked(self.rt, self.crate, texts, words, kept, counted))
 
     def check_over_copy(self, texts, *flags):
         """Checks the crate with these texts, over its own copy of the kept work if there is any."""

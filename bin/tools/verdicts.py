@@ -13,8 +13,8 @@ LOST = re.compile(r"has no field|is not in scope|has no `|is no name")
 class Verdict:
     """What one check of a crate said."""
 
-    def __init__(self, ran):
-        self.status, self.text = ran.returncode, ran.stdout
+    def __init__(self, status, text):
+        self.status, self.text = status, text
         self.lines = self.text.rstrip("\n").split("\n")
         self.functions = dict(re.findall(r"(?m)^fn (\S+): (.*)$", self.text))
 
