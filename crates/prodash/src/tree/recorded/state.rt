@@ -2,6 +2,7 @@
 ghost use Rattle.std.specs.Prelude.{◌≡◌, ◌≢◌, ◌++◌, ◌∷◌, [], Ok, Err, None, false, IfOk, IfErr, OnErr, IfSome, IfNone, length, IsOkUnless};
 ghost use Rattle.prodash_core.specs.Trees.{new_tree, is_frame, Plays};
 ghost use Rattle.prodash_core.specs.Refusals.{refusal_of};
+ghost use Rattle.prodash_core.specs.Replies.{owns_memory};
 ghost use Rattle.prodash.specs.Journals.{Replays};
 
 use crate::tree::root::Options;
@@ -152,7 +153,16 @@ fn applied(
     ensures err { OnErr result (tree.new ≡ tree.old) }
     ensures reason { IsOkUnless result Refusal.Memory }
 {
-    let reply = tree.apply(alloc, event)?;
+    copied(tree.apply(alloc, event)?)
+}
+
+/// Returns a reply and two copies of it. A reply that owns no memory can always be copied.
+fn copied(reply: Reply) -> Result<(Reply, Reply, Reply), Refusal>
+    ensures reply { IfOk result (λ r. r.0 ≡ reply) }
+    ensures copies { IfOk result (λ r. (r.1 ≡ reply) × (r.2 ≡ reply)) }
+    ensures owned { OnErr result (owns_memory reply ≢ false) }
+    ensures reason { IsOkUnless result Refusal.Memory }
+{
     let first = reply.clone()?;
     let second = reply.clone()?;
     Ok((reply, first, second))
