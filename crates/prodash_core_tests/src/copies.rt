@@ -49,17 +49,22 @@ fn copies_are_apart(rt: HostRuntime) {
     let mut session = new_session(alloc).expect(&rt, "no refusal");
     assert_session(&rt, alloc, &mut session, BEFORE);
     let mut copy = copy_of(alloc, &session).expect(&rt, "no refusal");
-    assert_apart(&rt, alloc, &mut session, &mut copy)
+    assert_apart(&rt, alloc, &mut session, &mut copy);
+    drop(copy);
+    drop(session);
 }
 
 fn copy_of_new_session(rt: &impl Abort, alloc: Global) -> Session {
     let session = new_session(alloc).expect(rt, "no refusal");
-    copy_of(alloc, &session).expect(rt, "no refusal")
+    let copy = copy_of(alloc, &session).expect(rt, "no refusal");
+    drop(session);
+    copy
 }
 
 #[test]
 fn copies_of_new_sessions_take_messages(rt: HostRuntime) {
     let alloc = rt.alloc();
     let mut copy = copy_of_new_session(&rt, alloc);
-    assert_session(&rt, alloc, &mut copy, NEW)
+    assert_session(&rt, alloc, &mut copy, NEW);
+    drop(copy);
 }

@@ -155,7 +155,8 @@ fn assert_new_session(
         rt,
         "no refusal",
     );
-    assert_session(rt, alloc, &mut session, transcript)
+    assert_session(rt, alloc, &mut session, transcript);
+    drop(session);
 }
 
 #[test]
@@ -174,7 +175,8 @@ fn frames_show_throughput(rt: HostRuntime) {
         ..options(20)
     };
     let mut session = Session::new(alloc, &options).expect(&rt, "no refusal");
-    assert_session(&rt, alloc, &mut session, MEASURED)
+    assert_session(&rt, alloc, &mut session, MEASURED);
+    drop(session);
 }
 
 /// Splits what a line has after its event into the reply and the frame, which may be empty.
@@ -235,7 +237,10 @@ fn assert_run(rt: &impl Abort, alloc: Global, options: &SessionOptions, transcri
     let events = events_of(rt, alloc, transcript);
     let mut screen = MemoryScreen::new(alloc, 0).expect(rt, "memory");
     let replies = run(alloc, options, &events, &mut screen).expect(rt, "no refusal");
-    assert_ran(rt, alloc, transcript, &replies, screen.bytes())
+    assert_ran(rt, alloc, transcript, &replies, screen.bytes());
+    drop(replies);
+    drop(screen);
+    drop(events);
 }
 
 #[test]

@@ -111,6 +111,7 @@ fn events_change_a_task(rt: HostRuntime) {
     for transcript in [WITHOUT_PROGRESS, WITH_PROGRESS, WITHOUT_ROOT] {
         assert_replies(&rt, rt.alloc(), &mut tree, transcript);
     }
+    drop(tree);
 }
 
 const DROPPED: &str = "child a -> Made(1)
@@ -155,6 +156,7 @@ fn events_need_an_item(rt: HostRuntime) {
     for item in 0..3 {
         assert_all_gone(&rt, alloc, &mut tree, item);
     }
+    drop(tree);
 }
 
 const SIXTH_LEVEL: &str = r#"add 0 a -> Made(1)
@@ -174,12 +176,14 @@ fn assert_last_key(rt: &impl Abort, alloc: Global, tree: &TreeState, want: Key) 
     let rows = tree.rows(alloc).expect(rt, "memory");
     let last = rows.as_slice().last().expect(rt, "a row");
     assert_same(rt, last.key, want, "key");
+    drop(rows);
 }
 
 #[test]
 fn a_child_of_the_sixth_level_takes_the_place_of_its_parent(rt: HostRuntime) {
     let tree = grown(&rt, rt.alloc(), SIXTH_LEVEL);
-    assert_last_key(&rt, rt.alloc(), &tree, key_at(&[0, 0, 0, 0, 0, 0]))
+    assert_last_key(&rt, rt.alloc(), &tree, key_at(&[0, 0, 0, 0, 0, 0]));
+    drop(tree);
 }
 
 const ORPHAN: &str = "add 0 a -> Made(1)
@@ -192,6 +196,7 @@ fn assert_first(rt: &impl Abort, alloc: Global, transcript: &str, want: Option<A
     let tree = grown(rt, alloc, transcript);
     let got = adjacency_of_first(rt, alloc, &tree);
     assert_same(rt, got, want, transcript);
+    drop(tree);
 }
 
 #[test]
@@ -220,7 +225,8 @@ tasks? -> Count(5)"#;
 #[test]
 fn a_child_of_the_sixth_level_loses_its_entry_with_its_parent(rt: HostRuntime) {
     let mut tree = grown(&rt, rt.alloc(), SIXTH_LEVEL);
-    assert_replies(&rt, rt.alloc(), &mut tree, WITHOUT_ENTRY)
+    assert_replies(&rt, rt.alloc(), &mut tree, WITHOUT_ENTRY);
+    drop(tree);
 }
 
 /// What comes after the first child of the root and 65535 others.
@@ -242,6 +248,7 @@ fn assert_last_row(rt: &impl Abort, alloc: Global, tree: &TreeState) {
     assert_same(rt, row.name.as_str(), "Z", "name");
     let bound = row.progress.as_ref().and_then(|value| value.done_at);
     assert_same(rt, bound, Some(1), "bound");
+    drop(rows);
 }
 
 /// Asserts that the item that this event makes gets this handle.
@@ -269,7 +276,8 @@ fn assert_children(rt: &impl Abort, alloc: Global, tree: &mut TreeState) {
 fn the_child_after_65536_has_a_place_of_its_own(rt: HostRuntime) {
     let alloc = rt.alloc();
     let mut tree = grown(&rt, alloc, "add 0 A -> Made(1)");
-    assert_children(&rt, alloc, &mut tree)
+    assert_children(&rt, alloc, &mut tree);
+    drop(tree);
 }
 
 const HALTED: State = State::Halted("pause", None);
@@ -301,6 +309,7 @@ fn a_table_changes_the_task_of_a_key(rt: HostRuntime) {
     assert_same(&rt, table.max(key), Some(7), "bound");
     assert_same(&rt, table.len(), 1, "tasks");
     assert_same(&rt, table.is_empty(), false, "empty");
+    drop(table);
 }
 
 #[test]
@@ -316,4 +325,5 @@ fn a_table_has_no_task_at_another_key(rt: HostRuntime) {
     assert_same(&rt, table.id(other), UNKNOWN, "identifier");
     assert_same(&rt, table.max(other), None, "bound");
     assert_same(&rt, table.len(), 1, "tasks");
+    drop(table);
 }

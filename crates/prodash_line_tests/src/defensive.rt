@@ -156,7 +156,9 @@ const SIZES: &[(Ask, (usize, usize))] = &[
 fn frame_size(rt: &impl Abort, alloc: Global, state: &mut State, ask: Ask) -> usize {
     let mut screen = MemoryScreen::new(alloc, 200).expect(rt, "memory");
     draw(rt, alloc, &mut screen, state, ask).expect(rt, "no refusal");
-    screen.bytes().len()
+    let size = screen.bytes().len();
+    drop(screen);
+    size
 }
 
 #[test]
@@ -202,4 +204,6 @@ fn defensive_frames_have_fewer_bytes_where_lines_shrink(rt: HostRuntime) {
         let other_size = frame_size(&rt, alloc, &mut other, *ask);
         assert_same(&rt, (size, other_size), *sizes, n);
     }
+    drop(other);
+    drop(defensive);
 }

@@ -170,6 +170,8 @@ pub(crate) fn assert_draws_with(
             assert_frame(rt, alloc, &mut state, *ask, *want);
             assert_slow_frame(rt, alloc, &mut other, *ask, *want);
         }
+        drop(other);
+        drop(state);
     }
 }
 
@@ -194,6 +196,7 @@ fn assert_frame(
     assert_same(rt, answer, answer_to(ask, want), want);
     assert_same(rt, screen.bytes(), want.unwrap_or("").as_bytes(), want);
     assert!(rt; !screen.is_broken());
+    drop(screen);
 }
 
 fn assert_slow_frame(
@@ -209,4 +212,5 @@ fn assert_slow_frame(
     assert_same(rt, answer, answer_to(ask, want), want);
     assert_same(rt, screen.bytes.as_slice(), bytes, want);
     assert_same(rt, screen.flushed, bytes.len(), want);
+    drop(screen);
 }

@@ -140,6 +140,8 @@ fn says_what_it_saw_and_why_it_ended(rt: HostRuntime) {
         let want = (Some(MessageCopyState::new(*seen)), *ended);
         assert_same(&rt, (state.seen(), state.ended()), want, *seen);
     }
+    drop(state);
+    drop(screen);
 }
 
 /// Inputs, and how many rows are spare after each: those of the tick before.
@@ -160,5 +162,9 @@ fn rows_and_messages_that_it_needs_no_longer_are_spare(rt: HostRuntime) {
         let (rows, messages) = state.take_spare(rt.alloc());
         let got = (rows.as_slice().len(), messages.as_slice().len());
         assert_same(&rt, got, *counts, "spare rows and messages");
+        drop(messages);
+        drop(rows);
     }
+    drop(state);
+    drop(screen);
 }

@@ -144,6 +144,7 @@ fn assert_row(rt: &impl Abort, alloc: Global, row: &Row) {
     let writer = screen.into_inner();
     assert_same(rt, writer.bytes.as_slice(), bytes.as_bytes(), outcomes);
     assert_same(rt, writer.calls, calls, outcomes);
+    drop(writer);
 }
 
 #[test]
@@ -158,6 +159,7 @@ fn over_write_may_take_no_bytes_of_none(rt: HostRuntime) {
     let mut screen = OverWrite::new(FakeWriter::new(rt.alloc(), &[Takes(0)], true));
     assert_same(&rt, screen.put(b""), Ok(0), "put");
     assert_same(&rt, screen.is_broken(), false, "broken");
+    drop(screen);
 }
 
 const TASK: Task = ("task", Some((3, Some(10))));
@@ -177,6 +179,7 @@ fn assert_frames<S: Screen>(rt: &impl Abort, alloc: Global, screen: &mut S) {
         let got = draw(rt, alloc, screen, &mut state, *ask);
         assert_same(rt, got, Ok(*want), "frame");
     }
+    drop(state);
 }
 
 #[test]
@@ -186,13 +189,17 @@ fn over_write_has_the_bytes_of_a_memory_screen(rt: HostRuntime) {
     assert_frames(&rt, alloc, &mut memory);
     let mut list = OverWrite::new(Vec::new(alloc));
     assert_frames(&rt, alloc, &mut list);
-    assert_same(&rt, list.into_inner().as_slice(), memory.bytes(), "list");
+    let list = list.into_inner();
+    assert_same(&rt, list.as_slice(), memory.bytes(), "list");
+    drop(list);
     let mut slow = OverWrite::new(FakeWriter::new(alloc, &[Takes(1)], true));
     assert_frames(&rt, alloc, &mut slow);
     let slow = slow.into_inner();
     assert_same(&rt, slow.bytes.as_slice(), memory.bytes(), "slow");
     let calls = (memory.bytes().len(), FRAMES.len());
     assert_same(&rt, slow.calls, calls, "calls");
+    drop(slow);
+    drop(memory);
 }
 
 #[test]
@@ -228,6 +235,8 @@ fn long_frame_is_flushed_once(rt: HostRuntime) {
     let writer = screen.into_inner();
     assert_same(&rt, writer.bytes.len(), LONG_FRAME, "bytes");
     assert_same(&rt, writer.calls, (2, 1), "calls");
+    drop(writer);
+    drop(state);
 }
 
 const BREAKS: &[Outcome] = &[Takes(5), Fails(ErrorKind::Interrupted)];
@@ -246,4 +255,6 @@ fn renderer_ends_once_its_writer_fails(rt: HostRuntime) {
     let writer = screen.into_inner();
     assert_same(&rt, writer.bytes.as_slice(), b" task".as_slice(), "bytes");
     assert_same(&rt, writer.calls, (2, 0), "calls");
+    drop(writer);
+    drop(state);
 }

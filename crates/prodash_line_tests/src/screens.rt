@@ -42,6 +42,7 @@ fn assert_ends(rt: &impl Abort, alloc: Global, screen: &mut FakeScreen, first: A
         assert_same(rt, screen.bytes.as_slice(), want.as_bytes(), want);
     }
     assert_same(rt, state.ended(), Some(Refusal::Broken), want);
+    drop(state);
 }
 
 /// A frame without bytes needs no screen.
@@ -50,6 +51,7 @@ fn assert_needs_no_screen(rt: &impl Abort, alloc: Global, screen: &mut FakeScree
     let answer = draw(rt, alloc, screen, &mut state, Show(&[]));
     assert_same(rt, answer, Ok(Answer::Drawn), "a frame without bytes");
     assert_same(rt, state.ended(), None, "a frame without bytes");
+    drop(state);
 }
 
 #[test]
@@ -58,6 +60,7 @@ fn renderer_ends_once_its_screen_is_broken(rt: HostRuntime) {
         let mut screen = FakeScreen::new(rt.alloc(), 200, *left, *flushes).expect(&rt, "memory");
         assert_ends(&rt, rt.alloc(), &mut screen, *first, want);
         assert_needs_no_screen(&rt, rt.alloc(), &mut screen);
+        drop(screen);
     }
 }
 
@@ -113,4 +116,6 @@ fn frames_go_out_in_pieces(rt: HostRuntime) {
     let answer = draw::all(rt.alloc(), &mut screen, &mut state, input);
     assert_same(&rt, answer, Ok(Answer::Drawn), "a long frame");
     assert_same(&rt, screen.sizes, [4096, 4096, 1808, 0], "a long frame");
+    drop(state);
+    drop(screen);
 }

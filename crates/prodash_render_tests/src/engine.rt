@@ -249,6 +249,7 @@ where
         assert_same(rt, taken.get(before..), Some(bytes.as_bytes()), *ask);
         before = taken.len();
     }
+    drop(engine);
 }
 
 fn assert_steps(rt: &impl Abort, alloc: Global, room: usize, steps: &[Step]) {
@@ -295,6 +296,7 @@ where
     let mut bytes = Vec::new(alloc);
     let written = engine.screen().bytes.as_slice();
     bytes.extend_from_slice(written).expect(rt, "memory");
+    drop(engine);
     bytes
 }
 

@@ -95,6 +95,8 @@ fn lines_of_steps(rt: HostRuntime) {
     work.init(Some(10), Some(unit::label("items")));
     assert_line(&rt, alloc, &work, "main::work → 3/10 items");
     assert_logged(&rt, &bench, "INFO main::work → 3\n");
+    drop(work);
+    drop(bench);
 }
 
 /// Messages that are sent at once.
@@ -115,6 +117,8 @@ fn messages_at_levels(rt: HostRuntime) {
     }
     let want = "ERROR 𐄂main::work → no\nINFO ℹmain::work → so\nINFO ✓main::work → yes\n";
     assert_logged(&rt, &bench, want);
+    drop(work);
+    drop(bench);
 }
 
 /// A joined name, its second part, and what it becomes if it is set to `x`.
@@ -146,6 +150,7 @@ fn names(rt: HostRuntime) {
         assert_name(&rt, alloc, &bench.log, Some("x"));
         assert_line(&rt, alloc, &bench.log, line);
         assert_logged(&rt, &bench, "");
+        drop(bench);
     }
 }
 
@@ -181,6 +186,9 @@ fn one_line_for_each_turn(rt: HostRuntime) {
     let want = "INFO main → 3\nINFO main::work → 7\n";
     let again = lines.starts_with(want.as_bytes());
     assert_same(&rt, again, true, lines.as_slice());
+    drop(lines);
+    drop(work);
+    drop(bench);
 }
 
 /// Deeper than the greatest level no step is logged, and the line of the others stays due.
@@ -193,6 +201,9 @@ fn levels_that_are_logged(rt: HostRuntime) {
     part.set(1);
     work.set(2);
     assert_logged(&rt, &bench, "INFO main::work → 2\n");
+    drop(part);
+    drop(work);
+    drop(bench);
 }
 
 /// Reports progress on a child, by the traits alone.
@@ -206,7 +217,9 @@ where
     work.fail(alloc, 0, "no").expect(rt, "no refusal");
     work.show_throughput(alloc, 0, 2_500_000_000)
         .expect(rt, "no refusal");
-    work.step()
+    let step = work.step();
+    drop(work);
+    step
 }
 
 #[test]
@@ -217,6 +230,7 @@ fn logs_are_progress(rt: HostRuntime) {
     let want = "INFO main::work → 1 / 10\nERROR 𐄂main::work → no\n\
 INFO ℹmain::work → done 1 items in 2.50s (0 items/s)\n";
     assert_logged(&rt, &bench, want);
+    drop(bench);
 }
 
 #[test]
@@ -230,6 +244,8 @@ fn counters_and_bounds(rt: HostRuntime) {
     assert_same(&rt, bench.log.unit(), None, "unit");
     assert_line(&rt, rt.alloc(), &bench.log, "main → 8 / 9");
     assert_logged(&rt, &bench, "");
+    drop(counter);
+    drop(bench);
 }
 
 /// Progress of any kind, whose logs are collected.

@@ -30,8 +30,17 @@ struct Drawn {
 /// Applies all events to two sessions.
 pub(crate) fn run(alloc: Global, calls: &mut Calls) -> Result<(), Fault> {
     let mut first = new(alloc, calls)?;
+    let applied = apply_to_another(alloc, &mut first, calls);
+    drop(first);
+    applied
+}
+
+/// Makes a second session, and applies all events to both.
+fn apply_to_another(alloc: Global, first: &mut Drawn, calls: &mut Calls) -> Result<(), Fault> {
     let mut second = new(alloc, calls)?;
-    apply_all(alloc, &mut first, &mut second, calls)
+    let applied = apply_all(alloc, first, &mut second, calls);
+    drop(second);
+    applied
 }
 
 /// Applies all events to two sessions, and after each goes on with a copy of the first.
@@ -42,7 +51,9 @@ fn apply_all(
     calls: &mut Calls,
 ) -> Result<(), Fault> {
     for place in 0..EVENTS {
-        apply_to_both(alloc, &event(alloc, place)?, first, second, calls);
+        let event = event(alloc, place)?;
+        apply_to_both(alloc, &event, first, second, calls);
+        drop(event);
         replace(alloc, &mut first.session, calls)?;
     }
     calls.expect(!first.screen.bytes().is_empty());
@@ -62,6 +73,8 @@ fn apply_to_both(
     let other = apply(alloc, second, event, calls);
     calls.expect(reply == other && !is_refused(&reply));
     calls.expect(first.screen.bytes() == second.screen.bytes());
+    drop(other);
+    drop(reply);
 }
 
 /// Makes a session that keeps two messages, shows times, and measures throughput.
@@ -101,6 +114,7 @@ fn apply(alloc: Global, drawn: &mut Drawn, event: &Event, calls: &mut Calls) -> 
     let is_unwritten = drawn.screen.bytes().len() == written;
     let again = drawn.session.apply(alloc, event, &mut drawn.screen);
     calls.refuse(refusal, is_unwritten && !is_refused(&again));
+    drop(reply);
     again
 }
 
