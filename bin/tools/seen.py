@@ -4,6 +4,7 @@ import hashlib
 import os
 import tempfile
 import time
+from dataclasses import dataclass
 
 CACHES = os.environ.get("XDG_CACHE_HOME") or os.path.expanduser("~/.cache")
 # The folder that has a file for each refused edit.
@@ -12,6 +13,18 @@ STORE = f"{CACHES}/prodash-edits"
 LIFETIME = 30 * 24 * 3600
 # The tools that put edits together and judge them.
 TOOLS = ("edits", "functions", "kit", "switches", "trials", "verdicts")
+
+
+@dataclass
+class Store:
+    """Where what earlier runs have seen refused is looked up."""
+
+    # The folder that has what runs on this machine have seen.
+    folder: str = STORE
+    # Whether what is there is read, beside being written.
+    is_read: bool = True
+    # The crates of the repository's file edits.lock, or None if that isn't read.
+    lock: object = None
 
 
 class Seen:
@@ -29,10 +42,14 @@ class Seen:
     def path(self, edit):
         """Returns the path of the file of an edit."""
         text = repr((self.ground, edit.label, read(edit.file)))
-        return f"{self.store}/{hashlib.sha256(text.encode()).hexdigest()}"
+        return f"{self.store.folder}/{hashlib.sha256(text.encode()).hexdigest()}"
 
     def goal(self, edit):
         """Returns the goal that refused an edit in an earlier run, or None."""
+        if self.store.lock and self.store.lock.spares(edit):
+            return "by edits.lock"
+        if not self.store.is_read:
+            return None
         path = self.path(edit)
         with contextlib.suppress(OSError):
             os.utime(path)
@@ -42,8 +59,8 @@ class Seen:
     def keep(self, edit, goal):
         """Keeps that a goal refused an edit. Another run never meets half of a file."""
         with contextlib.suppress(OSError):
-            os.makedirs(self.store, 0o700, exist_ok=True)
-            with tempfile.NamedTemporaryFile("w", dir=self.store, delete=False) as it:
+            os.makedirs(self.store.folder, 0o700, exist_ok=True)
+            with tempfile.NamedTemporaryFile("w", dir=self.store.folder, delete=False) as it:
                 it.write(goal)
             os.replace(it.name, self.path(edit))
 
@@ -53,9 +70,9 @@ def read(path):
         return it.read()
 
 
-def clear(store):
+def clear(folder):
     """Removes the files that no run has read for long."""
     with contextlib.suppress(OSError):
-        for it in os.scandir(store):
+        for it in os.scandir(folder):
             if time.time() - it.stat().st_mtime > LIFETIME:
                 os.remove(it.path)

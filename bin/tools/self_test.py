@@ -4,7 +4,9 @@ import os
 import tempfile
 
 import kit
-from edits import IN_COPY
+from edits import IN_COPY, Edit
+from lock import PARTS, Lock
+from seen import Store
 
 SOURCE = """\
 //! Functions to try edits on.
@@ -92,6 +94,8 @@ BESIDE_CI = (
 
 # What is tried by two runs, of which the second knows the first edit from the other.
 AGAIN = ("edits/lesser/wrong_body", "edits/lesser/right_body_of_a_copy")
+# What edits.lock spares, but for the second in the last of the turns.
+LOCKED = ("edits/least/wrong_caller", "edits/lesser/wrong_body")
 
 
 def write(top, path, text):
@@ -106,12 +110,51 @@ def run(rt, try_crates, how, jobs):
     beside = functools.partial(how, is_after_ci=True, proved=["small\n"])
     tried = attempt(EDITS, how(), "")
     tried += attempt(BESIDE_CI, beside(), ", beside rt ci")
-    with tempfile.TemporaryDirectory(prefix="try-edits-store-") as store:
+    with tempfile.TemporaryDirectory(prefix="try-edits-store-") as folder:
+        store = Store(folder)
         tried += attempt(AGAIN, beside(store=store), ", at first")
         tried += attempt(AGAIN, beside(store=store), ", by a later run", recalled=1)
         tried += attempt(AGAIN[:1], beside(store=store), ", of another source", line="// another\n")
+    tried += hold_to_lock(rt)
     print(f"self-test: {sum(tried)} passed, {len(tried) - sum(tried)} failed")
     return 0 if all(tried) else 1
+
+
+def write_edit(top, name):
+    old, new, *_ = EDITS[name]
+    text = f"file: src/lib.rt\nold: {old}\nnew: {new}\n"
+    text += f"{IN_COPY}\n" if name.endswith("/in_a_copy") else ""
+    write(top, f"crates/small/{name}.edit", text)
+
+
+def hold_to_lock(rt):
+    """Returns whether edits.lock spares what it must."""
+    tried = []
+
+    def expect(spared, when, turn=PARTS - 1):
+        crates = kit.crates(rt, top)
+        lock = Lock(rt, top, crates, turn)
+        edits = [Edit(rt, crates[0], f"{crates[0].folder}/{it}.edit") for it in LOCKED]
+        tried.append([lock.spares(it) for it in edits] == spared)
+        print(f"{'ok' if tried[-1] else 'FAILED'}: edits.lock spares {spared.count(True)} {when}")
+        return lock
+
+    with tempfile.TemporaryDirectory(prefix="try-edits-test-") as top:
+        for path, text in FILES.items():
+            write(top, path, text)
+        for name in LOCKED:
+            write_edit(top, name)
+        lock = expect([False, False], "before it is written")
+        lock.update({"small"}, set())
+        expect([True, True], "in the first turn", turn=0)
+        lock = expect([True, False], "in the last turn")
+        write(top, "crates/small/src/lib.rt", f"{SOURCE}// another\n")
+        expect([False, False], "of another source")
+        write(top, "crates/small/src/lib.rt", SOURCE)
+        expect([True, False], "of the source as it was")
+        lock.update(set(), {"small"})
+        expect([False, False], "after one got through")
+    return tried
 
 
 def try_edits(rt, try_crates, jobs, names, how, when, recalled=0, line=""):
@@ -124,10 +167,7 @@ def try_edits(rt, try_crates, jobs, names, how, when, recalled=0, line=""):
         for path, text in FILES.items():
             write(top, path, text + line * path.endswith(".rt"))
         for name in names:
-            old, new, *_ = EDITS[name]
-            text = f"file: src/lib.rt\nold: {old}\nnew: {new}\n"
-            text += f"{IN_COPY}\n" if name.endswith("/in_a_copy") else ""
-            write(top, f"crates/small/{name}.edit", text)
+            write_edit(top, name)
         trials = try_crates(rt, kit.crates(rt, top), jobs, how) or []
     ends = {label: end for trial in trials for label, end in trial.ends.items()}
     tried = []

@@ -32,7 +32,7 @@ const NEXT_GONE_FRAME: &str =
     " task 3/10 [=======>-------------------]\n                                        \n\x1b[2A";
 
 #[rattlefmt::skip]
-const FRAMES: &[Drawing] = &[
+const ROWS: &[Drawing] = &[
     // rows that were on screen before are not drawn again
     Drawing((40, 24), &[(Show(&[TASK]), Ok(TASK_FRAME)), (Show(&[TASK]), Ok(""))]),
     // nor are rows that were hidden, until they change
@@ -62,6 +62,15 @@ const FRAMES: &[Drawing] = &[
     ]),
     // no column at all
     Drawing((0, 24), &[(Show(&[("t", THREE_OF_TEN)]), Ok("\n\x1b[1A"))]),
+];
+
+#[test]
+fn rows_are_cut_at_the_width(rt: HostRuntime) {
+    assert_draws(&rt, rt.alloc(), ROWS)
+}
+
+#[rattlefmt::skip]
+const UNBOUNDED: &[Drawing] = &[
     // without a bound, a cell for each number from the step on, the last one first
     Drawing((40, 24), &[(Show(&[("t", Some((3, None)))]), Ok(" t 3 [   ===   ===   ===   ===   ===   ]\n\x1b[1A"))]),
     Drawing((18, 24), &[(Show(&[("t", Some((2, None)))]), Ok(" t 2 [=   ===   =]\n\x1b[1A")), (Show(&[("t", Some((3, None)))]), Ok(" t 3 [==   ===   ]\n\x1b[1A"))]),
@@ -72,6 +81,15 @@ const FRAMES: &[Drawing] = &[
     Drawing((6, 24), &[(Show(&[("t", Some((3, None)))]), Ok(" t 3 [\n\x1b[1A"))]),
     Drawing((5, 24), &[(Show(&[("t", Some((3, None)))]), Ok(" t 3 \n\x1b[1A"))]),
     Drawing((4, 24), &[(Show(&[("t", Some((3, None)))]), Ok(" t 3\n\x1b[1A"))]),
+];
+
+#[test]
+fn bars_without_a_bound(rt: HostRuntime) {
+    assert_draws(&rt, rt.alloc(), UNBOUNDED)
+}
+
+#[rattlefmt::skip]
+const NARROWER: &[Drawing] = &[
     // two characters of two columns each, then a narrower line
     Drawing((40, 24), &[
         (Show(&[("日本", None)]), Ok(" 日本\n\x1b[1A")),
@@ -88,6 +106,15 @@ const FRAMES: &[Drawing] = &[
         (Show(&[("a", THREE_OF_TEN), ("long", TEN_OF_TEN)]), Ok(LONG_FRAME)),
         (Show(&[("a", FOUR_OF_TEN), ("long", TEN_OF_TEN)]), Ok(ALIGNED_FRAME)),
     ]),
+];
+
+#[test]
+fn what_a_row_leaves_is_blanked(rt: HostRuntime) {
+    assert_draws(&rt, rt.alloc(), NARROWER)
+}
+
+#[rattlefmt::skip]
+const CLOSING: &[Drawing] = &[
     // a message takes the place of the row, which is drawn below it
     Drawing((40, 20), &[
         (Show(&[TASK]), Ok(TASK_FRAME)),
@@ -117,8 +144,8 @@ const FRAMES: &[Drawing] = &[
 ];
 
 #[test]
-fn frames_have_exact_bytes(rt: HostRuntime) {
-    assert_draws(&rt, rt.alloc(), FRAMES)
+fn messages_and_closing_frames(rt: HostRuntime) {
+    assert_draws(&rt, rt.alloc(), CLOSING)
 }
 
 /// Inputs, how many messages were seen after each, and why the renderer has ended.

@@ -1,0 +1,89 @@
+"""The file edits.lock: the crates whose edits were all refused, as the repository has them.
+
+It spares a machine on which nothing is kept the trial of what another one has seen refused. A line
+has the name of a crate and a sum of all that the refusals rest on: its edits, the crate and those
+below it, the kit, and the tools. So a line never goes stale: a crate that has changed is tried.
+
+One part of the edits is tried even so, another one at each commit, so that the file is held to what
+it says: what is wrong in it shows within some PARTS commits.
+"""
+import contextlib
+import hashlib
+import os
+import subprocess
+
+from edits import Edit, edit_files
+from seen import TOOLS, read
+
+NAME = "edits.lock"
+HEAD = """\
+# The crates whose edits were all refused, and sums of what that rests on. `bin/try-edits` writes
+# this file, and does not try the edits of these crates again, but for one part of them.
+"""
+# The folder of the edits that count: `rt ci` tries those of must-fail/ itself.
+FOLDER = ("edits",)
+# How many parts the edits are in, of which one is tried although the file has their crates.
+PARTS = 12
+
+
+class Lock:
+    """The lines of edits.lock, and the edits that are tried in spite of them."""
+
+    def __init__(self, rt, top, crates, turn=None):
+        self.rt, self.path = rt, f"{top}/{NAME}"
+        self.sums, self.crates = dict(self.lines()), {it.name: sum_of(rt, it) for it in crates}
+        labels = sorted(label for it in crates for label in labels_of(rt, it))
+        turn = (commits(top) if turn is None else turn) % PARTS
+        first, end = (len(labels) * it // PARTS for it in (turn, turn + 1))
+        self.due = {*labels[first:end]}
+
+    def lines(self):
+        """Yields the names and sums of the file, if it is there."""
+        with contextlib.suppress(FileNotFoundError):
+            for line in read(self.path).splitlines():
+                if not line.startswith("#"):
+                    yield tuple(line.split())
+
+    def spares(self, edit):
+        """Returns whether an edit was refused by what the file says, and is not due."""
+        name = edit.crate.name
+        is_locked = name in self.crates and self.sums.get(name) == self.crates[name]
+        return is_locked and edit.label not in self.due
+
+    def update(self, refused, others):
+        """Writes which crates have had all their edits refused, and which have not."""
+        sums = {name: it for name, it in self.sums.items() if name not in others}
+        sums |= {name: self.crates[name] for name in refused}
+        if sums != self.sums:
+            self.sums = sums
+            with open(self.path, "w", encoding="utf-8") as it:
+                it.write(HEAD + "".join(f"{name} {sums[name]}\n" for name in sorted(sums)))
+
+
+def labels_of(rt, crate):
+    return [Edit(rt, crate, it).label for it in edit_files(crate, FOLDER)]
+
+
+def sum_of(rt, crate):
+    """Returns a sum of what the refusals of a crate's edits rest on. It names no machine."""
+    texts = [read(f"{rt.KIT}/KIT-ID")]
+    texts += [read(f"{os.path.dirname(__file__)}/{it}.py") for it in TOOLS]
+    texts += [(it, read(f"{crate.folder}/{it}")) for it in files_of(crate, FOLDER)]
+    for it in [*crate.below(), crate]:
+        texts.append((it.name, [dep.name for dep in it.deps], [*it.of_kit]))
+        texts += [(file, read(f"{it.folder}/{file}")) for file in files_of(it, rt.rtlib.PARTS)]
+    return hashlib.sha256(repr(texts).encode()).hexdigest()
+
+
+def files_of(crate, folders):
+    """Returns the paths of the files below folders of a crate, sorted."""
+    walked = [it for folder in folders for it in os.walk(f"{crate.folder}/{folder}")]
+    paths = [os.path.join(at, name) for at, _, names in walked for name in names]
+    return sorted(os.path.relpath(it, crate.folder) for it in paths)
+
+
+def commits(top):
+    """Returns how many commits lead to the one that is checked out, or 0 if none is."""
+    words = ["git", "-C", top, "rev-list", "--count", "HEAD"]
+    counted = subprocess.run(words, capture_output=True, text=True, check=False)
+    return int(counted.stdout) if counted.returncode == 0 else 0
