@@ -4,10 +4,11 @@ It spares a machine on which nothing is kept the trial of what another one has s
 has the name of a crate and a sum of all that the refusals rest on: its edits, the crate and those
 below it, the kit, and the tools. So a line never goes stale: a crate that has changed is tried.
 
-One part of the edits is tried even so, another one at each commit, so that the file is held to what
-it says: what is wrong in it shows within some PARTS commits.
+One part of each crate's edits is tried even so, another one at each commit, so that the file is held
+to what it says: what is wrong in it shows within some PARTS commits.
 """
 import contextlib
+import functools
 import hashlib
 import os
 import subprocess
@@ -18,11 +19,11 @@ from seen import TOOLS, read
 NAME = "edits.lock"
 HEAD = """\
 # The crates whose edits were all refused, and sums of what that rests on. `bin/try-edits` writes
-# this file, and does not try the edits of these crates again, but for one part of them.
+# this file, and does not try the edits of these crates again, but for one part of each.
 """
 # The folder of the edits that count: `rt ci` tries those of must-fail/ itself.
 FOLDER = ("edits",)
-# How many parts the edits are in, of which one is tried although the file has their crates.
+# How many parts the edits of a crate are in, of which one is tried although the file has the crate.
 PARTS = 12
 
 
@@ -30,12 +31,11 @@ class Lock:
     """The lines of edits.lock, and the edits that are tried in spite of them."""
 
     def __init__(self, rt, top, crates, turn=None):
-        self.rt, self.path = rt, f"{top}/{NAME}"
-        self.sums, self.crates = dict(self.lines()), {it.name: sum_of(rt, it) for it in crates}
-        labels = sorted(label for it in crates for label in labels_of(rt, it))
-        turn = (commits(top) if turn is None else turn) % PARTS
-        first, end = (len(labels) * it // PARTS for it in (turn, turn + 1))
-        self.due = {*labels[first:end]}
+        self.path, self.sum = f"{top}/{NAME}", functools.partial(sum_of, rt)
+        # By crate: what the file has, and what is so now.
+        self.sums, self.now = dict(self.lines()), {it: self.sum(it) for it in crates}
+        turn = commits(top) if turn is None else turn
+        self.due = {label for it in crates for label in part_of(labels_of(rt, it), turn % PARTS)}
 
     def lines(self):
         """Yields the names and sums of the file, if it is there."""
@@ -46,14 +46,17 @@ class Lock:
 
     def spares(self, edit):
         """Returns whether an edit was refused by what the file says, and is not due."""
-        name = edit.crate.name
-        is_locked = name in self.crates and self.sums.get(name) == self.crates[name]
+        is_locked = self.sums.get(edit.crate.name) == self.now.get(edit.crate, "")
         return is_locked and edit.label not in self.due
 
     def update(self, refused, others):
-        """Writes which crates have had all their edits refused, and which have not."""
-        sums = {name: it for name, it in self.sums.items() if name not in others}
-        sums |= {name: self.crates[name] for name in refused}
+        """Writes which crates have had all their edits refused, and which have not.
+
+        A crate that has changed meanwhile was tried in part as it was before.
+        """
+        sums = {name: it for name, it in self.sums.items() if name not in {*refused, *others}}
+        kept = [it for it in self.now if it.name in refused and self.sum(it) == self.now[it]]
+        sums.update((it.name, self.now[it]) for it in kept)
         if sums != self.sums:
             self.sums = sums
             with open(self.path, "w", encoding="utf-8") as it:
@@ -61,7 +64,12 @@ class Lock:
 
 
 def labels_of(rt, crate):
-    return [Edit(rt, crate, it).label for it in edit_files(crate, FOLDER)]
+    return sorted(Edit(rt, crate, it).label for it in edit_files(crate, FOLDER))
+
+
+def part_of(labels, turn):
+    first, end = (len(labels) * it // PARTS for it in (turn, turn + 1))
+    return labels[first:end]
 
 
 def sum_of(rt, crate):
