@@ -30,12 +30,12 @@ PARTS = 12
 class Lock:
     """The lines of edits.lock, and the edits that are tried in spite of them."""
 
-    def __init__(self, rt, top, crates, turn=None):
+    def __init__(self, rt, top, crates, part=None):
         self.path, self.sum = f"{top}/{NAME}", functools.partial(sum_of, rt)
         # By crate: what the file has, and what is so now.
         self.sums, self.now = dict(self.lines()), {it: self.sum(it) for it in crates}
-        turn = commits(top) if turn is None else turn
-        self.due = {label for it in crates for label in part_of(labels_of(rt, it), turn % PARTS)}
+        part = commits(top) % PARTS if part is None else part
+        self.due = {label for it in crates for label in part_of(labels_of(rt, it), part)}
 
     def lines(self):
         """Yields the names and sums of the file, if it is there."""
@@ -67,8 +67,8 @@ def labels_of(rt, crate):
     return sorted(Edit(rt, crate, it).label for it in edit_files(crate, FOLDER))
 
 
-def part_of(labels, turn):
-    first, end = (len(labels) * it // PARTS for it in (turn, turn + 1))
+def part_of(labels, part):
+    first, end = (len(labels) * it // PARTS for it in (part, part + 1))
     return labels[first:end]
 
 

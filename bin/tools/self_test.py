@@ -94,7 +94,7 @@ BESIDE_CI = (
 
 # What is tried by two runs, of which the second knows the first edit from the other.
 AGAIN = ("edits/lesser/wrong_body", "edits/lesser/right_body_of_a_copy")
-# What edits.lock spares, but for the second in the last of the turns.
+# What edits.lock spares, but for the second where the last part is due.
 LOCKED = ("edits/least/wrong_caller", "edits/lesser/wrong_body")
 
 
@@ -131,9 +131,9 @@ def hold_to_lock(rt):
     """Returns whether edits.lock spares what it must."""
     tried = []
 
-    def expect(spared, when, turn=PARTS - 1):
+    def expect(spared, when, part=PARTS - 1):
         crates = kit.crates(rt, top)
-        lock = Lock(rt, top, crates, turn)
+        lock = Lock(rt, top, crates, part)
         edits = [Edit(rt, crates[0], f"{crates[0].folder}/{it}.edit") for it in LOCKED]
         tried.append([lock.spares(it) for it in edits] == spared)
         print(f"{'ok' if tried[-1] else 'FAILED'}: edits.lock spares {spared.count(True)} {when}")
@@ -149,8 +149,8 @@ def hold_to_lock(rt):
         lock.update({"small"}, set())
         lock = expect([False, False], "of a source that changed meanwhile")
         lock.update({"small"}, set())
-        expect([True, True], "in the first turn", turn=0)
-        lock = expect([True, False], "in the last turn")
+        expect([True, True], "with the first part due", part=0)
+        lock = expect([True, False], "with the last part due")
         write(top, "crates/small/src/lib.rt", SOURCE)
         expect([False, False], "of another source")
         write(top, "crates/small/src/lib.rt", f"{SOURCE}// another\n")
