@@ -4,8 +4,9 @@ It spares a machine on which nothing is kept the trial of what another one has s
 has the name of a crate and a sum of all that the refusals rest on: its edits, the crate and those
 below it, the kit, and the tools. So a line never goes stale: a crate that has changed is tried.
 
-One part of each crate's edits is tried even so, another one at each commit, so that the file is held
-to what it says: what is wrong in it shows within some PARTS commits.
+One part of the edits is tried even so, another one at each commit, so that the file is held to what
+it says: what is wrong in it shows within some PARTS commits. It is of few crates, since the first
+edit of a crate costs as much as some others.
 """
 import contextlib
 import functools
@@ -19,11 +20,11 @@ from seen import TOOLS, read
 NAME = "edits.lock"
 HEAD = """\
 # The crates whose edits were all refused, and sums of what that rests on. `bin/try-edits` writes
-# this file, and does not try the edits of these crates again, but for one part of each.
+# this file, and does not try the edits of these crates again, but for one part of all.
 """
 # The folder of the edits that count: `rt ci` tries those of must-fail/ itself.
 FOLDER = ("edits",)
-# How many parts the edits of a crate are in, of which one is tried although the file has the crate.
+# How many parts the edits are in, of which one is tried although the file has their crates.
 PARTS = 12
 
 
@@ -35,7 +36,7 @@ class Lock:
         # By crate: what the file has, and what is so now.
         self.sums, self.now = dict(self.lines()), {it: self.sum(it) for it in crates}
         part = commits(top) % PARTS if part is None else part
-        self.due = {label for it in crates for label in part_of(labels_of(rt, it), part)}
+        self.due = {*part_of(sorted(label for it in crates for label in labels_of(rt, it)), part)}
 
     def lines(self):
         """Yields the names and sums of the file, if it is there."""
@@ -64,7 +65,7 @@ class Lock:
 
 
 def labels_of(rt, crate):
-    return sorted(Edit(rt, crate, it).label for it in edit_files(crate, FOLDER))
+    return [Edit(rt, crate, it).label for it in edit_files(crate, FOLDER)]
 
 
 def part_of(labels, part):
