@@ -16,6 +16,7 @@ import subprocess
 
 from edits import Edit, edit_files
 from seen import TOOLS, read
+from trials import REFUSED
 
 NAME = "edits.lock"
 HEAD = """\
@@ -62,6 +63,14 @@ class Lock:
             self.sums = sums
             with open(self.path, "w", encoding="utf-8") as it:
                 it.write(HEAD + "".join(f"{name} {sums[name]}\n" for name in sorted(sums)))
+
+
+def split(trials):
+    """Returns the names of the crates whose edits were all refused, and of those with others."""
+    ends = {it.crate.name: [how for how, _ in it.ends.values()] for it in trials}
+    whole = {it.crate.name for it in trials if len(it.ends) == len(it.edits)}
+    others = {name for name, hows in ends.items() if {*hows} - {REFUSED}}
+    return whole - others, others
 
 
 def labels_of(rt, crate):

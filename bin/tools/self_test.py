@@ -5,7 +5,7 @@ import tempfile
 
 import kit
 from edits import IN_COPY, Edit
-from lock import PARTS, Lock
+from lock import PARTS, Lock, split
 from seen import Store
 
 SOURCE = """\
@@ -114,6 +114,7 @@ def run(rt, try_crates, how, jobs):
         store = Store(folder)
         tried += attempt(AGAIN, beside(store=store), ", at first")
         tried += attempt(AGAIN, beside(store=store), ", by a later run", recalled=1)
+        tried += attempt(AGAIN[:1], beside(store=Store(folder, is_read=False)), ", anew")
         tried += attempt(AGAIN[:1], beside(store=store), ", of another source", line="// another\n")
     tried += hold_to_lock(rt)
     print(f"self-test: {sum(tried)} passed, {len(tried) - sum(tried)} failed")
@@ -167,8 +168,8 @@ def hold_to_lock(rt):
 def try_edits(rt, try_crates, jobs, names, how, when, recalled=0, line=""):
     """Tries these edits, and returns whether each is reported as it must be.
 
-    The source has one more line at its end. The last of what is returned says whether an earlier
-    run has seen as many refused as it must have.
+    The source has one more line at its end. The last two of what is returned say whether an earlier
+    run has seen as many refused as it must have, and whether edits.lock would have the crate.
     """
     with tempfile.TemporaryDirectory(prefix="try-edits-test-") as top:
         for path, text in FILES.items():
@@ -188,4 +189,8 @@ def try_edits(rt, try_crates, jobs, names, how, when, recalled=0, line=""):
     tried.append(sum(it.recalled for it in trials) == recalled)
     passed = "ok" if tried[-1] else "FAILED"
     print(f"{passed}: {recalled} are to be known from an earlier run{when}")
+    are_refused = all(EDITS[name][2] == REFUSED for name in names)
+    tried.append(split(trials) == (({"small"}, set()) if are_refused else (set(), {"small"})))
+    passed = "ok" if tried[-1] else "FAILED"
+    print(f"{passed}: edits.lock is to {'have' if are_refused else 'lack'} the crate{when}")
     return tried
