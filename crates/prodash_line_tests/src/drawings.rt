@@ -116,6 +116,16 @@ fn input(rt: &impl Abort, alloc: Global, ask: Ask) -> Input {
     }
 }
 
+/// Draws the frame of an input, without a promise about it.
+pub(crate) fn draw_input<S: Screen>(
+    alloc: Global,
+    screen: &mut S,
+    state: &mut draw::State,
+    input: Input,
+) -> Result<Answer, Refusal> {
+    draw::all(alloc, screen, state, input)
+}
+
 /// Draws a frame. Once more if out of memory, since nothing has changed then.
 pub(crate) fn draw<S: Screen>(
     rt: &impl Abort,
@@ -124,11 +134,10 @@ pub(crate) fn draw<S: Screen>(
     state: &mut draw::State,
     ask: Ask,
 ) -> Result<Answer, Refusal> {
-    let first = draw::all(alloc, screen, state, input(rt, alloc, ask));
-    if first == Err(Refusal::Memory) {
-        return draw::all(alloc, screen, state, input(rt, alloc, ask));
+    match draw_input(alloc, screen, state, input(rt, alloc, ask)) {
+        Err(Refusal::Memory) => draw_input(alloc, screen, state, input(rt, alloc, ask)),
+        first => first,
     }
-    first
 }
 
 /// A renderer on a terminal of this many columns and rows.
@@ -195,7 +204,7 @@ fn assert_frame(
     let answer = draw(rt, alloc, &mut screen, state, ask);
     assert_same(rt, answer, answer_to(ask, want), want);
     assert_same(rt, screen.bytes(), want.unwrap_or("").as_bytes(), want);
-    assert!(rt; !screen.is_broken());
+    assert_same(rt, screen.is_broken(), false, want);
     drop(screen);
 }
 

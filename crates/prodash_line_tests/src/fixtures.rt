@@ -19,6 +19,21 @@ where
     assert_eq!(rt; got, want, "of {of:?}");
 }
 
+/// Asserts that a value has this text by `Debug`.
+pub(crate) fn assert_debug<T: Debug>(rt: &impl Abort, alloc: Global, value: &T, want: &str) {
+    let text = format!(in alloc; "{value:?}").expect(rt, "memory");
+    assert_same(rt, text.as_str(), want, "Debug");
+}
+
+/// A text of this many bytes.
+pub(crate) fn text_of_length(rt: &impl Abort, alloc: Global, length: usize) -> String {
+    let mut text = String::new(alloc);
+    for _ in 0..length {
+        text.push('x').expect(rt, "memory");
+    }
+    text
+}
+
 /// Asserts that each value equals the copy at its index, and no other copy.
 pub(crate) fn assert_distinct<T: PartialEq>(rt: &impl Abort, values: &[T], copies: &[T]) {
     assert_same(rt, values.len(), copies.len(), "lengths");

@@ -3,7 +3,9 @@ use crate::drawings::{Ask, Drawing, Task, assert_draws, draw, renderer};
 use crate::fixtures::{MESSAGE_FRAME, Progress, TASK_FRAME, assert_same};
 use prodash_base::Refusal;
 use prodash_base::messages::MessageCopyState;
-use prodash_line::render::line::draw::MemoryScreen;
+use prodash_line::render::line::draw::{MemoryScreen, State};
+use std::alloc::Global;
+use std::process::Abort;
 
 const THREE_OF_TEN: Progress = Some((3, Some(10)));
 
@@ -157,15 +159,24 @@ const SEEN: &[(Ask, u64, Option<Refusal>)] = &[
     (Show(&[TASK]), 1, Some(Refusal::Closed)),
 ];
 
+/// A renderer has seen this many messages, if it has seen any, and has ended for this reason.
+fn assert_saw(rt: &impl Abort, state: &State, seen: Option<u64>, ended: Option<Refusal>) {
+    let want = match seen {
+        Some(pushed) => Some(MessageCopyState::new(pushed)),
+        None => None,
+    };
+    assert_same(rt, state.seen(), want, "seen");
+    assert_same(rt, state.ended(), ended, "ended");
+}
+
 #[test]
 fn says_what_it_saw_and_why_it_ended(rt: HostRuntime) {
     let mut screen = MemoryScreen::new(rt.alloc(), 200).expect(&rt, "memory");
     let mut state = renderer(rt.alloc(), (40, 20));
-    assert_same(&rt, (state.seen(), state.ended()), (None, None), "before");
+    assert_saw(&rt, &state, None, None);
     for (ask, seen, ended) in SEEN {
         let _ = draw(&rt, rt.alloc(), &mut screen, &mut state, *ask);
-        let want = (Some(MessageCopyState::new(*seen)), *ended);
-        assert_same(&rt, (state.seen(), state.ended()), want, *seen);
+        assert_saw(&rt, &state, Some(*seen), *ended);
     }
     drop(state);
     drop(screen);
@@ -180,17 +191,22 @@ const SPARE: &[(Ask, (usize, usize))] = &[
     (Quit, (0, 0)),
 ];
 
+/// A renderer has this many spare rows and messages, which it gives.
+fn assert_spare(rt: &impl Abort, alloc: Global, state: &mut State, counts: (usize, usize)) {
+    let (rows, messages) = state.take_spare(alloc);
+    assert_same(rt, rows.as_slice().len(), counts.0, "spare rows");
+    assert_same(rt, messages.as_slice().len(), counts.1, "spare messages");
+    drop(messages);
+    drop(rows);
+}
+
 #[test]
 fn rows_and_messages_that_it_needs_no_longer_are_spare(rt: HostRuntime) {
     let mut screen = MemoryScreen::new(rt.alloc(), 200).expect(&rt, "memory");
     let mut state = renderer(rt.alloc(), (40, 20));
     for (ask, counts) in SPARE {
         let _ = draw(&rt, rt.alloc(), &mut screen, &mut state, *ask);
-        let (rows, messages) = state.take_spare(rt.alloc());
-        let got = (rows.as_slice().len(), messages.as_slice().len());
-        assert_same(&rt, got, *counts, "spare rows and messages");
-        drop(messages);
-        drop(rows);
+        assert_spare(&rt, rt.alloc(), &mut state, *counts);
     }
     drop(state);
     drop(screen);

@@ -1,8 +1,8 @@
-use crate::fixtures::{assert_same, message};
+use crate::fixtures::{assert_same, message, text_of_length};
 use How::{All, New, Next, Since};
 use prodash_base::Refusal;
 use prodash_base::messages::{Message, MessageCopyState, MessageLevel, MessageRingBuffer};
-use std::alloc::{AllocError, Global};
+use std::alloc::Global;
 use std::process::Abort;
 
 /// How the messages of a ring are copied.
@@ -116,21 +116,13 @@ fn rings_keep_the_latest_messages(rt: HostRuntime) {
 /// The bytes of an origin and of a message, each of which a ring takes while there is memory.
 const LENGTHS: &[(usize, usize)] = &[(0, 0), (5, 1001), (1001, 5), (70_000, 70_000)];
 
-fn text_of_length(alloc: Global, length: usize) -> Result<String, AllocError> {
-    let mut text = String::new(alloc);
-    for _ in 0..length {
-        text.push('x')?;
-    }
-    Ok(text)
-}
-
 #[test]
 fn rings_take_long_messages(rt: HostRuntime) {
     let alloc = rt.alloc();
     let mut ring = MessageRingBuffer::with_capacity(alloc, 1).expect(&rt, "memory");
     for (origin, text) in LENGTHS {
-        let origin = text_of_length(alloc, *origin).expect(&rt, "no refusal");
-        let text = text_of_length(alloc, *text).expect(&rt, "no refusal");
+        let origin = text_of_length(&rt, alloc, *origin);
+        let text = text_of_length(&rt, alloc, *text);
         let (origin, text) = (origin.as_str(), text.as_str());
         ring.push_overwrite(alloc, 7, MessageLevel::Info, origin, text)
             .expect(&rt, "no refusal");

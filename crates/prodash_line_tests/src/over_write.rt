@@ -1,6 +1,6 @@
 use crate::drawings::Ask::{Print, Quit, Show};
 use crate::drawings::{Ask, Task, draw, renderer};
-use crate::fixtures::assert_same;
+use crate::fixtures::{assert_debug, assert_same};
 use Outcome::{Fails, Takes};
 use prodash_base::Refusal;
 use prodash_line::render::line::draw::{Answer, MemoryScreen, OverWrite, Screen};
@@ -113,18 +113,28 @@ const ROWS: &[Row] = &[
     Row(&[Takes(4)], false, &[Ok(4)], UNFLUSHED, "abcd", (1, 1)),
 ];
 
-/// A put of `abcd` returns this, and breaks the screen if it is refused.
-fn assert_put<W: Write>(rt: &impl Abort, screen: &mut OverWrite<W>, want: Result<usize, Refusal>) {
-    assert_same(rt, screen.put(b"abcd"), want, "put");
+/// A put of these bytes returns this, and breaks the screen if it is refused.
+fn assert_put<W: Write>(
+    rt: &impl Abort,
+    screen: &mut OverWrite<W>,
+    bytes: &[u8],
+    want: Result<usize, Refusal>,
+) {
+    assert_same(rt, screen.put(bytes), want, "put");
     assert_same(rt, screen.is_broken(), want.is_err(), "broken by a put");
+}
+
+/// A flush returns this, and breaks the screen if it is refused.
+fn assert_flush<W: Write>(rt: &impl Abort, screen: &mut OverWrite<W>, want: Result<(), Refusal>) {
+    assert_same(rt, screen.flush(), want, "flush");
+    assert_same(rt, screen.is_broken(), want.is_err(), "broken by a flush");
 }
 
 /// Once broken it stays broken.
 fn assert_stays_broken(rt: &impl Abort, screen: &mut OverWrite<FakeWriter>) {
-    assert_same(rt, screen.put(b"abcd"), BROKEN, "put once broken");
-    assert_same(rt, screen.put(b""), BROKEN, "put of nothing once broken");
-    assert_same(rt, screen.flush(), UNFLUSHED, "flush once broken");
-    assert_same(rt, screen.is_broken(), true, "once broken");
+    assert_put(rt, screen, b"abcd", BROKEN);
+    assert_put(rt, screen, b"", BROKEN);
+    assert_flush(rt, screen, UNFLUSHED);
 }
 
 /// Puts until one is refused or the list ends, then flushes. The screen calls its writer no more
@@ -134,10 +144,9 @@ fn assert_row(rt: &impl Abort, alloc: Global, row: &Row) {
     let mut screen = OverWrite::new(FakeWriter::new(alloc, outcomes, flushes));
     assert_same(rt, screen.is_broken(), false, outcomes);
     for want in puts {
-        assert_put(rt, &mut screen, *want);
+        assert_put(rt, &mut screen, b"abcd", *want);
     }
-    assert_same(rt, screen.flush(), flushed, outcomes);
-    assert_same(rt, screen.is_broken(), flushed.is_err(), outcomes);
+    assert_flush(rt, &mut screen, flushed);
     if flushed.is_err() {
         assert_stays_broken(rt, &mut screen);
     }
@@ -157,8 +166,7 @@ fn over_write_breaks_with_its_writer(rt: HostRuntime) {
 #[test]
 fn over_write_may_take_no_bytes_of_none(rt: HostRuntime) {
     let mut screen = OverWrite::new(FakeWriter::new(rt.alloc(), &[Takes(0)], true));
-    assert_same(&rt, screen.put(b""), Ok(0), "put");
-    assert_same(&rt, screen.is_broken(), false, "broken");
+    assert_put(&rt, &mut screen, b"", Ok(0));
     drop(screen);
 }
 
@@ -187,17 +195,12 @@ fn over_write_has_the_bytes_of_a_memory_screen(rt: HostRuntime) {
     let alloc = rt.alloc();
     let mut memory = MemoryScreen::new(alloc, 400).expect(&rt, "memory");
     assert_frames(&rt, alloc, &mut memory);
-    let mut list = OverWrite::new(Vec::new(alloc));
-    assert_frames(&rt, alloc, &mut list);
-    let list = list.into_inner();
-    assert_same(&rt, list.as_slice(), memory.bytes(), "list");
-    drop(list);
     let mut slow = OverWrite::new(FakeWriter::new(alloc, &[Takes(1)], true));
     assert_frames(&rt, alloc, &mut slow);
     let slow = slow.into_inner();
     assert_same(&rt, slow.bytes.as_slice(), memory.bytes(), "slow");
-    let calls = (memory.bytes().len(), FRAMES.len());
-    assert_same(&rt, slow.calls, calls, "calls");
+    assert_same(&rt, slow.calls.0, memory.bytes().len(), "writes");
+    assert_same(&rt, slow.calls.1, FRAMES.len(), "flushes");
     drop(slow);
     drop(memory);
 }
@@ -206,21 +209,13 @@ fn over_write_has_the_bytes_of_a_memory_screen(rt: HostRuntime) {
 fn over_write_says_whether_it_is_broken(rt: HostRuntime) {
     let alloc = rt.alloc();
     let mut screen = OverWrite::new(BadWriter);
-    let whole = format!(in alloc; "{screen:?}").expect(&rt, "memory");
-    assert_same(
-        &rt,
-        whole.as_str(),
+    let (whole, broken) = (
         "OverWrite { writer: BadWriter, broken: false }",
-        "whole",
-    );
-    assert_put(&rt, &mut screen, BROKEN);
-    let broken = format!(in alloc; "{screen:?}").expect(&rt, "memory");
-    assert_same(
-        &rt,
-        broken.as_str(),
         "OverWrite { writer: BadWriter, broken: true }",
-        "broken",
     );
+    assert_debug(&rt, alloc, &screen, whole);
+    assert_put(&rt, &mut screen, b"abcd", BROKEN);
+    assert_debug(&rt, alloc, &screen, broken);
 }
 
 /// A line of 5000 columns, a line feed, and up by one row.

@@ -1,6 +1,7 @@
 use crate::fixtures::{MESSAGE_FRAME, TASK_FRAME, assert_distinct, assert_same};
+use crate::styles::{assert_fault, assert_spelled};
 use prodash_line::render::line::draw::Answer;
-use prodash_line::render::line::page::{Fault, Page, Sign, read, spell};
+use prodash_line::render::line::page::{Fault, Page, Sign, read};
 use std::alloc::Global;
 use std::process::Abort;
 
@@ -69,7 +70,7 @@ fn assert_rows(rt: &impl Abort, alloc: Global, page: &Page, columns: u16, rows: 
         assert_same(rt, text.len(), columns as usize, n);
         assert_same(rt, text.as_str().trim_end(), *want, n);
     }
-    assert!(rt; page.row(rows.len()).is_none());
+    assert_same(rt, page.row(rows.len()).is_none(), true, "rows");
 }
 
 #[test]
@@ -105,19 +106,7 @@ fn reads_what_signs_spell(rt: HostRuntime) {
         Sign::EraseBelow,
         Sign::LineFeed,
     ];
-    let bytes = "a\x1b[2K\x1b[65535Aé\r\x1b[J\n".as_bytes();
-    assert_same(
-        &rt,
-        read(rt.alloc(), bytes).expect(&rt, "no refusal").as_slice(),
-        signs.as_slice(),
-        "signs",
-    );
-    assert_same(
-        &rt,
-        spell(rt.alloc(), &signs).expect(&rt, "memory").as_slice(),
-        bytes,
-        "bytes",
-    );
+    assert_spelled(&rt, rt.alloc(), &signs, "a\x1b[2K\x1b[65535Aé\r\x1b[J\n");
 }
 
 /// Bytes that no signs spell, and how many before the fault signs do.
@@ -136,8 +125,7 @@ const FAULTS: &[(&[u8], usize)] = &[
 #[test]
 fn refuses_what_no_signs_spell(rt: HostRuntime) {
     for (bytes, end) in FAULTS {
-        let fault = read(rt.alloc(), bytes).err();
-        assert_same(&rt, fault, Some(Fault::At(*end)), *bytes);
+        assert_fault(&rt, rt.alloc(), bytes, *end);
     }
 }
 

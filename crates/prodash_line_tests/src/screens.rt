@@ -1,9 +1,9 @@
 use crate::drawings::Ask::{Quit, Show};
-use crate::drawings::{Ask, draw, renderer, tick};
-use crate::fixtures::{FakeScreen, TASK_FRAME, assert_same};
+use crate::drawings::{Ask, draw, draw_input, renderer, tick};
+use crate::fixtures::{FakeScreen, TASK_FRAME, assert_same, key_at, row, text_of_length};
 use prodash_base::Refusal;
-use prodash_fixtures::{key_at, row};
-use prodash_line::render::line::draw::{self, Answer, MemoryScreen, Screen};
+use prodash_base::progress::Row;
+use prodash_line::render::line::draw::{Answer, MemoryScreen, Screen};
 use std::alloc::Global;
 use std::process::Abort;
 
@@ -16,7 +16,7 @@ fn memory_screen_takes_all_bytes(rt: HostRuntime) {
             assert_same(&rt, screen.put(b"01234"), Ok(5), room);
             assert_same(&rt, screen.flush(), Ok(()), room);
         }
-        assert!(rt; !screen.is_broken());
+        assert_same(&rt, screen.is_broken(), false, room);
         assert_same(&rt, screen.bytes(), b"0123401234".as_slice(), room);
     }
     let endless = MemoryScreen::new(rt.alloc(), usize::MAX);
@@ -96,16 +96,17 @@ impl Screen for CountingScreen {
     }
 }
 
+/// Rows of a task with this name.
+fn rows_of(rt: &impl Abort, alloc: Global, name: &str) -> Vec<Row> {
+    let row = row(alloc, key_at(&[0]), name, None).expect(rt, "memory");
+    vec![in alloc; row].expect(rt, "memory")
+}
+
 #[test]
 fn frames_go_out_in_pieces(rt: HostRuntime) {
     // the line of this name, with the motion back up, has 10000 bytes
-    let mut name = String::new(rt.alloc());
-    for _ in 0..9994 {
-        name.push('x').expect(&rt, "memory");
-    }
-    let rows = vec![in rt.alloc();
-        row(rt.alloc(), key_at(&[0]), &name, None).expect(&rt, "memory"),
-    ].expect(&rt, "memory");
+    let name = text_of_length(&rt, rt.alloc(), 9994);
+    let rows = rows_of(&rt, rt.alloc(), name.as_str());
     let mut screen = CountingScreen {
         inner: MemoryScreen::new(rt.alloc(), 10000).expect(&rt, "memory"),
         sizes: [0; 4],
@@ -113,7 +114,7 @@ fn frames_go_out_in_pieces(rt: HostRuntime) {
     };
     let mut state = renderer(rt.alloc(), (12000, 24));
     let input = tick(&rt, rt.alloc(), true, &[], rows);
-    let answer = draw::all(rt.alloc(), &mut screen, &mut state, input);
+    let answer = draw_input(rt.alloc(), &mut screen, &mut state, input);
     assert_same(&rt, answer, Ok(Answer::Drawn), "a long frame");
     assert_same(&rt, screen.sizes, [4096, 4096, 1808, 0], "a long frame");
     drop(state);

@@ -38,7 +38,7 @@ fn style_of(spelled: &Spelled) -> Style {
 }
 
 /// The signs are spelled by these bytes, which are read as the signs.
-fn assert_spelled(rt: &impl Abort, alloc: Global, signs: &[Sign], bytes: &str) {
+pub(crate) fn assert_spelled(rt: &impl Abort, alloc: Global, signs: &[Sign], bytes: &str) {
     let spelled = spell(alloc, signs).expect(rt, "memory");
     assert_same(rt, spelled.as_slice(), bytes.as_bytes(), bytes);
     let read = read(alloc, bytes.as_bytes()).expect(rt, "no refusal");
@@ -102,11 +102,16 @@ const FAULTS: &[(&str, usize)] = &[
     ("\x1b[1m\x1b[?25", 4),
 ];
 
+/// Signs spell no more than this many of the bytes.
+pub(crate) fn assert_fault(rt: &impl Abort, alloc: Global, bytes: &[u8], end: usize) {
+    let fault = read(alloc, bytes).err();
+    assert_same(rt, fault, Some(Fault::At(end)), bytes);
+}
+
 #[test]
 fn other_codes_are_no_signs(rt: HostRuntime) {
     for (bytes, end) in FAULTS {
-        let fault = read(rt.alloc(), bytes.as_bytes()).err();
-        assert_same(&rt, fault, Some(Fault::At(*end)), *bytes);
+        assert_fault(&rt, rt.alloc(), bytes.as_bytes(), *end);
     }
 }
 
@@ -115,8 +120,7 @@ fn other_codes_are_no_signs(rt: HostRuntime) {
 fn the_plain_style_is_no_sign(rt: HostRuntime) {
     let bytes = spell(rt.alloc(), &[Sign::Open(Style::new())]).expect(&rt, "memory");
     assert_same(&rt, bytes.as_slice(), b"\x1b[m".as_slice(), "bytes");
-    let fault = read(rt.alloc(), &bytes).err();
-    assert_same(&rt, fault, Some(Fault::At(0)), "fault");
+    assert_fault(&rt, rt.alloc(), &bytes, 0);
 }
 
 /// The style, made code by code.

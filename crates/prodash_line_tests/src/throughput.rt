@@ -12,6 +12,9 @@ type Turn = (u64, Option<u64>, Option<u64>);
 
 const MAX: u64 = u64::MAX;
 
+/// A second in nanoseconds.
+const ONE_SECOND: u64 = 1_000_000_000;
+
 /// Three samples, 40 in 1.2 seconds; then a second without a change.
 #[rattlefmt::skip]
 const STEADY: &[Turn] = &[
@@ -120,6 +123,14 @@ type Change = (u32, Option<u64>, Option<u64>);
 /// A moment, and the changes of keys at it.
 type Moment = (u64, &'static [Change]);
 
+/// The throughput of a change in one second.
+fn in_one_second(change: Option<u64>) -> Option<display::Throughput> {
+    match change {
+        Some(change) => Some(display::Throughput::new(change, ONE_SECOND)),
+        None => None,
+    }
+}
+
 /// The tracker returns these changes at a moment.
 fn assert_changes(
     rt: &impl Abort,
@@ -133,7 +144,7 @@ fn assert_changes(
         let got = tracker
             .update_and_get(alloc, &key_at(&[*number]), *step)
             .expect(rt, "no refusal");
-        let want = want.map(|change| display::Throughput::new(change, 1_000_000_000));
+        let want = in_one_second(*want);
         assert_same(rt, got, want, (at, *number));
     }
 }
@@ -256,7 +267,7 @@ fn draw(
         let got = tracker
             .observe(alloc, &key, Some(*step))
             .expect(rt, "no refusal");
-        let want = want.map(|change| display::Throughput::new(change, 1_000_000_000));
+        let want = in_one_second(*want);
         assert_same(rt, got, want, *at);
         if *is_kept {
             tracker.keep(rows);
@@ -293,9 +304,6 @@ fn frames_that_are_not_kept_are_taken_back(rt: HostRuntime) {
         &[(9_000_000_000, 90, true, Some(0))],
     );
 }
-
-/// A second in nanoseconds.
-const ONE_SECOND: u64 = 1_000_000_000;
 
 /// The shortest time between two moments of a long run, in nanoseconds.
 const SHORTEST: u64 = 20_000_000;
@@ -339,7 +347,7 @@ fn rate_of(samples: &[(u64, u64)]) -> Option<u64> {
 
 /// A value that rises, and falls now and then.
 fn value_at(turn: u64, number: usize) -> u64 {
-    let pace = 31 + number as u64 % 8;
+    let pace = (number as u64 % 8).wrapping_add(31);
     turn.wrapping_mul(pace) % 10_007
 }
 
@@ -361,8 +369,7 @@ fn watch(
     watched.value = value;
     if turn % 2_500 == 7 {
         let want = rate_of(&watched.samples);
-        let got = got.map(|throughput| throughput.value_change_in_timespan);
-        assert_same(rt, got, want, (turn, watched.samples.len()));
+        assert_same(rt, got, in_one_second(want), turn);
     }
     let kept = tracker.kept_samples(&watched.key);
     assert_same(rt, kept <= (ONE_SECOND / SHORTEST) as usize, true, turn);

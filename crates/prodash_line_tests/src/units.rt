@@ -104,7 +104,10 @@ const TEXTS: &[Line] = &[
 /// The display of a line's value.
 fn display_of(alloc: Global, line: &Line) -> UnitDisplay {
     let (kind, shows, value, bound, throughput, _) = *line;
-    let throughput = throughput.map(|(change, time)| Throughput::new(change, time));
+    let throughput = match throughput {
+        Some((change, time)) => Some(Throughput::new(change, time)),
+        None => None,
+    };
     unit(kind, shows).display(alloc, value, bound, throughput)
 }
 
@@ -162,7 +165,10 @@ const MESSAGES: &[Message] = &[
 
 fn assert_message(rt: &impl Abort, alloc: Global, row: &Message) {
     let (start, now, step, kind, want) = *row;
-    let unit = kind.map(|kind| dynamic(kind));
+    let unit = match kind {
+        Some(kind) => Some(dynamic(kind)),
+        None => None,
+    };
     let text = throughput_message(alloc, start, now, step, unit.as_ref()).expect(rt, "memory");
     assert_same(rt, text.as_str(), want, "message");
 }
@@ -175,15 +181,7 @@ fn throughput_messages(rt: HostRuntime) {
 }
 
 #[test]
-fn units_of_units(rt: HostRuntime) {
-    let mode = Mode::with_throughput();
-    let with_mode = label_and_mode("items", mode);
-    assert_same(&rt, Unit::from("items"), label("items"), "from");
-    assert_same(&rt, dynamic(ITEMS), label("items"), "label");
-    assert_same(&rt, dynamic_and_mode(ITEMS, mode), with_mode, "mode");
-    assert_same(&rt, *label("items").as_display_value(), ITEMS, "kind");
-    let objects = Human::new(Formatter::default(), "objects");
-    assert_same(&rt, Kind::Human(objects), OBJECTS, "human");
+fn default_kinds(rt: HostRuntime) {
     assert_same(&rt, Range::new(""), Range::default(), "range");
     assert_same(&rt, Bytes::default(), Bytes, "bytes");
     assert_same(&rt, Duration::default(), Duration, "duration");

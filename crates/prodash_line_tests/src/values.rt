@@ -1,13 +1,12 @@
 use crate::fixtures::{
-    Progress, ShortRow, assert_ascending, assert_distinct, assert_hashed, assert_same, clones,
-    key_at, message, messages, row, rows,
+    Progress, ShortRow, assert_ascending, assert_debug, assert_distinct, assert_hashed,
+    assert_same, clones, key_at, message, messages, row, rows,
 };
 use prodash_base::messages::{Message, MessageCopyState, MessageLevel, MessageRingBuffer};
 use prodash_base::progress::{Id, Row, State, UNKNOWN, Value};
-use prodash_base::unit::label;
+use prodash_base::unit::{Unit, label};
 use prodash_base::{Refusal, Text};
 use std::alloc::{AllocError, Global};
-use std::fmt::Debug;
 use std::process::Abort;
 
 const STATES: &[State] = &[
@@ -23,7 +22,7 @@ const STATES: &[State] = &[
 ];
 
 #[test]
-fn derived_orders(rt: HostRuntime) {
+fn levels_and_states_are_ordered(rt: HostRuntime) {
     let levels = [
         MessageLevel::Info,
         MessageLevel::Failure,
@@ -31,28 +30,20 @@ fn derived_orders(rt: HostRuntime) {
     ];
     assert_ascending(&rt, &levels);
     assert_ascending(&rt, STATES);
-}
-
-#[test]
-fn states_are_hashed(rt: HostRuntime) {
     assert_hashed(&rt, rt.alloc(), STATES)
 }
 
+/// A fraction needs a bound.
 #[test]
 fn defaults(rt: HostRuntime) {
     assert_same(&rt, UNKNOWN, [0, 0, 0, 0], "identifier");
     assert_same(&rt, State::default(), State::Running, "state");
-    let running = Value {
-        step: 0,
-        done_at: None,
-        unit: None,
-        state: State::Running,
-    };
-    assert_same(&rt, Value::default(), running, "value");
-}
-
-#[test]
-fn fractions_need_a_bound(rt: HostRuntime) {
+    assert_same(
+        &rt,
+        Value::default(),
+        value(0, None, None, State::Running),
+        "value",
+    );
     let mut value = Value::default();
     value.step = 3;
     assert_same(&rt, value.fraction(), None, "no bound");
@@ -84,42 +75,36 @@ fn refusals_have_texts(rt: HostRuntime) {
     );
 }
 
-#[test]
-fn plain_values_differ_by_any_field(rt: HostRuntime) {
-    let refusals = [
-        Refusal::Memory,
-        Refusal::TooManyMessages,
-        Refusal::Gone,
-        Refusal::Closed,
-        Refusal::Broken,
-        Refusal::TooManyHandles,
-        Refusal::NoThread,
-    ];
-    let states = [MessageCopyState::new(0), MessageCopyState::new(1)];
-    assert_distinct(&rt, &refusals, &refusals);
-    assert_distinct(&rt, &states, &states);
+const REFUSALS: &[Refusal] = &[
+    Refusal::Memory,
+    Refusal::TooManyMessages,
+    Refusal::Gone,
+    Refusal::Closed,
+    Refusal::Broken,
+    Refusal::TooManyHandles,
+    Refusal::NoThread,
+];
+
+fn value(step: u64, done_at: Option<u64>, unit: Option<Unit>, state: State) -> Value {
+    Value {
+        step,
+        done_at,
+        unit,
+        state,
+    }
 }
 
 /// Values that differ in one field each.
 fn some_values(rt: &impl Abort, alloc: Global) -> Vec<Value> {
-    let mut values = Vec::new(alloc);
-    for (step, done_at, state) in [
-        (3, Some(10), State::Running),
-        (4, Some(10), State::Running),
-        (3, Some(11), State::Running),
-        (3, None, State::Running),
-        (3, Some(10), State::Halted("a", None)),
-    ] {
-        values
-            .push(Value {
-                step,
-                done_at,
-                unit: None,
-                state,
-            })
-            .expect(rt, "memory");
-    }
-    values
+    vec![in alloc;
+        value(3, Some(10), None, State::Running),
+        value(4, Some(10), None, State::Running),
+        value(3, Some(11), None, State::Running),
+        value(3, None, None, State::Running),
+        value(3, Some(10), None, State::Halted("a", None)),
+        value(3, Some(10), Some(label("items")), State::Running),
+    ]
+    .expect(rt, "memory")
 }
 
 const ROWS: &[(&[u32], &str, Id, Progress)] = &[
@@ -159,73 +144,24 @@ fn some_messages(rt: &impl Abort, alloc: Global) -> Vec<Message> {
     messages
 }
 
+/// Asserts that each value equals its clone, and no other one.
+fn assert_cloned<T: PartialEq + Clone + Drop>(rt: &impl Abort, alloc: Global, values: &[T]) {
+    let copies = clones(alloc, values).expect(rt, "memory");
+    assert_distinct(rt, values, &copies);
+}
+
 #[test]
 fn values_differ_by_any_field(rt: HostRuntime) {
-    let values = some_values(&rt, rt.alloc());
-    assert_distinct(
-        &rt,
-        &values,
-        &clones(rt.alloc(), &values).expect(&rt, "memory"),
-    );
-}
-
-#[test]
-fn rows_differ_by_any_field(rt: HostRuntime) {
-    let rows = some_rows(&rt, rt.alloc());
-    assert_distinct(&rt, &rows, &clones(rt.alloc(), &rows).expect(&rt, "memory"));
-}
-
-#[test]
-fn messages_differ_by_any_field(rt: HostRuntime) {
-    let messages = some_messages(&rt, rt.alloc());
-    assert_distinct(
-        &rt,
-        &messages,
-        &clones(rt.alloc(), &messages).expect(&rt, "memory"),
-    );
-}
-
-#[test]
-fn texts_keep_their_bytes(rt: HostRuntime) {
-    let text = Text::from_str(rt.alloc(), "日本").expect(&rt, "memory");
-    let other = Text::from_str(rt.alloc(), "日").expect(&rt, "memory");
-    let copy = text.clone().expect(&rt, "memory");
-    assert_same(&rt, text.as_str(), "日本", "text");
-    assert_same(&rt, (copy == text, copy == other), (true, false), "copy");
-    assert_same(&rt, Text::new(copy.into_string()), text, "string");
+    let alloc = rt.alloc();
+    let states = [MessageCopyState::new(0), MessageCopyState::new(1)];
+    assert_distinct(&rt, REFUSALS, REFUSALS);
+    assert_distinct(&rt, &states, &states);
+    assert_cloned(&rt, alloc, &some_values(&rt, alloc));
+    assert_cloned(&rt, alloc, &some_rows(&rt, alloc));
+    assert_cloned(&rt, alloc, &some_messages(&rt, alloc));
 }
 
 const LISTED: &[ShortRow] = &[(&[1], "a", Some((3, Some(10)))), (&[2], "b", None)];
-
-#[test]
-fn rows_keep_their_list(rt: HostRuntime) {
-    let snapshot = rows(rt.alloc(), LISTED).expect(&rt, "memory");
-    assert_same(&rt, snapshot.as_slice().len(), 2, "rows");
-    let list = snapshot.into_vec();
-    assert_same(&rt, list.len(), 2, "list");
-    let [a, b] = list.as_slice() else {
-        return;
-    };
-    assert_same(&rt, (a.name.as_str(), b.name.as_str()), ("a", "b"), "names");
-}
-
-#[test]
-fn messages_keep_their_list(rt: HostRuntime) {
-    let copy = messages(rt.alloc(), &[("a", "x"), ("b", "y")]).expect(&rt, "memory");
-    assert_same(&rt, copy.as_slice().len(), 2, "messages");
-    let list = copy.into_vec();
-    assert_same(&rt, list.len(), 2, "list");
-    let [a, b] = list.as_slice() else {
-        return;
-    };
-    let texts = (a.message.as_str(), b.message.as_str());
-    assert_same(&rt, texts, ("x", "y"), "texts");
-}
-
-fn assert_debug<T: Debug>(rt: &impl Abort, alloc: Global, value: &T, want: &str) {
-    let text = format!(in alloc; "{value:?}").expect(rt, "memory");
-    assert_same(rt, text.as_str(), want, "Debug");
-}
 
 #[test]
 fn rings_show_the_messages_that_they_keep(rt: HostRuntime) {
@@ -250,27 +186,24 @@ const ROW_TEXTS: &[(&[u32], Id, Option<(u64, Option<u64>, State)>, &str)] = &[
         r#"Row [0] "task" 3/10 Halted("a", None)"#),
 ];
 
+/// A row of `task` at the key with these numbers.
+fn task(rt: &impl Abort, alloc: Global, numbers: &[u32]) -> Row {
+    row(alloc, key_at(numbers), "task", None).expect(rt, "memory")
+}
+
 #[test]
 fn rows_have_short_debug_texts(rt: HostRuntime) {
     let alloc = rt.alloc();
     for (numbers, id, progress, want) in ROW_TEXTS {
-        let mut row = row(alloc, key_at(numbers), "task", None).expect(&rt, "memory");
+        let mut row = task(&rt, alloc, numbers);
         row.id = *id;
-        row.progress = progress.map(|(step, done_at, state)| Value {
-            step,
-            done_at,
-            unit: None,
-            state,
-        });
+        if let Some((step, done_at, state)) = progress {
+            row.progress = Some(value(*step, *done_at, None, *state));
+        }
         assert_debug(&rt, alloc, &row, want);
     }
-    let mut measured = row(alloc, key_at(&[0]), "task", None).expect(&rt, "memory");
-    measured.progress = Some(Value {
-        step: 3,
-        done_at: None,
-        unit: Some(label("items")),
-        state: State::Running,
-    });
+    let mut measured = task(&rt, alloc, &[0]);
+    measured.progress = Some(value(3, None, Some(label("items")), State::Running));
     let want = r#"Row [0] "task" 3 Unit { kind: Label("items"), mode: None }"#;
     assert_debug(&rt, alloc, &measured, want);
 }
