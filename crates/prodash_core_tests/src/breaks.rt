@@ -1,10 +1,10 @@
 //! Screens that break after each byte of a run, and at each of its flushes.
 use crate::fixtures::{FakeScreen, TERMINAL, assert_same};
-use crate::runs::{MEASURED, RUNS, options};
-use crate::transcripts::{applied, events_of};
+use crate::runs::{MEASURED, RUNS};
+use crate::transcripts::{applied, events_of, new_session, options, ran};
 use prodash_base::Refusal;
-use prodash_core::tree::{Event, Reply, Session, SessionOptions, run};
-use prodash_line::render::line::draw::{self, MemoryScreen, OverWrite, Screen};
+use prodash_core::tree::{Event, Reply, SessionOptions};
+use prodash_line::render::line::draw::{self, MemoryScreen, OverWrite};
 use std::alloc::Global;
 use std::io::{self, Error, ErrorKind, Write};
 use std::process::Abort;
@@ -17,38 +17,33 @@ struct Step {
     end: usize,
 }
 
-/// A run on a screen that doesn't break.
+/// What a session does on a screen that doesn't break.
 #[derive(Drop)]
 struct Whole {
     events: Vec<Event>,
     steps: Vec<Step>,
-    bytes: Vec<u8>,
+    screen: MemoryScreen,
 }
 
 /// Plays a transcript on a screen that doesn't break.
 fn play_whole(rt: &impl Abort, alloc: Global, options: &SessionOptions, transcript: &str) -> Whole {
-    let events = events_of(rt, alloc, transcript);
-    let mut session = Session::new(alloc, options).expect(rt, "no refusal");
+    let events = events_of(rt, alloc, transcript, "\n");
+    let mut session = new_session(rt, alloc, options);
     let mut screen = MemoryScreen::new(alloc, 0).expect(rt, "memory");
     let mut steps = Vec::new(alloc);
     for event in &events {
-        let reply = applied(alloc, &mut session, event, &mut screen);
-        steps
-            .push(Step {
-                is_frame: event.is_frame(),
-                reply,
-                end: screen.bytes().len(),
-            })
-            .expect(rt, "memory");
+        let step = Step {
+            is_frame: event.is_frame(),
+            reply: applied(alloc, &mut session, event, &mut screen),
+            end: screen.bytes().len(),
+        };
+        steps.push(step).expect(rt, "memory");
     }
-    let mut bytes = Vec::new(alloc);
-    bytes
-        .extend_from_slice(screen.bytes())
-        .expect(rt, "no refusal");
+    drop(session);
     Whole {
         events,
         steps,
-        bytes,
+        screen,
     }
 }
 
@@ -63,22 +58,12 @@ fn assert_broken(
     kept: usize,
 ) {
     let broken = Reply::Refused(Refusal::Broken);
-    assert_same(rt, Some(bytes), whole.bytes.get(..taken), kept);
+    assert_same(rt, Some(bytes), whole.screen.bytes().get(..taken), kept);
     assert_same(rt, replies.len(), whole.steps.len(), kept);
     for (reply, step) in replies.iter().zip(whole.steps.iter()) {
         let is_broken = step.is_frame && step.end > kept;
         assert!(rt; *reply == *(if is_broken { &broken } else { &step.reply }));
     }
-}
-
-/// Runs the events on a screen, without a promise about the replies.
-fn ran<S: Screen>(
-    alloc: Global,
-    options: &SessionOptions,
-    events: &[Event],
-    screen: &mut S,
-) -> Result<Vec<Reply>, Refusal> {
-    run(alloc, options, events, screen)
 }
 
 /// A writer that takes a byte at a time, until it has taken or flushed as often as it may.
@@ -111,7 +96,29 @@ impl Write for FailingWriter {
     }
 }
 
-/// Asserts that a run on a screen that takes this many bytes ends as it should.
+/// Asserts that a run over a writer, which may be written and flushed this often, ends as it
+/// should.
+fn assert_over_writer(
+    rt: &impl Abort,
+    alloc: Global,
+    options: &SessionOptions,
+    whole: &Whole,
+    (writes_left, flushes_left, is_full): (usize, usize, bool),
+    (taken, kept): (usize, usize),
+) {
+    let mut screen = OverWrite::new(FailingWriter {
+        bytes: Vec::new(alloc),
+        writes_left,
+        flushes_left,
+        is_full,
+    });
+    let replies = ran(rt, alloc, options, &whole.events, &mut screen);
+    let writer = screen.into_inner();
+    assert_broken(rt, whole, &replies, &writer.bytes, taken, kept);
+}
+
+/// Asserts that a run on a screen that takes this many bytes, or over such a writer, ends as it
+/// should.
 fn assert_breaks_after(
     rt: &impl Abort,
     alloc: Global,
@@ -121,54 +128,27 @@ fn assert_breaks_after(
 ) {
     for at_once in [1, usize::MAX] {
         let mut screen = FakeScreen::new(alloc, at_once, taken, true).expect(rt, "memory");
-        let replies = ran(alloc, options, &whole.events, &mut screen).expect(rt, "no refusal");
+        let replies = ran(rt, alloc, options, &whole.events, &mut screen);
         assert_broken(rt, whole, &replies, &screen.bytes, taken, taken);
     }
     for is_full in [false, true] {
-        let mut screen = OverWrite::new(FailingWriter {
-            bytes: Vec::new(alloc),
-            writes_left: taken,
-            flushes_left: usize::MAX,
-            is_full,
-        });
-        let replies = ran(alloc, options, &whole.events, &mut screen).expect(rt, "no refusal");
-        let writer = screen.into_inner();
-        assert_broken(rt, whole, &replies, &writer.bytes, taken, taken);
+        let writer = (taken, usize::MAX, is_full);
+        assert_over_writer(rt, alloc, options, whole, writer, (taken, taken));
     }
 }
 
-/// Asserts that a run on a screen that breaks at a flush, after this many before it, ends as it
-/// should. The frame that is then flushed has the bytes between `kept` and `taken`.
-fn assert_breaks_at_flush(
-    rt: &impl Abort,
-    alloc: Global,
-    options: &SessionOptions,
-    whole: &Whole,
-    flushes: usize,
-    (kept, taken): (usize, usize),
-) {
-    let mut screen = OverWrite::new(FailingWriter {
-        bytes: Vec::new(alloc),
-        writes_left: usize::MAX,
-        flushes_left: flushes,
-        is_full: false,
-    });
-    let replies = ran(alloc, options, &whole.events, &mut screen).expect(rt, "no refusal");
-    let writer = screen.into_inner();
-    assert_broken(rt, whole, &replies, &writer.bytes, taken, kept);
-}
-
-/// Asserts that runs of a transcript end as they should on screens that break after each byte, and
-/// at each flush.
+/// Asserts that runs of a transcript do what a session does on screens that take all bytes, and end
+/// as they should on screens that break after each byte, and at each flush.
 fn assert_breaks(rt: &impl Abort, alloc: Global, options: &SessionOptions, transcript: &str) {
     let whole = play_whole(rt, alloc, options, transcript);
-    for taken in 0..whole.bytes.len() {
+    for taken in 0..=whole.screen.bytes().len() {
         assert_breaks_after(rt, alloc, options, &whole, taken);
     }
     let (mut flushes, mut kept): (usize, usize) = (0, 0);
     for step in &whole.steps {
         if step.end > kept {
-            assert_breaks_at_flush(rt, alloc, options, &whole, flushes, (kept, step.end));
+            let writer = (usize::MAX, flushes, false);
+            assert_over_writer(rt, alloc, options, &whole, writer, (step.end, kept));
             flushes = flushes.saturating_add(1);
             kept = step.end;
         }

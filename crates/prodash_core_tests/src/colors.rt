@@ -109,11 +109,16 @@ const COLORED_PLAIN_RUNS: &str = r#"# the same without a terminal
 add 0 task; done 1 3723000000000 one; tick 0 -> Drawn
 " \u{1b}[2;32;43m01:02:03\u{1b}[0m \u{1b}[2mtask\u{1b}[0m \u{1b}[1;32mone\u{1b}[0m\n""#;
 
+const RUNS: &[(Options, &str)] = &[
+    (COLORED, COLORED_RUNS),
+    (TIMES, TIMES_RUNS),
+    (COLORED_TIMES, COLORED_TIMES_RUNS),
+    (COLORED_PLAIN, COLORED_PLAIN_RUNS),
+];
+
 #[test]
 fn colors_and_times_have_exact_bytes(rt: HostRuntime) {
-    let alloc = rt.alloc();
-    assert_runs(&rt, alloc, COLORED, COLORED_RUNS);
-    assert_runs(&rt, alloc, TIMES, TIMES_RUNS);
-    assert_runs(&rt, alloc, COLORED_TIMES, COLORED_TIMES_RUNS);
-    assert_runs(&rt, alloc, COLORED_PLAIN, COLORED_PLAIN_RUNS)
+    for (draw, runs) in RUNS {
+        assert_runs(&rt, rt.alloc(), *draw, runs);
+    }
 }

@@ -1,9 +1,7 @@
-use crate::fixtures::{ShortReply, assert_distinct, clones, reply};
-use crate::transcripts::event_of;
-use prodash_base::progress::UNKNOWN;
-use prodash_base::unit::label;
-use prodash_base::{Refusal, Text};
-use prodash_core::tree::{Event, Reply};
+use crate::fixtures::{assert_told_apart, clones};
+use crate::transcripts::{events_of, options, ran_line};
+use prodash_core::tree::Reply;
+use prodash_line::render::line::draw::MemoryScreen;
 use std::alloc::Global;
 use std::process::Abort;
 
@@ -28,13 +26,18 @@ inc 2 1
 inc 1 2
 blocked 1
 blocked 2
+lock 1
+wait 1
 halted 1
 halted 2
+pause 1
+sleep 1
 running 1
 running 2
 add 0 a
 add 1 a
 add 0 b
+child a
 info 1 0 a
 info 2 0 a
 info 1 1 a
@@ -63,88 +66,31 @@ resize 0 30 4
 resize 1 30 4
 resize 0 31 4
 resize 0 30 5
-resize hidden 30 4
+hidden 30 4
 quit 0
 quit 1";
 
-/// These events, and some that have no line.
-fn some_events(rt: &impl Abort, alloc: Global) -> Vec<Event> {
-    let mut events = Vec::new(alloc);
-    for line in EVENTS.lines() {
-        events.push(event_of(rt, alloc, line)).expect(rt, "memory");
-    }
-    for (reason, eta) in [("other", None), ("replay", Some(1))] {
-        let item = 1;
-        events
-            .push(Event::Blocked { item, reason, eta })
-            .expect(rt, "memory");
-        events
-            .push(Event::Halted { item, reason, eta })
-            .expect(rt, "memory");
-    }
-    events
-        .push(Event::AddChild {
-            parent: 0,
-            name: Text::from_str(alloc, "a").expect(rt, "memory"),
-            id: [0, 0, 0, 1],
-        })
-        .expect(rt, "memory");
-    events
-}
+/// Events whose replies differ in their kind or in one field each, and more that reply `Done`.
+const ASKED: &str = "\
+snapshot; messages; new -; add 0 a; add 1 b; tasks?; snapshot; messages; new 1; info 1 0 c; \
+messages; new -; new 1; name? 1; name? 2; child e; id? 2; id? 3; step? 2; set 2 1; step? 2; \
+max? 2; init 2 1 a; max? 2; unit? 2; init 2 2 b; max? 2; unit? 2; unit? 3; tasks?; add 2 f; \
+add 4 g; add 5 h; add 6 i; add 7 j; drop 7; name? 8; hold 0; quit 0; quit 0; drop 7";
 
-const REPLIES: &[ShortReply] = &[
-    ShortReply::Made(1),
-    ShortReply::Made(2),
-    ShortReply::Done,
-    ShortReply::Rows(&[]),
-    ShortReply::Rows(&[(&[1], "a", None)]),
-    ShortReply::Messages(&[]),
-    ShortReply::Messages(&[("a", "b")]),
-    ShortReply::New(&[], 1),
-    ShortReply::New(&[], 2),
-    ShortReply::New(&[("a", "b")], 1),
-    ShortReply::Drawn,
-    ShortReply::Ended,
-    ShortReply::Refused(Refusal::Gone),
-    ShortReply::Refused(Refusal::Closed),
-];
-
-/// Replies to the queries of an item, and of the number of tasks.
-#[rattlefmt::skip]
-fn replies_to_queries(rt: &impl Abort, alloc: Global) -> Vec<Reply> {
-    let a = Text::from_str(alloc, "a").expect(rt, "memory");
-    let b = Text::from_str(alloc, "b").expect(rt, "memory");
-    vec![in alloc;
-        Reply::Bound(None), Reply::Bound(Some(1)), Reply::Bound(Some(2)),
-        Reply::Name(None), Reply::Name(Some(a)), Reply::Name(Some(b)),
-        Reply::Id(UNKNOWN), Reply::Id(*b"TASK"),
-        Reply::Step(1), Reply::Step(2),
-        Reply::Unit(None), Reply::Unit(Some(label("a"))), Reply::Unit(Some(label("b"))),
-        Reply::Count(1), Reply::Count(2),
-    ].expect(rt, "memory")
-}
-
+/// The replies to these.
 fn some_replies(rt: &impl Abort, alloc: Global) -> Vec<Reply> {
-    let mut replies = replies_to_queries(rt, alloc);
-    for short in REPLIES {
-        replies.push(reply(rt, alloc, *short)).expect(rt, "memory");
-    }
-    replies
+    let mut screen = MemoryScreen::new(alloc, 0).expect(rt, "memory");
+    ran_line(rt, alloc, &options(20), ASKED, &mut screen)
 }
 
 /// Events and replies differ by any field, and equal their clones.
 #[test]
 fn events_and_replies_differ_by_any_field(rt: HostRuntime) {
-    let events = some_events(&rt, rt.alloc());
-    assert_distinct(
-        &rt,
-        &events,
-        &clones(rt.alloc(), &events).expect(&rt, "memory"),
-    );
-    let replies = some_replies(&rt, rt.alloc());
-    assert_distinct(
-        &rt,
-        &replies,
-        &clones(rt.alloc(), &replies).expect(&rt, "memory"),
-    );
+    let alloc = rt.alloc();
+    let events = events_of(&rt, alloc, EVENTS, "\n");
+    let copies = clones(alloc, &events).expect(&rt, "memory");
+    assert_told_apart(&rt, alloc, &events, &copies);
+    let replies = some_replies(&rt, alloc);
+    let copies = clones(alloc, &replies).expect(&rt, "memory");
+    assert_told_apart(&rt, alloc, &replies, &copies);
 }

@@ -1,10 +1,5 @@
-//! What the files of tests share: rows, messages and replies in short, and assertions.
-use prodash_base::Refusal;
-use prodash_base::messages::MessageCopyState;
-use prodash_core::tree::Reply;
-pub(crate) use prodash_fixtures::{
-    FakeScreen, ShortMessage, ShortRow, TERMINAL, clones, key_at, messages, row, rows,
-};
+//! What the files of tests share: assertions, and what they take from `prodash_fixtures`.
+pub(crate) use prodash_fixtures::{FakeScreen, TERMINAL, clones, key_at, row};
 use std::alloc::Global;
 use std::fmt::Debug;
 use std::process::Abort;
@@ -19,43 +14,35 @@ where
     assert_eq!(rt; got, want, "of {of:?}");
 }
 
-/// Asserts that each value equals the copy at its index, and no other copy.
-pub(crate) fn assert_distinct<T: PartialEq>(rt: &impl Abort, values: &[T], copies: &[T]) {
+/// The `Debug` text of a value.
+pub(crate) fn shown<T: Debug>(rt: &impl Abort, alloc: Global, value: &T) -> String {
+    format!(in alloc; "{value:?}").expect(rt, "memory")
+}
+
+/// Asserts that a value has this `Debug` text.
+pub(crate) fn assert_shown<T: Debug>(rt: &impl Abort, alloc: Global, value: &T, want: &str) {
+    let got = shown(rt, alloc, value);
+    assert_same(rt, got.as_str(), want, "text");
+}
+
+/// Splits a line of a table at its first arrow.
+pub(crate) fn cells<'a>(rt: &impl Abort, line: &'a str) -> (&'a str, &'a str) {
+    line.split_once(" -> ").expect(rt, "an arrow")
+}
+
+/// Asserts that a value equals the copy at its index, and each other copy that is shown alike, but
+/// no other.
+pub(crate) fn assert_told_apart<T: PartialEq + Debug>(
+    rt: &impl Abort,
+    alloc: Global,
+    values: &[T],
+    copies: &[T],
+) {
     assert_same(rt, values.len(), copies.len(), "lengths");
     for (i, value) in values.iter().enumerate() {
         for (j, copy) in copies.iter().enumerate() {
-            assert_same(rt, value == copy, i == j, (i, j));
+            let want = i == j || shown(rt, alloc, value) == shown(rt, alloc, copy);
+            assert_same(rt, value == copy, want, (i, j));
         }
-    }
-}
-
-/// A reply, in short.
-#[derive(Clone, Copy)]
-pub(crate) enum ShortReply {
-    Made(u64),
-    Done,
-    Rows(&'static [ShortRow]),
-    Messages(&'static [ShortMessage]),
-    New(&'static [ShortMessage], u64),
-    Drawn,
-    Ended,
-    Refused(Refusal),
-}
-
-pub(crate) fn reply(rt: &impl Abort, alloc: Global, short: ShortReply) -> Reply {
-    match short {
-        ShortReply::Made(handle) => Reply::Made(handle),
-        ShortReply::Done => Reply::Done,
-        ShortReply::Rows(list) => Reply::Rows(rows(alloc, list).expect(rt, "memory")),
-        ShortReply::Messages(list) => Reply::Messages(messages(alloc, list).expect(rt, "memory")),
-        ShortReply::New(list, pushed) => {
-            Reply::New(
-                messages(alloc, list).expect(rt, "memory"),
-                MessageCopyState::new(pushed),
-            )
-        }
-        ShortReply::Drawn => Reply::Drawn,
-        ShortReply::Ended => Reply::Ended,
-        ShortReply::Refused(refusal) => Reply::Refused(refusal),
     }
 }

@@ -42,14 +42,20 @@ impl Hashed {
         Ok(())
     }
 
-    fn init(&mut self, key: Key, progress: Option<Value>) -> bool {
-        match self.rows.get_mut(&key) {
-            None => false,
-            Some(row) => {
-                row.progress = progress;
-                true
-            }
-        }
+    fn init(&mut self, key: Key, step: Option<Step>) -> bool {
+        let Some(row) = self.rows.get_mut(&key) else {
+            return false;
+        };
+        row.progress = match step {
+            None => None,
+            Some(step) => Some(Value {
+                step,
+                done_at: Some(step),
+                unit: None,
+                state: State::Running,
+            }),
+        };
+        true
     }
 
     fn set_max(&mut self, key: Key, max: Option<Step>) -> Option<Step> {
@@ -60,13 +66,24 @@ impl Hashed {
         before
     }
 
-    fn rows(&self, alloc: Global) -> Result<Rows, AllocError> {
+    fn rows(&self, rt: &impl Abort, alloc: Global) -> Rows {
         let mut rows = Vec::new(alloc);
-        for row in self.rows.values() {
-            rows.push(row.clone()?)?;
+        for key in self.keys(rt, alloc) {
+            let row = self.rows.get(&key).expect(rt, "a row");
+            rows.push(row.clone().expect(rt, "memory"))
+                .expect(rt, "memory");
         }
-        rows.sort_by(|a, b| a.key.cmp(&b.key))?;
-        Ok(Rows::new(rows))
+        Rows::new(rows)
+    }
+
+    /// Returns the keys, in ascending order.
+    fn keys(&self, rt: &impl Abort, alloc: Global) -> Vec<Key> {
+        let mut keys = Vec::new(alloc);
+        for key in self.rows.keys() {
+            keys.push(*key).expect(rt, "memory");
+        }
+        keys.sort().expect(rt, "memory");
+        keys
     }
 }
 
@@ -90,7 +107,10 @@ impl Both {
     /// Returns one of the latest keys, or the root's a third of the time.
     fn key(&self, word: u64) -> Key {
         let place = (word / 16 % (LATEST + LATEST / 2)) as usize;
-        self.latest.get(place).copied().unwrap_or_default()
+        match self.latest.get(place) {
+            Some(key) => *key,
+            None => Key::default(),
+        }
     }
 
     /// Inserts a child below the latest keys. Every forty-first child gets the first number again,
@@ -133,21 +153,15 @@ impl Both {
 
     /// Begins the progress of a task in both, at a step that is its bound too, or ends it.
     fn init(&mut self, rt: &impl Abort, key: Key, step: Option<Step>) {
-        let (done_at, unit, state) = (step, None, State::Running);
-        let counted = step.map(|counter| Counted {
-            counter,
-            done_at,
-            unit,
-            state,
-        });
-        let value = step.map(|step| Value {
-            step,
-            done_at,
-            unit,
-            state,
-        });
+        let counted = Counted::begin(step.unwrap_or(0), step, None);
         let got = self.ordered.init(key, counted);
-        assert_same(rt, got, self.hashed.init(key, value), step);
+        assert_same(rt, got, self.hashed.init(key, step), step);
+    }
+
+    /// Asserts that both list the same rows.
+    fn assert_listed(&self, rt: &impl Abort, alloc: Global) {
+        let got = self.ordered.rows(alloc, &OwnNumbers).expect(rt, "memory");
+        assert_same(rt, got, self.hashed.rows(rt, alloc), "rows");
     }
 }
 
@@ -174,8 +188,8 @@ fn both_tables_have_the_same_rows_after_70000_calls(rt: HostRuntime) {
             .wrapping_add(1442695040888963407);
         both.call(&rt, alloc, word >> 20);
         if n % LISTED == 0 {
-            let got = both.ordered.rows(alloc, &OwnNumbers).expect(&rt, "memory");
-            assert_same(&rt, got, both.hashed.rows(alloc).expect(&rt, "memory"), n);
+            both.assert_listed(&rt, alloc);
         }
     }
+    drop(both);
 }

@@ -18,16 +18,12 @@ mod fixtures;
 #[cfg(test)]
 mod hashed;
 #[cfg(test)]
-mod level_prefix;
-#[cfg(test)]
 mod options;
 #[cfg(test)]
 mod runs;
 #[cfg(test)]
 mod script_lines;
 #[cfg(test)]
-mod tables;
-#[cfg(test)]
-mod tasks;
-#[cfg(test)]
 mod transcripts;
+#[cfg(test)]
+mod trees;

@@ -1,7 +1,6 @@
-use crate::fixtures::{TERMINAL, assert_same};
-use crate::transcripts::event_of;
-use prodash_base::Refusal;
-use prodash_core::tree::{Event, Reply, RootOptions, SessionOptions, run};
+use crate::fixtures::{TERMINAL, assert_same, cells};
+use crate::transcripts::{options, ran_line};
+use prodash_core::tree::SessionOptions;
 use prodash_line::render::line::draw::{MemoryScreen, Options};
 use std::alloc::Global;
 use std::process::Abort;
@@ -86,7 +85,7 @@ add 0 task; init 1 10 -; set 1 3; tick 0; set 1 4; resize 0 30 4 -> Drawn
 " task 3/10 [=======>-------------------]\n\u{1b}[1A task 3/10 [====>------------]          \n"
 "\u{1b}[1A"
 
-add 0 task; init 1 10 -; set 1 3; tick 0; resize hidden 30 4; tick 0 -> Drawn
+add 0 task; init 1 10 -; set 1 3; tick 0; hidden 30 4; tick 0 -> Drawn
 " task 3/10 [=======>-------------------]\n\u{1b}[1A"
 
 add 0 t; resize 0 30 4; tick 0 -> Drawn
@@ -100,10 +99,10 @@ add 0 t; info 1 0 x; hold 0; resize 0 30 4 -> Drawn
 " t x\n t\n\u{1b}[1A"
 
 # as many origins count as the new size has rows
-add 0 task; add 0 ab; info 1 0 x; hold 0; resize hidden 40 0; info 2 0 y; hold 0 -> Drawn
+add 0 task; add 0 ab; info 1 0 x; hold 0; hidden 40 0; info 2 0 y; hold 0 -> Drawn
 " task x\n ab y\n"
 
-add 0 task; add 0 ab; info 1 0 x; hold 0; resize hidden 40 1; info 2 0 y; hold 0 -> Drawn
+add 0 task; add 0 ab; info 1 0 x; hold 0; hidden 40 1; info 2 0 y; hold 0 -> Drawn
 " task x\n   ab y\n"
 
 quit 0; resize 0 30 4 -> Refused(Closed)
@@ -148,7 +147,7 @@ quit 0 -> Ended
 droproot; hold 0 -> Ended
 "\u{1b}[?25l\u{1b}[?25h\u{1b}[2K\r"
 
-resize hidden 30 4; hold 0 -> Drawn
+hidden 30 4; hold 0 -> Drawn
 "\u{1b}[?25l"
 
 resize 0 30 4; quit 0 -> Ended
@@ -177,77 +176,15 @@ add 0 longer; init 1 9 -; add 1 b; init 2 10 -; set 2 3; tick 0; set 2 4; tick 0
 const FIRST_TWO_RUNS: &str = r#"add 0 a; add 1 b; add 2 c; tick 0 -> Drawn
 " a\n  b\n\u{1b}[2A""#;
 
-/// Runs on a screen, and returns the replies.
-fn run_on(
-    alloc: Global,
-    draw: Options,
-    events: &[Event],
-    screen: &mut MemoryScreen,
-) -> Result<Vec<Reply>, Refusal> {
-    let options = SessionOptions {
-        root: RootOptions::default(),
-        draw,
-        throughput: false,
-    };
-    run(alloc, &options, events, screen)
-}
-
-/// Returns the events of a line, which has `; ` between two of them.
-fn events_of(rt: &impl Abort, alloc: Global, line: &str) -> Vec<Event> {
-    let mut events = Vec::new(alloc);
-    for part in line.split("; ") {
-        events.push(event_of(rt, alloc, part)).expect(rt, "memory");
-    }
-    events
-}
-
-/// Asserts that the last reply is this.
-fn assert_last(rt: &impl Abort, alloc: Global, replies: &[Reply], told: &str, of: &str) {
-    let last = format!(in alloc; "{:?}", replies.last()).expect(rt, "memory");
-    let want = format!(in alloc; "Some({told})").expect(rt, "memory");
-    assert_same(rt, last.as_str(), want.as_str(), of);
-}
-
-/// Asserts that a run replies and draws as its lines say. The first line has its events, ` -> `, and
-/// the reply to the last of them. The others have the bytes of its frames as string literals.
-fn assert_run(rt: &impl Abort, alloc: Global, draw: Options, run: &str) {
-    let (asked, drawn) = run.split_once('\n').expect(rt, "bytes");
-    let (lines, told) = asked.split_once(" -> ").expect(rt, "a reply");
-    let mut screen = MemoryScreen::new(alloc, 0).expect(rt, "memory");
-    assert_replies(rt, alloc, draw, lines, told, &mut screen);
-    assert_bytes(rt, alloc, screen.bytes(), drawn)
-}
-
-/// Runs the events of a line on a screen, and asserts that the last reply is this.
-fn assert_replies(
-    rt: &impl Abort,
-    alloc: Global,
-    draw: Options,
-    line: &str,
-    told: &str,
-    screen: &mut MemoryScreen,
-) {
-    let events = events_of(rt, alloc, line);
-    let replies = run_on(alloc, draw, &events, screen).expect(rt, "no refusal");
-    assert_last(rt, alloc, &replies, told, line)
-}
-
-/// Asserts that bytes are those of string literals, one on each line.
-pub(crate) fn assert_bytes(rt: &impl Abort, alloc: Global, bytes: &[u8], parts: &str) {
-    let mut want = String::new(alloc);
-    for part in parts.lines() {
-        want.push_str(part.trim_matches('"')).expect(rt, "memory");
-    }
-    let bytes = str::from_utf8(bytes).expect(rt, "UTF-8");
-    let got = format!(in alloc; "{bytes:?}").expect(rt, "memory");
-    assert_same(rt, got.as_str().trim_matches('"'), want.as_str(), parts);
-}
-
 /// Asserts that runs with these options reply and draw as their lines say. An empty line separates
 /// two runs. A line with `#` above a run says what it and those after it show.
 pub(crate) fn assert_runs(rt: &impl Abort, alloc: Global, draw: Options, runs: &str) {
+    let options = SessionOptions {
+        draw,
+        ..options(20)
+    };
     for run in runs.split("\n\n") {
-        assert_run(rt, alloc, draw, without_comment(run));
+        assert_run(rt, alloc, &options, without_comment(run));
     }
 }
 
@@ -257,6 +194,25 @@ fn without_comment(run: &str) -> &str {
         Some((comment, rest)) if comment.starts_with('#') => rest,
         _ => run,
     }
+}
+
+/// Asserts that a run replies and draws as its lines say. The first line has its events, with `; `
+/// between two of them, ` -> `, and the reply to the last of them. The others have the bytes of its
+/// frames as string literals.
+fn assert_run(rt: &impl Abort, alloc: Global, options: &SessionOptions, run: &str) {
+    let (asked, _) = cells(rt, run);
+    let got = outcome(rt, alloc, options, asked);
+    let want = run.replace(alloc, "\"\n\"", "").expect(rt, "memory");
+    assert_same(rt, got.as_str(), want.as_str(), "run");
+}
+
+/// Runs the events of a line, and returns what a run with this line should say.
+fn outcome(rt: &impl Abort, alloc: Global, options: &SessionOptions, asked: &str) -> String {
+    let mut screen = MemoryScreen::new(alloc, 0).expect(rt, "memory");
+    let replies = ran_line(rt, alloc, options, asked, &mut screen);
+    let last = replies.last().expect(rt, "a reply");
+    let bytes = str::from_utf8(screen.bytes()).expect(rt, "UTF-8");
+    format!(in alloc; "{asked} -> {last:?}\n{bytes:?}").expect(rt, "memory")
 }
 
 const RUNS: &[(Options, &str)] = &[

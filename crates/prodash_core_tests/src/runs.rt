@@ -1,7 +1,9 @@
-use crate::fixtures::{FakeScreen, TERMINAL, assert_same};
-use crate::options::assert_bytes;
-use crate::transcripts::{assert_session, events_of};
-use prodash_core::tree::{Reply, RootOptions, Session, SessionOptions, run};
+//! Sessions and runs.
+use crate::fixtures::{FakeScreen, assert_same, assert_shown};
+use crate::transcripts::{
+    applied, assert_session, event_of, new_session, options, outcome, ran_line,
+};
+use prodash_core::tree::{Event, Session, SessionOptions};
 use prodash_line::render::line::draw::MemoryScreen;
 use std::alloc::Global;
 use std::process::Abort;
@@ -60,21 +62,57 @@ messages -> Messages(Messages [Message 0 Info "a" "x", Message 0 Info "a" "y"])
 new - -> New(Messages [Message 0 Info "a" "x", Message 0 Info "a" "y"], MessageCopyState { seen: 2 })
 new 1 -> New(Messages [Message 0 Info "a" "y"], MessageCopyState { seen: 2 })
 new 9 -> New(Messages [], MessageCopyState { seen: 2 })"#,
-    // handles that were not made, that were dropped, and the root's
-    "set 1 3 -> Refused(Gone)
+    // handles that were not made, the root's, and one that was dropped
+    "add 1 below -> Refused(Gone)
+set 1 3 -> Refused(Gone)
 init 1 10 - -> Refused(Gone)
-add 1 below -> Refused(Gone)
-set 0 3 -> Refused(Gone)
-init 0 10 - -> Refused(Gone)
-info 0 0 x -> Refused(Gone)
 add 0 a -> Made(1)
-set 2 1 -> Refused(Gone)
 drop 2 -> Refused(Gone)
+init 2 1 - -> Refused(Gone)
+name 2 b -> Refused(Gone)
+max 2 1 -> Refused(Gone)
+set 2 1 -> Refused(Gone)
+inc 2 1 -> Refused(Gone)
+blocked 2 -> Refused(Gone)
+halted 2 -> Refused(Gone)
+running 2 -> Refused(Gone)
+info 2 0 x -> Refused(Gone)
+name? 2 -> Refused(Gone)
+id? 2 -> Refused(Gone)
+step? 2 -> Refused(Gone)
+max? 2 -> Refused(Gone)
+unit? 2 -> Refused(Gone)
 drop 0 -> Refused(Gone)
+init 0 1 - -> Refused(Gone)
+name 0 b -> Refused(Gone)
+max 0 1 -> Refused(Gone)
+set 0 1 -> Refused(Gone)
+inc 0 1 -> Refused(Gone)
+blocked 0 -> Refused(Gone)
+halted 0 -> Refused(Gone)
+running 0 -> Refused(Gone)
+info 0 0 x -> Refused(Gone)
+name? 0 -> Refused(Gone)
+id? 0 -> Refused(Gone)
+step? 0 -> Refused(Gone)
+max? 0 -> Refused(Gone)
+unit? 0 -> Refused(Gone)
 drop 1 -> Done
 drop 1 -> Refused(Gone)
-set 1 3 -> Refused(Gone)
+init 1 1 - -> Refused(Gone)
+name 1 b -> Refused(Gone)
+max 1 1 -> Refused(Gone)
+set 1 1 -> Refused(Gone)
+inc 1 1 -> Refused(Gone)
+blocked 1 -> Refused(Gone)
+halted 1 -> Refused(Gone)
+running 1 -> Refused(Gone)
 info 1 0 x -> Refused(Gone)
+name? 1 -> Refused(Gone)
+id? 1 -> Refused(Gone)
+step? 1 -> Refused(Gone)
+max? 1 -> Refused(Gone)
+unit? 1 -> Refused(Gone)
 add 1 below -> Refused(Gone)",
     // without a root the renderer closes, and prints no message that no tick has seen; items go on
     r#"add 0 a -> Made(1)
@@ -104,6 +142,87 @@ set 1 3 -> Done
 snapshot -> Rows(Rows [Row [0] "a"])"#,
 ];
 
+/// What events make of tasks.
+const TASKS: &[&str] = &[
+    // what events make of an item without progress, of one with it, and once the root is dropped
+    r#"tasks? -> Count(0)
+child a -> Made(1)
+set 1 18446744073709551615 -> Done
+inc 1 2 -> Done
+step? 1 -> Step(1)
+max 1 7 -> Bound(None)
+max? 1 -> Bound(None)
+unit? 1 -> Unit(None)
+pause 1 -> Done
+snapshot -> Rows(Rows [Row [0] "a" id [1, 2, 3, 4]])
+init 1 10 - -> Done
+inc 1 3 -> Done
+step? 1 -> Step(3)
+max? 1 -> Bound(Some(10))
+max 1 7 -> Bound(Some(10))
+max 1 - -> Bound(Some(7))
+max 1 8 -> Bound(None)
+lock 1 -> Done
+snapshot -> Rows(Rows [Row [0] "a" id [1, 2, 3, 4] 3/8 Blocked("lock", None)])
+wait 1 -> Done
+snapshot -> Rows(Rows [Row [0] "a" id [1, 2, 3, 4] 3/8 Blocked("replay", Some(7))])
+pause 1 -> Done
+snapshot -> Rows(Rows [Row [0] "a" id [1, 2, 3, 4] 3/8 Halted("pause", None)])
+sleep 1 -> Done
+snapshot -> Rows(Rows [Row [0] "a" id [1, 2, 3, 4] 3/8 Halted("replay", Some(7))])
+running 1 -> Done
+name 1 b -> Done
+snapshot -> Rows(Rows [Row [0] "b" id [1, 2, 3, 4] 3/8])
+name? 1 -> Name(Some("b"))
+id? 1 -> Id([1, 2, 3, 4])
+tasks? -> Count(1)
+droproot -> Done
+tasks? -> Refused(Gone)
+name? 1 -> Name(Some("b"))
+inc 1 1 -> Done
+step? 1 -> Step(4)
+init 1 - bytes -> Done
+unit? 1 -> Unit(Some(Unit { kind: Bytes(Bytes), mode: None }))"#,
+    // units with a percentage and a throughput, before the value and after the unit
+    r#"add 0 a -> Made(1)
+init 1 - a%/s -> Done
+unit? 1 -> Unit(Some(Unit { kind: Label("a"), mode: Some(Mode { location: AfterUnit, percentage: true, throughput: true }) }))
+init 1 - /sa -> Done
+unit? 1 -> Unit(Some(Unit { kind: Label("a"), mode: Some(Mode { location: BeforeValue, percentage: false, throughput: true }) }))
+init 1 - %/sa -> Done
+unit? 1 -> Unit(Some(Unit { kind: Label("a"), mode: Some(Mode { location: BeforeValue, percentage: true, throughput: true }) }))"#,
+    // a child of the sixth level takes the place of its parent, and loses its entry with it
+    r#"add 0 a -> Made(1)
+add 1 b -> Made(2)
+add 2 c -> Made(3)
+add 3 d -> Made(4)
+add 4 e -> Made(5)
+add 5 parent -> Made(6)
+tasks? -> Count(6)
+add 6 child -> Made(7)
+tasks? -> Count(6)
+name? 6 -> Name(Some("child"))
+name? 7 -> Name(Some("child"))
+drop 1 -> Done
+drop 2 -> Done
+drop 3 -> Done
+drop 4 -> Done
+snapshot -> Rows(Rows [Row [0, 0, 0, 0, 0] "e", Row [0, 0, 0, 0, 0, 0] "child"])
+drop 6 -> Done
+tasks? -> Count(1)
+name? 7 -> Name(None)
+id? 7 -> Id([0, 0, 0, 0])
+set 7 5 -> Done
+init 7 10 - -> Done
+max 7 10 -> Bound(None)
+name 7 Z -> Done
+running 7 -> Done
+name? 7 -> Name(None)
+max? 7 -> Bound(None)
+step? 7 -> Step(5)
+tasks? -> Count(1)"#,
+];
+
 /// With a ring of two messages.
 const LATEST: &str = r#"add 0 a -> Made(1)
 info 1 0 x -> Done
@@ -124,37 +243,9 @@ tick 1200000000 -> Drawn -> " t 30/100 items [======>---------------]\n\u{1b}[1A
 set 1 50 -> Done
 tick 1600000000 -> Drawn -> " t 50/100 items |33/s| [=======>-------]\n\u{1b}[1A""#;
 
-/// On a screen that breaks once it has taken five bytes.
-const BREAKS: &str = r#"add 0 task -> Made(1)
-init 1 10 - -> Done
-set 1 3 -> Done
-tick 0 -> Refused(Broken) -> " task"
-tick 0 -> Refused(Broken)
-step? 1 -> Step(3)"#;
-
-/// 40 columns, and room for this many messages.
-pub(crate) fn options(message_buffer_capacity: usize) -> SessionOptions {
-    SessionOptions {
-        root: RootOptions {
-            message_buffer_capacity,
-            ..RootOptions::default()
-        },
-        draw: TERMINAL,
-        throughput: false,
-    }
-}
-
-/// Asserts that a new session that keeps this many messages replies and draws as in a transcript.
-fn assert_new_session(
-    rt: &impl Abort,
-    alloc: Global,
-    message_buffer_capacity: usize,
-    transcript: &str,
-) {
-    let mut session = Session::new(alloc, &options(message_buffer_capacity)).expect(
-        rt,
-        "no refusal",
-    );
+/// Asserts that a new session replies and draws as in a transcript.
+fn assert_new_session(rt: &impl Abort, alloc: Global, options: &SessionOptions, transcript: &str) {
+    let mut session = new_session(rt, alloc, options);
     assert_session(rt, alloc, &mut session, transcript);
     drop(session);
 }
@@ -162,105 +253,76 @@ fn assert_new_session(
 #[test]
 fn sessions_have_replies_and_frames(rt: HostRuntime) {
     for transcript in RUNS {
-        assert_new_session(&rt, rt.alloc(), 20, transcript);
+        assert_new_session(&rt, rt.alloc(), &options(20), transcript);
     }
-    assert_new_session(&rt, rt.alloc(), 2, LATEST)
+    for transcript in TASKS {
+        assert_new_session(&rt, rt.alloc(), &options(20), transcript);
+    }
+    assert_new_session(&rt, rt.alloc(), &options(2), LATEST)
 }
 
 #[test]
 fn frames_show_throughput(rt: HostRuntime) {
-    let alloc = rt.alloc();
     let options = SessionOptions {
         throughput: true,
         ..options(20)
     };
-    let mut session = Session::new(alloc, &options).expect(&rt, "no refusal");
-    assert_session(&rt, alloc, &mut session, MEASURED);
+    assert_new_session(&rt, rt.alloc(), &options, MEASURED)
+}
+
+/// What comes after the first child of the root and 65535 others.
+const AFTER_ALL: &str = r#"add 0 Z -> Made(65537)
+name? 1 -> Name(Some("A"))
+tasks? -> Count(65537)
+drop 1 -> Done
+tasks? -> Count(65536)
+name? 65537 -> Name(Some("Z"))
+init 65537 1 - -> Done
+max? 65537 -> Bound(Some(1))"#;
+
+/// Applies an event that writes nothing, whatever the reply.
+fn apply(alloc: Global, session: &mut Session, event: &Event, screen: &mut MemoryScreen) {
+    applied(alloc, session, event, screen);
+}
+
+/// Adds 65535 children to the root.
+fn add_children(rt: &impl Abort, alloc: Global, session: &mut Session) {
+    let mut screen = MemoryScreen::new(alloc, 0).expect(rt, "memory");
+    let child = event_of(rt, alloc, "add 0 a");
+    for _ in 0..65535 {
+        apply(alloc, session, &child, &mut screen);
+    }
+}
+
+/// Asserts that the last row is that of the 65537th child of the root, which has got a progress.
+fn assert_last_row(rt: &impl Abort, alloc: Global, session: &mut Session) {
+    let event = event_of(rt, alloc, "snapshot");
+    let got = outcome(rt, alloc, session, &event);
+    let has_row = got.as_str().contains(r#", Row [65536] "Z" 0/1])"#);
+    assert_same(rt, has_row, true, "last row");
+}
+
+#[test]
+fn the_child_after_65536_has_a_place_of_its_own(rt: HostRuntime) {
+    let mut session = new_session(&rt, rt.alloc(), &options(20));
+    assert_session(&rt, rt.alloc(), &mut session, "add 0 A -> Made(1)");
+    add_children(&rt, rt.alloc(), &mut session);
+    assert_session(&rt, rt.alloc(), &mut session, AFTER_ALL);
+    assert_last_row(&rt, rt.alloc(), &mut session);
     drop(session);
 }
 
-/// Splits what a line has after its event into the reply and the frame, which may be empty.
-fn outcome_of(line: &str) -> Option<(&str, &str)> {
-    let (_, outcome) = line.split_once(" -> ")?;
-    Some(outcome.split_once(" -> ").unwrap_or((outcome, "")))
-}
+/// Events on a screen that breaks once it has taken five bytes.
+const BREAKS: &str = "add 0 task; init 1 10 -; set 1 3; tick 0; tick 0; step? 1; snapshot";
 
-/// Returns the replies of a transcript, one on each line.
-fn replies_of(rt: &impl Abort, alloc: Global, transcript: &str) -> String {
-    let mut replies = String::new(alloc);
-    for line in transcript.lines() {
-        let (reply, _) = outcome_of(line).expect(rt, "a reply");
-        replies.push_str(reply).expect(rt, "memory");
-        replies.push('\n').expect(rt, "memory");
-    }
-    replies
-}
-
-/// Returns the frames of a transcript, one on each line.
-fn frames_of(rt: &impl Abort, alloc: Global, transcript: &str) -> String {
-    let mut frames = String::new(alloc);
-    for line in transcript.lines() {
-        let (_, frame) = outcome_of(line).expect(rt, "a reply");
-        frames.push_str(frame).expect(rt, "memory");
-        frames.push('\n').expect(rt, "memory");
-    }
-    frames
-}
-
-/// Returns replies as `Debug` writes them, one on each line.
-fn shown(rt: &impl Abort, alloc: Global, replies: &[Reply]) -> String {
-    let mut shown = String::new(alloc);
-    for reply in replies {
-        let line = format!(in alloc; "{reply:?}\n").expect(rt, "memory");
-        shown.push_str(line.as_str()).expect(rt, "memory");
-    }
-    shown
-}
-
-/// Asserts that replies are those of a transcript.
-fn assert_replies(rt: &impl Abort, alloc: Global, transcript: &str, replies: &[Reply]) {
-    let told = replies_of(rt, alloc, transcript);
-    let got = shown(rt, alloc, replies);
-    assert_same(rt, got.as_str(), told.as_str(), transcript);
-}
-
-/// Asserts that a run on a screen, which has these bytes after it, has the replies and bytes of a
-/// transcript.
-fn assert_ran(rt: &impl Abort, alloc: Global, transcript: &str, replies: &[Reply], bytes: &[u8]) {
-    assert_replies(rt, alloc, transcript, replies);
-    let drawn = frames_of(rt, alloc, transcript);
-    assert_bytes(rt, alloc, bytes, drawn.as_str())
-}
-
-/// Asserts that a run has the replies and bytes of a transcript.
-fn assert_run(rt: &impl Abort, alloc: Global, options: &SessionOptions, transcript: &str) {
-    let events = events_of(rt, alloc, transcript);
-    let mut screen = MemoryScreen::new(alloc, 0).expect(rt, "memory");
-    let replies = run(alloc, options, &events, &mut screen).expect(rt, "no refusal");
-    assert_ran(rt, alloc, transcript, &replies, screen.bytes());
-    drop(replies);
-    drop(screen);
-    drop(events);
-}
-
-#[test]
-fn runs_have_replies_and_bytes(rt: HostRuntime) {
-    for transcript in RUNS {
-        assert_run(&rt, rt.alloc(), &options(20), transcript);
-    }
-    assert_run(&rt, rt.alloc(), &options(2), LATEST)
-}
+/// The replies to them.
+const BROKEN: &str = "[Made(1), Done, Done, Refused(Broken), Refused(Broken), Step(3), \
+Rows(Rows [Row [0] \"task\" 3/10])]";
 
 #[test]
 fn a_broken_screen_leaves_the_tree(rt: HostRuntime) {
-    let alloc = rt.alloc();
-    let mut screen = FakeScreen::new(alloc, 200, 5, true).expect(&rt, "memory");
-    let replies = run(
-        alloc,
-        &options(20),
-        &events_of(&rt, alloc, BREAKS),
-        &mut screen,
-    )
-    .expect(&rt, "no refusal");
-    assert_ran(&rt, alloc, BREAKS, &replies, &screen.bytes)
+    let mut screen = FakeScreen::new(rt.alloc(), 200, 5, true).expect(&rt, "memory");
+    let replies = ran_line(&rt, rt.alloc(), &options(20), BREAKS, &mut screen);
+    assert_shown(&rt, rt.alloc(), &replies, BROKEN);
+    assert_same(&rt, screen.bytes.as_slice(), b" task", "bytes");
 }

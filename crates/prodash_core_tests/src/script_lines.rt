@@ -1,16 +1,12 @@
 //! Lines of events: a table has a line, `->`, and what it is read as.
-use crate::fixtures::assert_same;
-use prodash_base::unit::display::Throughput;
-use prodash_base::unit::label;
-use prodash_core::tree::Event;
+use crate::fixtures::{assert_same, assert_shown, cells};
+use crate::transcripts::event_of;
 use prodash_script::{
     LIMIT, Labels, Lines, Names, Next, Request, mistake_in, parse, request_of, to_line,
 };
 use std::alloc::Global;
-use std::fmt::Write;
 use std::io::{self, Error, ErrorKind, Read};
 use std::process::Abort;
-use std::str;
 
 const EVENTS: &str = r#"drop 2 -> Some(Drop { item: 2 })
 add 3 a b -> Some(AddChild { parent: 3, name: "a b", id: [0, 0, 0, 0] })
@@ -54,15 +50,16 @@ quit 5 -> Some(Quit { at: 5 })
 
 fn assert_event(rt: &impl Abort, alloc: Global, line: &str, want: &str) {
     let event = parse(alloc, &mut Labels::new(alloc), line).expect(rt, "memory");
-    let got = format!(in alloc; "{event:?}").expect(rt, "memory");
-    assert_same(rt, got.as_str(), want, line);
+    assert_shown(rt, alloc, &event, want)
 }
 
+/// Lines that ask for nothing are those that have a mistake.
 #[test]
 fn reads_events(rt: HostRuntime) {
     for row in EVENTS.lines() {
-        let (line, want) = row.split_once(" -> ").expect(&rt, "an event");
+        let (line, want) = cells(&rt, row);
         assert_event(&rt, rt.alloc(), line, want);
+        assert_mistake(&rt, rt.alloc(), line);
     }
     assert_event(&rt, rt.alloc(), "droproot\r", "None");
 }
@@ -109,32 +106,11 @@ const LINES: &[&str] = &[
 
 #[test]
 fn writes_the_lines_that_it_reads(rt: HostRuntime) {
-    let mut labels = Labels::new(rt.alloc());
     for line in LINES {
-        let event = parse(rt.alloc(), &mut labels, line)
-            .expect(&rt, "memory")
-            .expect(&rt, "an event");
-        let written = to_line(rt.alloc(), &event)
-            .expect(&rt, "memory")
-            .expect(&rt, "a line");
+        let event = event_of(&rt, rt.alloc(), line);
+        let written = to_line(rt.alloc(), &event).expect(&rt, "memory");
+        let written = written.expect(&rt, "a line");
         assert_same(&rt, written.as_str(), *line, "written");
-    }
-}
-
-#[test]
-fn writes_no_line_for_a_unit_without_a_word(rt: HostRuntime) {
-    for name in ["", "-", "a b", "a%", "steps"] {
-        let event = Event::Init {
-            item: 1,
-            max: None,
-            unit: Some(label(name)),
-        };
-        assert_same(
-            &rt,
-            to_line(rt.alloc(), &event).expect(&rt, "memory").is_none(),
-            true,
-            name,
-        );
     }
 }
 
@@ -149,18 +125,13 @@ fn asked(rt: &impl Abort, alloc: Global, line: &[u8]) -> Request {
 
 fn assert_request(rt: &impl Abort, alloc: Global, line: &[u8], want: &str) {
     let request = asked(rt, alloc, line);
-    let got = format!(in alloc; "{request:?}").expect(rt, "memory");
-    assert_same(rt, got.as_str(), want, want);
+    assert_shown(rt, alloc, &request, want)
 }
 
-/// Lines have a mistake exactly if they ask for nothing.
-#[test]
-fn finds_a_mistake_in_each_line_that_asks_for_nothing(rt: HostRuntime) {
-    for row in EVENTS.lines().chain(REQUESTS.lines()) {
-        let (line, _) = row.split_once(" -> ").expect(&rt, "a line");
-        let asks = !matches!(asked(&rt, rt.alloc(), line.as_bytes()), Request::Fault);
-        assert_same(&rt, mistake_in(line).is_none(), asks, line);
-    }
+/// Asserts that a line has a mistake exactly if it asks for nothing.
+fn assert_mistake(rt: &impl Abort, alloc: Global, line: &str) {
+    let asks = !matches!(asked(rt, alloc, line.as_bytes()), Request::Fault);
+    assert_same(rt, mistake_in(line).is_none(), asks, line);
 }
 
 const REQUESTS: &str = r#"set @a 3 -> Apply(Set { item: 7, step: 3 })
@@ -184,92 +155,31 @@ quit - -> Fault
 #[test]
 fn reads_requests(rt: HostRuntime) {
     for row in REQUESTS.lines() {
-        let (line, want) = row.split_once(" -> ").expect(&rt, "a request");
+        let (line, want) = cells(&rt, row);
         assert_request(&rt, rt.alloc(), line.as_bytes(), want);
+        assert_mistake(&rt, rt.alloc(), line);
     }
     // not UTF-8
     assert_request(&rt, rt.alloc(), b"set @a \xff", "Fault");
 }
 
-/// Words of units, and a value of 3 of 10 with 5 in a second as it is shown in them.
-const UNITS: &str = r#"files -> 3/10 files
-files% -> 3/10 files [30%]
-files/s -> 3/10 files |5/s|
-files%/s -> 3/10 files [30%] |5/s|
-%files -> [30%] 3/10 files
-/sfiles -> |5/s| 3/10 files
-%/sfiles -> [30%] |5/s| 3/10 files
-steps% -> 4 of 10 steps [30%]
-bytes/s -> 3B/10B |5B/s|
-%duration -> [30%] 3s of 10s
-objects%/s -> 3/10 objects [30%] |5/s|
-- ->
-% ->
--% ->
-a%b ->
-a/b ->
-%a% ->
-%%a ->
-a b ->
- ->
-"#;
-
-/// What a value is shown as in the unit that a word names, with its unit in a space.
-fn shown(rt: &impl Abort, alloc: Global, labels: &mut Labels, word: &str) -> String {
-    let mut text = String::new(alloc);
-    if let Some(Some(unit)) = labels.unit_of(alloc, word).expect(rt, "no refusal") {
-        let throughput = Throughput::new(5, 1_000_000_000);
-        let display = unit.display(alloc, 3, Some(10), Some(throughput));
-        text.push(' ').expect(rt, "memory");
-        display.append_to(&mut text).expect(rt, "memory");
-    }
-    text
-}
-
-#[test]
-fn reads_units(rt: HostRuntime) {
-    let mut labels = Labels::new(rt.alloc());
-    for row in UNITS.lines() {
-        let (word, want) = row.split_once(" ->").expect(&rt, "a unit");
-        let got = shown(&rt, rt.alloc(), &mut labels, word);
-        assert_same(&rt, got.as_str(), want, word);
-    }
-}
-
-/// Lines, and what is expected in place of their first mistake, and what is there.
-const MISTAKES: &str = r#"set @a 3 -> None
-init @a 10 -> None
-size 40 4 -> None
-set @a x -> Some(Mistake { expected: Number, word: Some("x") })
-set @a -> Some(Mistake { expected: Number, word: None })
-add @b x y -> Some(Mistake { expected: Handle, word: Some("x") })
-"#;
-
-#[test]
-fn tells_mistakes(rt: HostRuntime) {
-    for row in MISTAKES.lines() {
-        let (line, want) = row.split_once(" -> ").expect(&rt, "a mistake");
-        let got = format!(in rt.alloc(); "{:?}", mistake_in(line)).expect(&rt, "memory");
-        assert_same(&rt, got.as_str(), want, line);
-    }
-}
-
 /// Asserts that a stream gives these in turn: of a line its text.
 fn assert_lines<I: Read + Drop>(rt: &impl Abort, alloc: Global, stream: I, want: &str) {
     let mut lines = Lines::new(alloc, stream);
-    let mut got = String::new(alloc);
-    for _ in 0..3 {
-        match lines.advance().expect(rt, "a read") {
-            Next::Line => writeln!(
-                got,
-                "Line {}",
-                str::from_utf8(lines.line()).expect(rt, "UTF-8")
-            )
-            .expect(rt, "memory"),
-            next => writeln!(got, "{next:?}").expect(rt, "memory"),
-        }
+    for told in want.lines() {
+        assert_next(rt, alloc, &mut lines, told);
     }
-    assert_same(rt, got.as_str(), want, "lines");
+}
+
+/// Asserts that this is next: of a line its text.
+fn assert_next<I: Read + Drop>(rt: &impl Abort, alloc: Global, lines: &mut Lines<I>, told: &str) {
+    let next = lines.advance().expect(rt, "a read");
+    if next == Next::Line {
+        let line = told.strip_prefix("Line ").expect(rt, "a line");
+        assert_same(rt, lines.line(), line.as_bytes(), told);
+    } else {
+        assert_shown(rt, alloc, &next, told);
+    }
 }
 
 /// A stream of which a call reads at most `size` bytes.
@@ -287,19 +197,19 @@ impl Read for Pieces {
 }
 
 /// Streams, and what they give.
-const STREAMS: &[[&'static str; 2]] = &[
-    ["", "End\nEnd\nEnd\n"],
-    ["\n", "Line \nEnd\nEnd\n"],
-    ["a", "CutOff\nEnd\nEnd\n"],
-    ["a\nb", "Line a\nCutOff\nEnd\n"],
-    ["a\nb\n", "Line a\nLine b\nEnd\n"],
-    ["ab\ncd\ne", "Line ab\nLine cd\nCutOff\n"],
-    ["a\nb\ncd\n", "Line a\nLine b\nLine cd\n"],
+const STREAMS: &[(&str, &str)] = &[
+    ("", "End\nEnd\nEnd\n"),
+    ("\n", "Line \nEnd\nEnd\n"),
+    ("a", "CutOff\nEnd\nEnd\n"),
+    ("a\nb", "Line a\nCutOff\nEnd\n"),
+    ("a\nb\n", "Line a\nLine b\nEnd\n"),
+    ("ab\ncd\ne", "Line ab\nLine cd\nCutOff\n"),
+    ("a\nb\ncd\n", "Line a\nLine b\nLine cd\n"),
 ];
 
 #[test]
 fn tells_a_last_line_that_is_cut_off(rt: HostRuntime) {
-    for [stream, want] in STREAMS {
+    for (stream, want) in STREAMS {
         for size in 1..6 {
             let left = stream.as_bytes();
             assert_lines(&rt, rt.alloc(), Pieces { left, size }, want);
@@ -361,13 +271,10 @@ impl Read for Interrupted {
 
 #[test]
 fn goes_on_after_a_read_that_is_interrupted(rt: HostRuntime) {
-    let mut lines = Lines::new(rt.alloc(), Interrupted { reads: 0 });
-    assert_same(
+    assert_lines(
         &rt,
-        lines.advance().expect(&rt, "a read"),
-        Next::Line,
-        "line",
-    );
-    assert_same(&rt, lines.line(), b"a", "bytes");
-    assert_same(&rt, lines.advance().expect(&rt, "a read"), Next::End, "end");
+        rt.alloc(),
+        Interrupted { reads: 0 },
+        "Line a\nEnd\nEnd\n",
+    )
 }
