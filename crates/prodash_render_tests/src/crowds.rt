@@ -1,20 +1,13 @@
 //! Many threads that work below one tree while it is drawn, and many renderers of one tree.
-use crate::engine::{assert_ended, make_collecting, options};
-use crate::fixtures::assert_same;
-use crate::stacks::Counting;
-use crate::waiting::{SteppedClock, is_so_soon};
-use prodash::Refusal;
-use prodash::render::line::{JoinHandle, render};
-use prodash::time::SystemClock;
+use crate::engine::{CLOSING_WIDE, assert_ended, assert_frames, make_collecting};
+use crate::fixtures::{Host, TASK_FRAME, assert_same, downgrade, make_tree, share};
+use crate::waiting::SteppedClock;
+use prodash::render::line::JoinHandle;
 use prodash::tree::Root as TreeRoot;
 use prodash::tree::root::Options;
 use std::alloc::Global;
-use std::process::Abort;
-use std::rt;
-use std::sync::atomic::{AtomicU64, Ordering};
-use std::sync::{Arc, Wait};
-use std::test::*;
-use std::thread::{self, Threads};
+use std::sync::Arc;
+use std::thread;
 use std::time::Duration;
 
 /// The number of threads.
@@ -27,40 +20,36 @@ const TASKS: usize = 100;
 const RENDERERS: usize = 1000;
 
 /// Adds tasks, sends the message `done!` of each, lets the ticker go on, and drops the task.
-fn work<R: Wait + rt::Clock + Clone + Drop>(
-    alloc: Global,
-    root: &TreeRoot<R>,
-    clock: &SteppedClock<R>,
-) -> Result<(), Refusal> {
+fn work<R: Host>(rt: &R, alloc: Global, root: &TreeRoot<R>, clock: &SteppedClock<R>) {
     for _ in 0..TASKS {
-        let mut task = root.add_child(alloc, "task")?;
+        let mut task = root.add_child(alloc, "task").expect(rt, "no refusal");
         task.init(Some(1), None);
         task.inc();
-        task.info(alloc, 0, "done!")?;
+        task.info(alloc, 0, "done!").expect(rt, "no refusal");
         clock.end_next();
     }
-    Ok(())
 }
 
 /// Starts the threads.
-fn start<R: Wait + Threads + Abort + rt::Clock + Clone + Drop + Send + Sync + 'static>(
+fn start_crowd<R: Host>(
     rt: &R,
     alloc: Global,
     root: &TreeRoot<R>,
     clock: &Arc<SteppedClock<R>>,
-) -> Vec<thread::JoinHandle<Result<(), Refusal>>> {
+) -> Vec<thread::JoinHandle<()>> {
     let mut running = Vec::new(alloc);
     for _ in 0..THREADS {
-        let root = root.clone().expect(rt, "no refusal");
-        let clock = Arc::try_clone(clock).expect(rt, "memory");
-        let worker = thread::spawn(rt, move || work(alloc, &root, &clock)).expect(rt, "a thread");
-        running.push(worker).expect(rt, "memory");
+        let (rt, clock) = (*rt, share(rt, clock));
+        let root = root.clone().expect(&rt, "no refusal");
+        let worker = thread::spawn(&rt, move || work(&rt, alloc, &root, &clock));
+        let worker = worker.expect(&rt, "a thread");
+        running.push(worker).expect(&rt, "memory");
     }
     running
 }
 
 /// Gives a renderer another size every millisecond.
-fn resize<R: Wait + Threads + rt::Clock + Clone + Drop>(rt: &R, handle: &JoinHandle<R>) {
+fn resize<R: Host>(rt: &R, handle: &JoinHandle<R>) {
     for columns in 40..100 {
         handle.resize(columns, 10);
         thread::sleep(rt, Duration::from_millis(1));
@@ -88,12 +77,11 @@ fn a_crowd_loses_no_message(rt: HostRuntime) {
         ..Options::default()
     };
     let root = kept.create(rt, alloc).expect(&rt, "no refusal");
-    let weak = root.downgrade().expect(&rt, "no refusal");
-    let it = make_collecting(&rt, alloc, weak, true);
-    let running = start(&rt, alloc, &root, &it.clock);
+    let it = make_collecting(&rt, alloc, downgrade(&rt, &root), true, None);
+    let running = start_crowd(&rt, alloc, &root, &it.clock);
     resize(&rt, &it.handle);
     for worker in running {
-        assert_same(&rt, worker.join(&rt), Ok(()), "a thread's calls");
+        worker.join(&rt);
     }
     it.handle.shutdown_and_wait();
     let drawn = messages_in(it.collected.bytes.lock(&rt).as_slice());
@@ -102,37 +90,21 @@ fn a_crowd_loses_no_message(rt: HostRuntime) {
     assert_ended(&rt, &it.clock);
 }
 
-/// Starts a renderer and ends it.
-fn draw_once<R: Wait + Threads + Abort + rt::Clock + Clone + Drop + Send + Sync + 'static>(
-    rt: &R,
-    alloc: Global,
-    root: &TreeRoot<R>,
-    clock: &Arc<SystemClock<R>>,
-    writes: &Arc<AtomicU64>,
-) {
-    let writes = Arc::try_clone(writes).expect(rt, "memory");
-    let weak = root.downgrade().expect(rt, "no refusal");
-    let clock = Arc::try_clone(clock).expect(rt, "memory");
-    let out = Counting { writes };
-    let theirs = rt.clone().expect(rt, "memory");
-    let handle = render(theirs, alloc, out, weak, clock, options()).expect(rt, "no refusal");
-    handle.shutdown_and_wait();
+/// Starts a renderer and ends it, and asserts that its threads end.
+fn draw_once<R: Host>(rt: &R, alloc: Global, root: &TreeRoot<R>) {
+    let it = make_collecting(rt, alloc, downgrade(rt, root), true, None);
+    it.handle.shutdown_and_wait();
+    assert_frames(rt, &it.collected, &[TASK_FRAME, CLOSING_WIDE]);
+    assert_ended(rt, &it.clock);
 }
 
 /// Renderers that are started and ended one after another leave no thread behind.
 #[test]
 fn renderers_leave_no_thread(rt: HostRuntime) {
     let alloc: Global = rt.alloc();
-    let root = TreeRoot::new(rt, alloc).expect(&rt, "no refusal");
-    let task = root.add_child(alloc, "task").expect(&rt, "no refusal");
-    let clock = Arc::new(alloc, SystemClock::new(rt)).expect(&rt, "memory");
-    let writes = Arc::new(alloc, AtomicU64::new(0)).expect(&rt, "memory");
+    let (root, task) = make_tree(&rt, alloc);
     for _ in 0..RENDERERS {
-        draw_once(&rt, alloc, &root, &clock, &writes);
+        draw_once(&rt, alloc, &root);
     }
-    let has_drawn = writes.load(Ordering::SeqCst) >= RENDERERS as u64;
-    assert_same(&rt, has_drawn, true, "frames of each");
-    let is_ended = is_so_soon(&rt, &|| Arc::strong_count(&clock) == 1);
-    assert_same(&rt, is_ended, true, "their threads end");
     drop(task);
 }

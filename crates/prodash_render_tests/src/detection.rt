@@ -1,10 +1,9 @@
 //! The options that `detect` makes of the streams and the environment of a runtime.
 use crate::fixtures::assert_same;
-use prodash::render::line::{Environment, Options, StandardStreams, StreamKind};
+use prodash::render::line::{Options, StandardStreams, StreamKind};
 use std::env::FillError;
 use std::process::Abort;
 use std::rt::Env;
-use std::test::*;
 
 /// A runtime whose standard error alone is a terminal, with three variables.
 #[derive(Clone, Copy)]
@@ -85,6 +84,14 @@ const CASES: &[Case] = &[
     ),
 ];
 
+/// Asserts whether a stream is a terminal, whether it has colours, and its size.
+fn assert_options(rt: &impl Abort, options: Options, want: (bool, bool, (u16, u16)), case: &Case) {
+    let (is_terminal, colored, size) = want;
+    assert_same(rt, options.output_is_terminal, is_terminal, case);
+    assert_same(rt, options.colored, colored, case);
+    assert_same(rt, options.terminal_dimensions, size, case);
+}
+
 /// Asserts the options for both streams.
 fn assert_detects(rt: &impl Abort, case: &Case) {
     let (no_color, columns, lines, colored, size) = *case;
@@ -94,13 +101,9 @@ fn assert_detects(rt: &impl Abort, case: &Case) {
         lines,
     };
     let of_stderr = Options::detect(&around, StreamKind::Stderr);
+    assert_options(rt, of_stderr, (true, colored, size), case);
     let of_stdout = Options::detect(&around, StreamKind::Stdout);
-    assert_same(rt, of_stderr.output_is_terminal, true, case);
-    assert_same(rt, of_stderr.colored, colored, case);
-    assert_same(rt, of_stderr.terminal_dimensions, size, case);
-    assert_same(rt, of_stdout.output_is_terminal, false, case);
-    assert_same(rt, of_stdout.colored, false, case);
-    assert_same(rt, of_stdout.terminal_dimensions, size, case);
+    assert_options(rt, of_stdout, (false, false, size), case);
 }
 
 #[test]
@@ -108,12 +111,4 @@ fn options_are_those_of_the_environment(rt: HostRuntime) {
     for case in CASES {
         assert_detects(&rt, case);
     }
-}
-
-#[test]
-fn options_are_made_of_what_was_read(rt: HostRuntime) {
-    let said = Environment::new("", "40", "ten");
-    let options = Options::for_terminal(true, said);
-    assert_same(&rt, options.colored, true, "colours");
-    assert_same(&rt, options.terminal_dimensions, (40, 20), "size");
 }

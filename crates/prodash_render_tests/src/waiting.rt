@@ -1,101 +1,101 @@
 //! What the tests of threads wait with: a loop, a clock, and a writer and logger that keeps what it
 //! gets.
+use crate::fixtures::{Host, arc, assert_same, share};
 use log::kv::Source;
 use log::span::Spans;
 use log::{Log as Logger, Metadata, Record};
 use prodash::time::Clock;
-use std::alloc::{AllocError, Global};
+use std::alloc::Global;
 use std::fmt::Display;
 use std::io::{self, Error, ErrorKind, Write};
+use std::process::Abort;
 use std::sync::atomic::{AtomicBool, AtomicU64, Ordering};
 use std::sync::{Arc, Mutex, Wait};
 use std::time::Duration;
 use std::{rt, thread};
 
+/// What a test waits for. A closure in its place would be four functions to prove.
+pub(crate) trait Awaited {
+    fn is_so(&self) -> bool;
+}
+
 /// Waits until this is so, at most 10000 turns of a millisecond. Returns whether it is.
-pub(crate) fn is_so_soon<R: rt::Clock, F: Fn() -> bool>(rt: &R, is_so: &F) -> bool
-    requires { F.IsAlwaysCallable is_so.now }
-{
+pub(crate) fn is_so_soon<R: rt::Clock, A: Awaited>(rt: &R, awaited: &A) -> bool {
     for _ in 0..10000u32 {
-        if is_so() {
+        if awaited.is_so() {
             return true;
         }
         thread::sleep(rt, Duration::from_millis(1));
     }
-    is_so()
+    awaited.is_so()
 }
 
-/// Waits until a flag is set, at most ten seconds. Returns whether it is.
-pub(crate) fn is_set_soon<R: rt::Clock>(rt: &R, flag: &AtomicBool) -> bool {
-    is_so_soon(rt, &|| flag.load(Ordering::SeqCst))
+/// Asserts that this is so soon; `of` says what is awaited.
+pub(crate) fn assert_soon<R: rt::Clock + Abort, A: Awaited>(rt: &R, awaited: &A, of: &str) {
+    assert_same(rt, is_so_soon(rt, awaited), true, of);
 }
 
-/// A clock at the first moment, on which a sleep of some length lasts until it is open, or ten
-/// seconds. Each other sleep takes a millisecond.
+impl Awaited for AtomicBool {
+    fn is_so(&self) -> bool {
+        self.load(Ordering::SeqCst)
+    }
+}
+
+/// A counter, and what it reaches.
+#[derive(Clone, Copy)]
+pub(crate) struct Reaches<'a>(pub &'a AtomicU64, pub u64);
+
+impl Awaited for Reaches<'_> {
+    fn is_so(&self) -> bool {
+        self.0.load(Ordering::SeqCst) >= self.1
+    }
+}
+
+/// The only owner of a value, once the others are gone.
 #[derive(Drop)]
-pub(crate) struct GatedClock<R: rt::Clock + Drop> {
-    rt: R,
-    gated: u64,
-    is_open: AtomicBool,
-}
+pub(crate) struct SoleOwner<'a, T>(pub &'a Arc<T>);
 
-impl<R: rt::Clock + Drop> GatedClock<R> {
-    /// A closed clock.
-    pub(crate) fn new(alloc: Global, rt: R, gated: u64) -> Result<Arc<GatedClock<R>>, AllocError> {
-        let is_open = AtomicBool::new(false);
-        let clock = GatedClock { rt, gated, is_open };
-        Ok(Arc::new(alloc, clock)?)
-    }
-
-    pub(crate) fn open(&self) {
-        self.is_open.store(true, Ordering::SeqCst);
+impl<T> Awaited for SoleOwner<'_, T> {
+    fn is_so(&self) -> bool {
+        Arc::strong_count(self.0) == 1
     }
 }
 
-impl<R: rt::Clock + Drop> Clock for GatedClock<R> {
-    fn now(&self) -> u64 {
-        0
-    }
-
-    fn sleep(&self, nanoseconds: u64) {
-        if nanoseconds == self.gated {
-            is_set_soon(&self.rt, &self.is_open);
-        } else {
-            thread::sleep(&self.rt, Duration::from_millis(1));
-        }
-    }
-}
-
-/// A clock at the first moment, on which as many sleeps end as the test lets end, or each after
-/// twenty seconds.
+/// A clock at the first moment, on which as many sleeps of one length end as the test lets end, or
+/// each after twenty seconds. A sleep of another length takes a millisecond.
 #[derive(Drop)]
 pub(crate) struct SteppedClock<R: rt::Clock + Drop> {
     rt: R,
+    /// The length of the sleeps that wait, in nanoseconds.
+    stepped: u64,
     /// How many sleeps have begun.
     begun: AtomicU64,
     /// How many may end.
     ending: AtomicU64,
-    /// The length of the latest, in nanoseconds.
+    /// The length of the latest sleep, in nanoseconds.
     pub length: AtomicU64,
 }
 
-impl<R: rt::Clock + Drop> SteppedClock<R> {
-    /// A clock on which no sleep ends.
-    pub(crate) fn new(alloc: Global, rt: R) -> Result<Arc<SteppedClock<R>>, AllocError> {
+impl<R: Host> SteppedClock<R> {
+    /// A clock on which no sleep of this length ends.
+    pub(crate) fn new(rt: &R, alloc: Global, stepped: u64) -> Arc<SteppedClock<R>> {
         let clock = SteppedClock {
-            rt,
+            rt: *rt,
+            stepped,
             begun: AtomicU64::new(0),
             ending: AtomicU64::new(0),
             length: AtomicU64::new(0),
         };
-        Ok(Arc::new(alloc, clock)?)
+        arc(rt, alloc, clock)
     }
 
-    /// Whether this many sleeps begin soon.
-    pub(crate) fn has_begun_soon(&self, count: u64) -> bool {
-        is_so_soon(&self.rt, &|| self.begun.load(Ordering::SeqCst) >= count)
+    /// Asserts that this many sleeps begin soon.
+    pub(crate) fn assert_begun(&self, count: u64) {
+        assert_soon(&self.rt, &Reaches(&self.begun, count), "sleeps");
     }
+}
 
+impl<R: rt::Clock + Drop> SteppedClock<R> {
     /// Lets the first sleeps end, this many.
     pub(crate) fn end(&self, count: u64) {
         self.ending.store(count, Ordering::SeqCst);
@@ -104,6 +104,19 @@ impl<R: rt::Clock + Drop> SteppedClock<R> {
     /// Lets one more sleep end.
     pub(crate) fn end_next(&self) {
         self.ending.fetch_add(1, Ordering::SeqCst);
+    }
+
+    /// Lets all sleeps end.
+    pub(crate) fn end_all(&self) {
+        self.end(u64::MAX);
+    }
+
+    /// Waits until this many sleeps may end, at most twenty seconds.
+    fn wait_for(&self, count: u64) {
+        let may_end = Reaches(&self.ending, count);
+        if !is_so_soon(&self.rt, &may_end) {
+            is_so_soon(&self.rt, &may_end);
+        }
     }
 }
 
@@ -115,9 +128,10 @@ impl<R: rt::Clock + Drop> Clock for SteppedClock<R> {
     fn sleep(&self, nanoseconds: u64) {
         self.length.store(nanoseconds, Ordering::SeqCst);
         let before = self.begun.fetch_add(1, Ordering::SeqCst);
-        let may_end = || self.ending.load(Ordering::SeqCst) > before;
-        if !is_so_soon(&self.rt, &may_end) {
-            is_so_soon(&self.rt, &may_end);
+        if nanoseconds == self.stepped {
+            self.wait_for(before.saturating_add(1));
+        } else {
+            thread::sleep(&self.rt, Duration::from_millis(1));
         }
     }
 }
@@ -133,29 +147,66 @@ pub(crate) struct Collected {
 }
 
 impl Collected {
-    pub(crate) fn new(alloc: Global, is_open: bool) -> Result<Arc<Collected>, AllocError> {
+    pub(crate) fn new(rt: &impl Abort, alloc: Global, is_open: bool) -> Arc<Collected> {
         let collected = Collected {
             bytes: Mutex::new(Vec::new(alloc)),
             has_begun: AtomicBool::new(false),
             is_open: AtomicBool::new(is_open),
         };
-        Ok(Arc::new(alloc, collected)?)
+        arc(rt, alloc, collected)
     }
+
+    /// Lets all writes end.
+    pub(crate) fn open(&self) {
+        self.is_open.store(true, Ordering::SeqCst);
+    }
+}
+
+/// What is collected, and the texts that it holds, one after another.
+#[derive(Drop)]
+pub(crate) struct Holds<'a, R: Wait>(pub &'a R, pub &'a Collected, pub &'a [&'a str]);
+
+impl<R: Wait> Awaited for Holds<'_, R> {
+    fn is_so(&self) -> bool {
+        are_texts(self.1.bytes.lock(self.0).as_slice(), self.2)
+    }
+}
+
+/// Whether bytes are those of these texts.
+fn are_texts(bytes: &[u8], texts: &[&str]) -> bool {
+    let mut rest = bytes;
+    for text in texts {
+        match rest.strip_prefix(text.as_bytes()) {
+            Some(after) => rest = after,
+            None => return false,
+        }
+    }
+    rest.is_empty()
 }
 
 /// Keeps what is written or logged: of a record its level and its text, on a line of its own. A
 /// write waits until it is let through, a record doesn't.
 #[derive(Drop)]
 pub(crate) struct Collector<R: Wait + rt::Clock + Drop> {
-    pub rt: R,
-    pub alloc: Global,
-    pub collected: Arc<Collected>,
+    rt: R,
+    alloc: Global,
+    collected: Arc<Collected>,
+}
+
+impl<R: Host> Collector<R> {
+    pub(crate) fn new(rt: &R, alloc: Global, collected: &Arc<Collected>) -> Collector<R> {
+        Collector {
+            rt: *rt,
+            alloc,
+            collected: share(rt, collected),
+        }
+    }
 }
 
 impl<R: Wait + rt::Clock + Drop> Write for Collector<R> {
     fn write(&mut self, bytes: &[u8]) -> io::Result<usize> {
         self.collected.has_begun.store(true, Ordering::SeqCst);
-        if !is_set_soon(&self.rt, &self.collected.is_open) {
+        if !is_so_soon(&self.rt, &self.collected.is_open) {
             return Err(Error::from(ErrorKind::TimedOut));
         }
         self.collected
@@ -188,16 +239,4 @@ impl<R: Wait + rt::Clock + Drop> Logger for Collector<R> {
     fn target(&self) -> &str {
         ""
     }
-}
-
-/// Whether these bytes are collected soon.
-pub(crate) fn is_collected_soon<R: Wait + rt::Clock>(
-    rt: &R,
-    collected: &Collected,
-    want: &str,
-) -> bool {
-    is_so_soon(
-        rt,
-        &|| collected.bytes.lock(rt).as_slice() == want.as_bytes(),
-    )
 }
