@@ -11,8 +11,6 @@ mod drawn_caller;
 #[cfg(test)]
 mod fixtures;
 #[cfg(test)]
-mod journal_lines;
-#[cfg(test)]
 mod locked;
 #[cfg(test)]
 mod mirror;

@@ -1,5 +1,5 @@
 //! A locked tree and a session that get the same events: their replies are equal.
-use crate::fixtures::{TERMINAL, assert_same};
+use crate::fixtures::{TERMINAL, assert_same, new_root};
 use prodash::Text;
 use prodash::messages::{MessageCopyState, MessageLevel, Messages};
 use prodash::progress::{Id, Rows, UNKNOWN};
@@ -42,14 +42,7 @@ impl<R: Wait + Clone + Drop> LockedTree<R> {
         found
     }
 
-    fn item<'a>(&'a self, rt: &impl Abort, handle: Handle) -> &'a Item<R> {
-        match self.items.get(handle as usize) {
-            Some(Some(item)) => item,
-            _ => panic!(rt; "no item"),
-        }
-    }
-
-    fn item_mut<'a>(&'a mut self, rt: &impl Abort, handle: Handle) -> &'a mut Item<R> {
+    fn item<'a>(&'a mut self, rt: &impl Abort, handle: Handle) -> &'a mut Item<R> {
         match self.items.get_mut(handle as usize) {
             Some(Some(item)) => item,
             _ => panic!(rt; "no item"),
@@ -65,28 +58,22 @@ impl<R: Wait + Clone + Drop> LockedTree<R> {
         name: &str,
         id: Id,
     ) -> Item<R> {
-        let child = match (parent, id == UNKNOWN) {
-            (0, true) => {
-                self.calls.push("Root::add_child").expect(rt, "memory");
-                self.root.add_child(alloc, name)
-            }
-            (0, false) => {
-                self.calls
-                    .push("Root::add_child_with_id")
-                    .expect(rt, "memory");
-                self.root.add_child_with_id(alloc, name, id)
-            }
-            (_, true) => {
-                self.calls.push("Item::add_child").expect(rt, "memory");
-                self.item_mut(rt, parent).add_child(alloc, name)
-            }
-            (_, false) => {
-                self.calls
-                    .push("Item::add_child_with_id")
-                    .expect(rt, "memory");
-                self.item_mut(rt, parent).add_child_with_id(alloc, name, id)
-            }
+        let (call, child) = match (parent, id == UNKNOWN) {
+            (0, true) => ("Root::add_child", self.root.add_child(alloc, name)),
+            (0, false) => (
+                "Root::add_child_with_id",
+                self.root.add_child_with_id(alloc, name, id),
+            ),
+            (_, true) => (
+                "Item::add_child",
+                self.item(rt, parent).add_child(alloc, name),
+            ),
+            (_, false) => (
+                "Item::add_child_with_id",
+                self.item(rt, parent).add_child_with_id(alloc, name, id),
+            ),
         };
+        self.calls.push(call).expect(rt, "memory");
         child.expect(rt, "no refusal")
     }
 
@@ -121,21 +108,15 @@ impl<R: Wait + Clone + Drop> LockedTree<R> {
         level: MessageLevel,
         text: &str,
     ) -> Reply {
-        let call = match level {
-            _ if at % 2 == 0 => "Item::message",
-            MessageLevel::Info => "Item::info",
-            MessageLevel::Success => "Item::done",
-            MessageLevel::Failure => "Item::fail",
-        };
-        self.calls.push(call).expect(rt, "memory");
-        let item = self.item_mut(rt, handle);
-        let sent = match level {
-            _ if at % 2 == 0 => item.message(alloc, at, level, text),
-            MessageLevel::Info => item.info(alloc, at, text),
-            MessageLevel::Success => item.done(alloc, at, text),
-            MessageLevel::Failure => item.fail(alloc, at, text),
+        let item = self.item(rt, handle);
+        let (call, sent) = match level {
+            _ if at % 2 == 0 => ("Item::message", item.message(alloc, at, level, text)),
+            MessageLevel::Info => ("Item::info", item.info(alloc, at, text)),
+            MessageLevel::Success => ("Item::done", item.done(alloc, at, text)),
+            MessageLevel::Failure => ("Item::fail", item.fail(alloc, at, text)),
         };
         sent.expect(rt, "no refusal");
+        self.calls.push(call).expect(rt, "memory");
         Reply::Done
     }
 
@@ -173,11 +154,14 @@ impl<R: Wait + Clone + Drop> LockedTree<R> {
     }
 
     /// Applies an event that only reads.
-    fn look(&self, rt: &impl Abort, alloc: Global, event: &Event) -> Reply {
+    fn look(&mut self, rt: &impl Abort, alloc: Global, event: &Event) -> Reply {
         match event {
             Event::Name { item } => {
                 let name = self.item(rt, *item).name(alloc);
-                Reply::Name(name.expect(rt, "no refusal").map(Text::new))
+                match name.expect(rt, "no refusal") {
+                    Some(name) => Reply::Name(Some(Text::new(name))),
+                    None => Reply::Name(None),
+                }
             }
             Event::Id { item } => Reply::Id(self.item(rt, *item).id()),
             Event::Step { item } => Reply::Step(self.item(rt, *item).step().expect(rt, "a step")),
@@ -258,8 +242,8 @@ fn assert_called(rt: &impl Abort, calls: &[&str], names: &str, least: usize) {
     }
 }
 
-/// How many kinds of events there are for the handle of an item or the root.
-const KINDS: u64 = 20;
+/// How many kinds of events there are for the handle of an item or the root. The last is the drop.
+pub(crate) const KINDS: u64 = 20;
 
 /// Returns a number that the previous one decides, spread over all bits.
 fn number_after(n: u64) -> u64 {
@@ -303,7 +287,12 @@ fn said(alloc: Global, item: Handle, n: u64) -> Result<Event, AllocError> {
 }
 
 /// Returns an event of a kind. It is on this item, or reads the tree.
-fn event_of_kind(alloc: Global, kind: u64, item: Handle, n: u64) -> Result<Event, AllocError> {
+pub(crate) fn event_of_kind(
+    alloc: Global,
+    kind: u64,
+    item: Handle,
+    n: u64,
+) -> Result<Event, AllocError> {
     match kind {
         0 => added(alloc, item, n),
         3 => Ok(Event::SetName {
@@ -320,7 +309,7 @@ fn event_of_kind(alloc: Global, kind: u64, item: Handle, n: u64) -> Result<Event
 fn plain_event(kind: u64, item: Handle, n: u64) -> Event {
     let max = bound(n);
     match kind {
-        1 => Event::Drop { item },
+        1 => Event::CopyNew { previous: max.map(MessageCopyState::new) },
         2 => Event::Init { item, max, unit: if n % 3 == 0 { Some(label("items")) } else { None } },
         4 => Event::SetMax { item, max },
         5 => Event::Set { item, step: n },
@@ -336,7 +325,7 @@ fn plain_event(kind: u64, item: Handle, n: u64) -> Event {
         16 => Event::Snapshot,
         17 => Event::CopyMessages,
         18 => Event::Unit { item },
-        _ => Event::CopyNew { previous: max.map(MessageCopyState::new) },
+        _ => Event::Drop { item },
     }
 }
 
@@ -344,7 +333,7 @@ fn plain_event(kind: u64, item: Handle, n: u64) -> Event {
 /// some items.
 fn kind_of(place: u64) -> u64 {
     let kind = place % KINDS;
-    if kind == 1 && place < 20 * KINDS {
+    if kind == KINDS - 1 && place < 20 * KINDS {
         0
     } else {
         kind
@@ -387,30 +376,34 @@ impl<R: Wait + Clone + Drop> Mirror<R> {
         }
     }
 
-    /// Asserts that both reply the same to an event, and the session refuses none.
-    fn assert_changes(&mut self, rt: &impl Abort, alloc: Global, place: u64, event: &Event) {
+    /// Asserts that the session gives this reply to an event, at or after the event at a place.
+    fn assert_reply(
+        &mut self,
+        rt: &impl Abort,
+        alloc: Global,
+        event: &Event,
+        got: Reply,
+        at: (u64, &Event),
+    ) {
         let want = self.session.apply(alloc, event, &mut self.screen);
-        let refused = matches!(want, Reply::Refused(_));
-        assert_same(rt, refused, false, (place, event));
-        let got = self.tree.change(rt, alloc, event);
-        assert_same(rt, got, want, (place, event));
+        assert_same(rt, got, want, at);
     }
 
     /// Asserts that both reply the same to an event that only reads, after the event at a place.
     fn assert_looks(&mut self, rt: &impl Abort, alloc: Global, look: &Event, after: (u64, &Event)) {
-        let want = self.session.apply(alloc, look, &mut self.screen);
         let got = self.tree.look(rt, alloc, look);
-        assert_same(rt, got, want, after);
+        self.assert_reply(rt, alloc, look, got, after);
     }
 
     /// Asserts that both reply the same to the event at a place, and look the same after it.
     fn assert_place(&mut self, rt: &impl Abort, alloc: Global, place: u64, n: u64) {
         let event = self.event_at(alloc, place, n).expect(rt, "memory");
-        self.assert_changes(rt, alloc, place, &event);
-        let after = (place, &event);
-        self.assert_looks(rt, alloc, &Event::Snapshot, after);
-        self.assert_looks(rt, alloc, &Event::CopyMessages, after);
-        self.assert_looks(rt, alloc, &Event::NumTasks, after);
+        let got = self.tree.change(rt, alloc, &event);
+        let at = (place, &event);
+        self.assert_reply(rt, alloc, &event, got, at);
+        self.assert_looks(rt, alloc, &Event::Snapshot, at);
+        self.assert_looks(rt, alloc, &Event::CopyMessages, at);
+        self.assert_looks(rt, alloc, &Event::NumTasks, at);
     }
 }
 
@@ -419,8 +412,7 @@ impl<R: Wait + Clone + Drop> Mirror<R> {
 #[test]
 fn a_locked_tree_replies_as_a_session(rt: HostRuntime) {
     let alloc: Global = rt.alloc();
-    let root = Root::new(rt, alloc).expect(&rt, "no refusal");
-    let mut mirror = Mirror::new(&rt, alloc, root);
+    let mut mirror = Mirror::new(&rt, alloc, new_root(rt, alloc));
     let mut n = 1u64;
     for place in 0..2000u64 {
         n = number_after(n);
@@ -429,4 +421,5 @@ fn a_locked_tree_replies_as_a_session(rt: HostRuntime) {
     assert_same(&rt, mirror.screen.bytes().is_empty(), true, "screen");
     assert_called(&rt, &mirror.tree.calls, EVENTS, 50);
     assert_called(&rt, &mirror.tree.calls, CALLS, 10);
+    drop(mirror);
 }

@@ -27,7 +27,7 @@ pub(crate) fn call_in_order<C: TreeLedger, S: Ledger, R: Wait + Abort>(
     item: &mut RecordedItem<C, S>,
     receipts: &mut Vec<Receipt<C>>,
 ) {
-    add(rt, alloc, item, receipts);
+    add(rt, alloc, item, receipts, "task");
     call(rt, alloc, item, receipts, Event::Set { item: 1, step: 3 });
     call(rt, alloc, item, receipts, Event::IncBy { item: 1, step: 4 });
     let step = call(rt, alloc, item, receipts, Event::Step { item: 1 });
@@ -80,15 +80,4 @@ pub(crate) fn assert_receipts<C: TreeLedger>(
         numbers.push(receipt.number()).expect(rt, "memory");
     }
     assert_all(rt, numbers);
-}
-
-/// Asserts that the last of these receipts has this reply.
-pub(crate) fn assert_last<C: TreeLedger>(
-    rt: &impl Abort,
-    receipts: &[Receipt<C>],
-    want: &Reply,
-    of: &str,
-) {
-    let last = receipts.last().expect(rt, "a receipt");
-    assert_reply(rt, last.reply(), want, of);
 }

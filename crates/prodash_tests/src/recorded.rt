@@ -4,17 +4,15 @@ ghost use Rattle.prodash_core.specs.Trees.{is_frame};
 
 use crate::child_numbers::{assert_last_row, call_children};
 use crate::fixtures::{assert_reply, assert_same};
-use crate::journal_lines::{assert_lines, call_written};
-use crate::receipts::{assert_last, assert_receipts, assert_rising, call_in_order};
+use crate::mirror::{KINDS, event_of_kind};
+use crate::receipts::{assert_receipts, assert_rising, call_in_order};
 use prodash::progress::{Rows, UNKNOWN};
-use prodash::time::Moment;
 use prodash::tree::recorded::{
     Journal, Ledgers, Receipt, RecordedItem, RecordedRoot, Share, TreeLedger, Unclosed,
 };
 use prodash::tree::root::Options;
 use prodash::tree::{Event, Handle, Reply, RootOptions, TreeState};
 use prodash::{Refusal, Text};
-use prodash_script::{Labels, Words, number, parse_with};
 use std::alloc::Global;
 use std::marker::Brand;
 use std::process::Abort;
@@ -26,22 +24,18 @@ use std::thread::{JoinHandle, Threads};
 /// What a worker does with its item.
 #[derive(Clone, Copy)]
 pub(crate) enum Work {
-    /// Nothing.
-    Nothing,
     /// Adds the first task.
     AddFirst,
     /// Adds 3 to the step of the first task, that many times.
     Steps(u32),
-    /// Makes calls of many kinds, that many times.
+    /// Makes a call of each kind on each of that many tasks.
     Mixed(u32),
     /// Takes a snapshot.
     Snapshot,
-    /// Adds the first task and drops it.
-    AddAndDrop,
+    /// Drops the first task.
+    DropFirst,
     /// Makes a call at the first task, which was dropped.
     CallDropped,
-    /// Makes calls that have lines.
-    Lines,
     /// Adds more children to the root than 16 bits count.
     Children,
     /// Makes four calls of which the step of the first task is 7.
@@ -66,8 +60,6 @@ pub(crate) enum Replay {
     Step(u64),
     /// That many rows, those of the last call, a snapshot.
     Rows(usize),
-    /// The rows of a snapshot, also if the events are read from lines.
-    Lines,
     /// The row of the child after 65536 others.
     Children,
 }
@@ -99,51 +91,39 @@ const EIGHT: &[Round] = &[
     },
 ];
 
+const SNAPSHOT: Round = Round {
+    workers: 1,
+    work: Work::Snapshot,
+    calls: 1,
+    sum: 0,
+};
+
 const MIXED: &[Round] = &[
     Round {
         workers: 8,
         work: Work::Mixed(20),
-        calls: 190,
+        calls: 410,
         sum: 40,
     },
-    Round {
-        workers: 1,
-        work: Work::Snapshot,
-        calls: 1,
-        sum: 0,
-    },
+    SNAPSHOT,
 ];
 
 const CROWD: &[Round] = &[
     Round {
         workers: 64,
         work: Work::Mixed(4),
-        calls: 38,
+        calls: 82,
         sum: 8,
     },
-    Round {
-        workers: 1,
-        work: Work::Snapshot,
-        calls: 1,
-        sum: 0,
-    },
-];
-
-const MISSING: &[Round] = &[
-    ADD_FIRST,
-    Round {
-        workers: 2,
-        work: Work::Nothing,
-        calls: 0,
-        sum: 0,
-    },
+    SNAPSHOT,
 ];
 
 const DROPPED: &[Round] = &[
+    ADD_FIRST,
     Round {
         workers: 1,
-        work: Work::AddAndDrop,
-        calls: 2,
+        work: Work::DropFirst,
+        calls: 1,
         sum: 0,
     },
     Round {
@@ -166,17 +146,12 @@ fn eight_workers_have_one_journal(rt: HostRuntime) {
 
 #[test]
 fn mixed_calls_have_one_journal(rt: HostRuntime) {
-    on_new_tree(rt, rt.alloc(), MIXED, 1521, Replay::Rows(240));
+    on_new_tree(rt, rt.alloc(), MIXED, 3281, Replay::Rows(240));
 }
 
 #[test]
 fn a_crowd_has_one_journal(rt: HostRuntime) {
-    on_new_tree(rt, rt.alloc(), CROWD, 2433, Replay::Rows(384));
-}
-
-#[test]
-fn a_missing_share_hands_back_the_root(rt: HostRuntime) {
-    on_new_tree(rt, rt.alloc(), MISSING, 1, Replay::Replies);
+    on_new_tree(rt, rt.alloc(), CROWD, 5249, Replay::Rows(384));
 }
 
 #[test]
@@ -215,7 +190,7 @@ fn done<
     assert_replay(&rt, alloc, &journal, &receipts, replay);
 }
 
-/// Makes a call, and keeps its receipt. Asserts that the receipt has the reply, and returns it.
+/// Makes a call, keeps its receipt, and returns the reply.
 pub(crate) fn call<C: TreeLedger, S: Ledger, R: Wait + Abort>(
     rt: &R,
     alloc: Global,
@@ -226,7 +201,6 @@ pub(crate) fn call<C: TreeLedger, S: Ledger, R: Wait + Abort>(
     requires { is_frame event ≡ false }
 {
     let (reply, receipt) = item.call(rt, alloc, event).expect(rt, "no refusal");
-    assert_reply(rt, &reply, receipt.reply(), "a receipt");
     receipts.push(receipt).expect(rt, "memory");
     reply
 }
@@ -237,8 +211,9 @@ pub(crate) fn add<C: TreeLedger, S: Ledger, R: Wait + Abort>(
     alloc: Global,
     item: &mut RecordedItem<C, S>,
     receipts: &mut Vec<Receipt<C>>,
+    name: &str,
 ) -> Handle {
-    let name = Text::from_str(alloc, "task").expect(rt, "memory");
+    let name = Text::from_str(alloc, name).expect(rt, "memory");
     let (parent, id) = (0, UNKNOWN);
     let event = Event::AddChild { parent, name, id };
     match call(rt, alloc, item, receipts, event) {
@@ -254,7 +229,7 @@ fn add_first<C: TreeLedger, S: Ledger, R: Wait + Abort>(
     item: &mut RecordedItem<C, S>,
     receipts: &mut Vec<Receipt<C>>,
 ) {
-    assert_same(rt, add(rt, alloc, item, receipts), 1, "handle");
+    assert_same(rt, add(rt, alloc, item, receipts, "task"), 1, "handle");
     let first = receipts.as_slice().last().expect(rt, "a receipt");
     assert_same(rt, first.number(), 0, "the first number");
 }
@@ -272,103 +247,36 @@ fn call_steps<C: TreeLedger, S: Ledger, R: Wait + Abort>(
     }
 }
 
-/// Names an item `task` and a moment `-`, and others by their numbers.
-#[derive(Clone, Copy)]
-pub(crate) struct Task {
-    pub item: Handle,
-    pub now: Moment,
-}
-
-impl Words for Task {
-    ghost use Rattle.std.specs.Prelude.{Some, bytes_eq, codes, if◌then◌else◌};
-    ghost use Rattle.prodash_script.specs.Requests.{moment_in};
-    ghost use Rattle.prodash_script.specs.Words.{number_of};
-
-    ghost handle_of = { λ task word. if bytes_eq word (codes "task") then Some task.item else number_of word };
-
-    ghost moment_of = { λ task. moment_in task.now };
-
-    fn handle(&self, word: &str) -> Option<Handle> {
-        if word == "task" {
-            return Some(self.item);
-        }
-        number(word)
-    }
-
-    fn moment(&self, word: &str) -> Option<Moment> {
-        if word == "-" {
-            return Some(self.now);
-        }
-        number(word)
-    }
-}
-
-const NO_TASK: Task = Task { item: 0, now: 0 };
-
-const CALLS: &str = "init task 10 -
-set task 4
-info task - four
-blocked task
-snapshot
-messages
-add task part
-inc task 2";
-
-/// Makes a call of each kind that changes a task of its own, and of some that read, this many times.
-/// Every second task is dropped.
-fn call_mixed<C: TreeLedger, S: Ledger, R: Wait + Abort>(
+/// Makes a call of each kind but the drop on a task of its own.
+fn call_each_kind<C: TreeLedger, S: Ledger, R: Wait + Abort>(
     rt: &R,
     alloc: Global,
     item: &mut RecordedItem<C, S>,
     receipts: &mut Vec<Receipt<C>>,
-    times: u32,
+    task: Handle,
 ) {
-    for round in 0..times {
-        let task = Task {
-            item: add(rt, alloc, item, receipts),
-            now: 0,
-        };
-        call_lines(rt, alloc, item, receipts, task, CALLS);
-        if round % 2 == 0 {
-            call_lines(rt, alloc, item, receipts, task, "drop task");
-        }
-    }
-}
-
-/// Parses an event on a task, or one of two that read the tree.
-fn event_of(alloc: Global, task: &Task, line: &str) -> Result<Event, Refusal> {
-    match line {
-        "snapshot" => Ok(Event::Snapshot),
-        "messages" => Ok(Event::CopyMessages),
-        _ => parse_with(alloc, task, &mut Labels::new(alloc), line)?.ok_or(Refusal::Gone),
-    }
-}
-
-/// Makes the calls of these lines, in which the item's task is named `task`.
-pub(crate) fn call_lines<C: TreeLedger, S: Ledger, R: Wait + Abort>(
-    rt: &R,
-    alloc: Global,
-    item: &mut RecordedItem<C, S>,
-    receipts: &mut Vec<Receipt<C>>,
-    task: Task,
-    lines: &str,
-) {
-    for line in lines.lines() {
-        let event = event_of(alloc, &task, line).expect(rt, "an event");
+    for kind in 0..KINDS - 1 {
+        let event = event_of_kind(alloc, kind, task, 2).expect(rt, "memory");
         assert!(rt; !event.is_frame(), "a frame");
         call(rt, alloc, item, receipts, event);
     }
 }
 
-/// Adds the first task of a tree, and drops it.
-fn add_and_drop<C: TreeLedger, S: Ledger, R: Wait + Abort>(
+/// Makes a call of each kind on this many tasks of its own. Every second task is dropped.
+fn call_mixed<C: TreeLedger, S: Ledger, R: Wait + Abort>(
     rt: &R,
     alloc: Global,
     item: &mut RecordedItem<C, S>,
     receipts: &mut Vec<Receipt<C>>,
+    tasks: u32,
 ) {
-    add_first(rt, alloc, item, receipts);
-    call(rt, alloc, item, receipts, Event::Drop { item: 1 });
+    for number in 0..tasks {
+        let task = add(rt, alloc, item, receipts, "task");
+        call_each_kind(rt, alloc, item, receipts, task);
+        if number % 2 == 0 {
+            call(rt, alloc, item, receipts, Event::Drop { item: task });
+        }
+    }
 }
 
 /// Asserts that a call at a handle that another item made and dropped is refused.
@@ -392,14 +300,12 @@ fn do_work<C: TreeLedger, S: Ledger, R: Wait + Abort>(
     work: Work,
 ) {
     match work {
-        Work::Nothing => {}
         Work::AddFirst => add_first(rt, alloc, item, receipts),
         Work::Steps(each) => call_steps(rt, alloc, item, receipts, each),
         Work::Mixed(times) => call_mixed(rt, alloc, item, receipts, times),
-        Work::Snapshot => call_lines(rt, alloc, item, receipts, NO_TASK, "snapshot"),
-        Work::AddAndDrop => add_and_drop(rt, alloc, item, receipts),
+        Work::Snapshot => drop(call(rt, alloc, item, receipts, Event::Snapshot)),
+        Work::DropFirst => drop(call(rt, alloc, item, receipts, Event::Drop { item: 1 })),
         Work::CallDropped => assert_gone(rt, alloc, item),
-        Work::Lines => call_written(rt, alloc, item, receipts),
         Work::Children => call_children(rt, alloc, item, receipts),
         Work::OneItem => call_in_order(rt, alloc, item, receipts),
     }
@@ -518,7 +424,7 @@ fn closed<C: TreeLedger, S: Ledger>(
 }
 
 /// Asserts that a tree replies to an event of no frame as an entry says.
-pub(crate) fn assert_replayed(
+fn assert_replayed(
     rt: &impl Abort,
     alloc: Global,
     tree: &mut TreeState,
@@ -550,7 +456,8 @@ fn assert_step(rt: &impl Abort, alloc: Global, tree: &mut TreeState, want: u64) 
 /// Asserts that there are that many rows, those of the snapshot that the last receipt has.
 fn assert_rows<C: TreeLedger>(rt: &impl Abort, rows: Rows, want: usize, receipts: &[Receipt<C>]) {
     assert_same(rt, rows.as_slice().len(), want, "rows");
-    assert_last(rt, receipts, &Reply::Rows(rows), "rows of the replay");
+    let last = receipts.last().expect(rt, "a receipt");
+    assert_reply(rt, last.reply(), &Reply::Rows(rows), "rows of the replay");
 }
 
 /// Asserts that the replay of a journal has its replies, and what it ends with.
@@ -573,6 +480,6 @@ fn assert_replay<C: TreeLedger>(
             let rows = tree.rows(alloc).expect(rt, "no refusal");
             assert_last_row(rt, &rows);
         }
-        Replay::Lines => assert_lines(rt, alloc, journal, receipts),
     }
+    drop(tree);
 }
