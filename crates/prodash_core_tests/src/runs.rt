@@ -62,57 +62,15 @@ messages -> Messages(Messages [Message 0 Info "a" "x", Message 0 Info "a" "y"])
 new - -> New(Messages [Message 0 Info "a" "x", Message 0 Info "a" "y"], MessageCopyState { seen: 2 })
 new 1 -> New(Messages [Message 0 Info "a" "y"], MessageCopyState { seen: 2 })
 new 9 -> New(Messages [], MessageCopyState { seen: 2 })"#,
-    // handles that were not made, the root's, and one that was dropped
+    // an item that was not made yet, and one that was dropped
     "add 1 below -> Refused(Gone)
 set 1 3 -> Refused(Gone)
 init 1 10 - -> Refused(Gone)
 add 0 a -> Made(1)
-drop 2 -> Refused(Gone)
-init 2 1 - -> Refused(Gone)
-name 2 b -> Refused(Gone)
-max 2 1 -> Refused(Gone)
 set 2 1 -> Refused(Gone)
-inc 2 1 -> Refused(Gone)
-blocked 2 -> Refused(Gone)
-halted 2 -> Refused(Gone)
-running 2 -> Refused(Gone)
-info 2 0 x -> Refused(Gone)
-name? 2 -> Refused(Gone)
-id? 2 -> Refused(Gone)
-step? 2 -> Refused(Gone)
-max? 2 -> Refused(Gone)
-unit? 2 -> Refused(Gone)
-drop 0 -> Refused(Gone)
-init 0 1 - -> Refused(Gone)
-name 0 b -> Refused(Gone)
-max 0 1 -> Refused(Gone)
 set 0 1 -> Refused(Gone)
-inc 0 1 -> Refused(Gone)
-blocked 0 -> Refused(Gone)
-halted 0 -> Refused(Gone)
-running 0 -> Refused(Gone)
-info 0 0 x -> Refused(Gone)
-name? 0 -> Refused(Gone)
-id? 0 -> Refused(Gone)
-step? 0 -> Refused(Gone)
-max? 0 -> Refused(Gone)
-unit? 0 -> Refused(Gone)
 drop 1 -> Done
 drop 1 -> Refused(Gone)
-init 1 1 - -> Refused(Gone)
-name 1 b -> Refused(Gone)
-max 1 1 -> Refused(Gone)
-set 1 1 -> Refused(Gone)
-inc 1 1 -> Refused(Gone)
-blocked 1 -> Refused(Gone)
-halted 1 -> Refused(Gone)
-running 1 -> Refused(Gone)
-info 1 0 x -> Refused(Gone)
-name? 1 -> Refused(Gone)
-id? 1 -> Refused(Gone)
-step? 1 -> Refused(Gone)
-max? 1 -> Refused(Gone)
-unit? 1 -> Refused(Gone)
 add 1 below -> Refused(Gone)",
     // without a root the renderer closes, and prints no message that no tick has seen; items go on
     r#"add 0 a -> Made(1)
@@ -223,6 +181,23 @@ step? 7 -> Step(5)
 tasks? -> Count(1)"#,
 ];
 
+/// The events of an item, whose handle goes in the place of `ITEM`.
+const OF_ITEMS: &str = "drop ITEM
+init ITEM 1 -
+name ITEM b
+max ITEM 1
+set ITEM 1
+inc ITEM 1
+blocked ITEM
+halted ITEM
+running ITEM
+info ITEM 0 x
+name? ITEM
+id? ITEM
+step? ITEM
+max? ITEM
+unit? ITEM";
+
 /// With a ring of two messages.
 const LATEST: &str = r#"add 0 a -> Made(1)
 info 1 0 x -> Done
@@ -259,6 +234,31 @@ fn sessions_have_replies_and_frames(rt: HostRuntime) {
         assert_new_session(&rt, rt.alloc(), &options(20), transcript);
     }
     assert_new_session(&rt, rt.alloc(), &options(2), LATEST)
+}
+
+/// Asserts that an event of `OF_ITEMS` is refused for a handle without an item.
+fn assert_gone(rt: &impl Abort, alloc: Global, session: &mut Session, item: u32, event: &str) {
+    let (word, rest) = event.split_once("ITEM").expect(rt, "an item");
+    let line = format!(in alloc; "{word}{item}{rest} -> Refused(Gone)").expect(rt, "memory");
+    assert_session(rt, alloc, session, line.as_str());
+}
+
+/// The root has no item, the first one was dropped, and no second one was made.
+#[test]
+fn events_need_an_item(rt: HostRuntime) {
+    let mut session = new_session(&rt, rt.alloc(), &options(20));
+    assert_session(
+        &rt,
+        rt.alloc(),
+        &mut session,
+        "add 0 a -> Made(1)\ndrop 1 -> Done",
+    );
+    for item in 0..3 {
+        for event in OF_ITEMS.lines() {
+            assert_gone(&rt, rt.alloc(), &mut session, item, event);
+        }
+    }
+    drop(session);
 }
 
 #[test]
