@@ -449,13 +449,16 @@ fn the_last_frame_is_tried_again(rt: HostRuntime) {
     let orders = Orders::new(&rt, alloc, HAS_NO_MEMORY);
     let mut it = make_collecting(&rt, alloc, Told::new(&rt, &root, &orders), true, None);
     assert_asked(&rt, &orders, 1);
+    // the ticker sleeps first, and requests no other frame
+    it.clock.assert_begun(1);
     it.handle.shutdown();
-    // besides the ticker the event loop sleeps, which it does once its last frame is refused
+    // the event loop sleeps once its last frame is refused
     it.clock.assert_begun(2);
     orders.give(FINDS);
-    it.clock.end_all();
+    it.clock.end_all_but_first();
+    assert_drawn(&rt, &it.collected, &[TASK_FRAME, CLOSING_WIDE]);
+    it.clock.end_first();
     it.handle.wait();
-    assert_frames(&rt, &it.collected, &[TASK_FRAME, CLOSING_WIDE]);
     drop(item);
 }
 

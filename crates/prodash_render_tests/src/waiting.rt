@@ -72,6 +72,8 @@ pub(crate) struct SteppedClock<R: rt::Clock + Drop> {
     begun: AtomicU64,
     /// How many may end.
     ending: AtomicU64,
+    /// Whether the first goes on though it may end.
+    first_goes_on: AtomicBool,
     /// The length of the latest sleep, in nanoseconds.
     pub length: AtomicU64,
 }
@@ -84,6 +86,7 @@ impl<R: Host> SteppedClock<R> {
             stepped,
             begun: AtomicU64::new(0),
             ending: AtomicU64::new(0),
+            first_goes_on: AtomicBool::new(false),
             length: AtomicU64::new(0),
         };
         arc(rt, alloc, clock)
@@ -111,9 +114,20 @@ impl<R: rt::Clock + Drop> SteppedClock<R> {
         self.end(u64::MAX);
     }
 
+    /// Lets the first sleep end too, after `end_all_but_first`.
+    pub(crate) fn end_first(&self) {
+        self.first_goes_on.store(false, Ordering::SeqCst);
+    }
+
+    /// Lets all sleeps end but the first, which goes on.
+    pub(crate) fn end_all_but_first(&self) {
+        self.first_goes_on.store(true, Ordering::SeqCst);
+        self.end_all();
+    }
+
     /// Waits until this many sleeps may end, at most twenty seconds.
     fn wait_for(&self, count: u64) {
-        let may_end = Reaches(&self.ending, count);
+        let may_end = MayEnd(self, count);
         if !is_so_soon(&self.rt, &may_end) {
             is_so_soon(&self.rt, &may_end);
         }
@@ -133,6 +147,17 @@ impl<R: rt::Clock + Drop> Clock for SteppedClock<R> {
         } else {
             thread::sleep(&self.rt, Duration::from_millis(1));
         }
+    }
+}
+
+/// A clock on which a sleep may end, by its number from 1.
+#[derive(Drop)]
+struct MayEnd<'a, R: rt::Clock + Drop>(&'a SteppedClock<R>, u64);
+
+impl<R: rt::Clock + Drop> Awaited for MayEnd<'_, R> {
+    fn is_so(&self) -> bool {
+        let goes_on = self.1 == 1 && self.0.first_goes_on.load(Ordering::SeqCst);
+        !goes_on && self.0.ending.load(Ordering::SeqCst) >= self.1
     }
 }
 
