@@ -8,7 +8,7 @@ import re
 import struct
 
 # The folder of these edits in a crate, and the kinds of clauses before a body.
-FOLDER = "test-edits"
+FOLDER = "edits"
 CLAUSE = re.compile(r"\b(?:ensures|requires|decreases)\s*\w*\s*\Z")
 # What has braces that don't count: comments, strings and characters.
 TEXT = re.compile(r"""//[^\n]*|b?"(?:\\.|[^"\\])*"|b?'(?:\\[^']+|[^'\\])'""", re.S)
