@@ -1,7 +1,7 @@
-Examples
-========
+prodash-examples: primes, workers and colors
+============================================
 
-tests/threads.t has the example `threads`, and the frames of `colors colored` are stored with the
+examples_threads.t has the example `threads`, and the frames of `colors colored` are stored with the
 crate.
 
 The number of primes is that of another program.

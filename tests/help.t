@@ -1,5 +1,5 @@
-Help
-====
+bin/: help
+==========
 
 Each script of bin/ prints help if it is asked for it, and does nothing else.
 

@@ -1,5 +1,5 @@
-Installed programs
-==================
+bin/install: installed programs
+===============================
 
 bin/install is `install-prodash` here. What it installs runs from a folder that was moved, with
 nothing but Python in the path.

@@ -1,5 +1,5 @@
-An animated picture
-===================
+bin/picture: an animated picture
+================================
 
 bin/picture draws the frames of event lines. A row is in the picture once for each text that it
 has, and is shown while it has it. Times are parts of a round, which goes on for three seconds after

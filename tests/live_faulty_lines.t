@@ -1,7 +1,7 @@
-Faulty lines
-============
+prodash-live: faulty lines
+==========================
 
-Each of these lines is wrong in one way. `told` writes what is said of them, without its origin. The
+Each of these lines is wrong in one way. `told` prints what is reported, without its origin. The
 status of prodash-live is 2.
 
   $ unset COLUMNS LINES NO_COLOR
@@ -86,7 +86,8 @@ status of prodash-live is 2.
   line 37: no number "+3" in: set 1 +3
   line 38: no such handle in: inc @a 1
 
-An item below one at the sixth level, whose place it would take. It has no handle.
+An item below one at the sixth level would take its parent's place. It isn't added, and gets no
+handle.
 
   $ told <<'END'
   > add @a 0 a
@@ -117,7 +118,7 @@ A line that is not UTF-8, one that is too long, and one that is cut off.
   line 2: longer than 65536 bytes in: aaaaaaaaaaaaaaaaaaaaaaaaaaaaaaaaaaaaaaaaaaaaaaaaaaaaaaaaaaaa
   line 3: cut off in: set 1 10
 
-60 characters of a line or a word are shown, and no control character.
+At most 60 characters of a line or a word are shown, and no control characters.
 
   $ sixty=$(printf '%060d' 0)
   $ printf "$sixty\n${sixty}1\n${sixty}1 a\nset 1 ${sixty}1\n" | told | tr 0 .
@@ -130,11 +131,55 @@ A line that is not UTF-8, one that is too long, and one that is cut off.
   status 2
   line 1: no event "a\xef\xbf\xbdb\xef\xbf\xbdc\xef\xbf\xbdd\xef\xbf\xbde\xc3\xa9" in: a\xef\xbf\xbdb\xef\xbf\xbdc\xef\xbf\xbdd\xef\xbf\xbde\xc3\xa9 (esc)
 
-With `--strict` the same is said of the first.
+With `--strict` the first faulty line is reported in the same words.
 
   $ printf 'add @a 0 a\ninit @a 10 a b\nfoo\n' | prodash-live --strict
   line 2: no unit "a b" in: init @a 10 a b
   [2]
   $ printf 'a\033b\302\233\n' | prodash-live --strict
   line 1: no event "a\xef\xbf\xbdb\xef\xbf\xbd" in: a\xef\xbf\xbdb\xef\xbf\xbd (esc)
+  [2]
+
+It ends the program: a line that is no event, one with an invalid handle, and one that is cut off.
+The rows are erased.
+
+  $ strict() { printf "$1" | prodash-live --strict --stdout --terminal always >frames; }
+  $ strict 'add @a 0 a\nset a 1\nset @b 1\n'
+  line 2: no handle "a" in: set a 1
+  [2]
+  $ strict 'add @a 0 a\nset @b 1\nset a 1\n'
+  line 2: no such handle in: set @b 1
+  [2]
+  $ strict 'add @a 0 a\nset @a 1'
+  line 2: cut off in: set @a 1
+  [2]
+  $ tail -c 7 frames | grep -o '\[J'
+  [J
+
+Failures
+========
+
+A faulty line is reported as a failure, in red, and sets the status.
+
+  $ echo bad | prodash-live --terminal always 2>frames
+  [2]
+  $ grep -o ' .\[2minput.*' frames
+   \x1b[2minput\x1b[0m \x1b[1;31mline 1: no event "bad" in: bad\x1b[0m (esc)
+
+So does a last line without a line feed, which isn't applied.
+
+  $ printf 'add 0 a\ninfo 1 0 b' | prodash-live
+   \xe2\x9c\x97 input line 2: cut off in: info 1 0 b (esc)
+  [2]
+
+A line that is not UTF-8 and one that is longer than 65536 bytes don't affect the lines after them.
+
+  $ {
+  >   printf 'add 0 \377\nadd 0 '
+  >   head -c 65531 /dev/zero | tr '\0' a
+  >   printf '\nadd 0 a\ninfo 1 - one\n'
+  > } | prodash-live
+   \xe2\x9c\x97 input line 1: not UTF-8 in: add 0 \xef\xbf\xbd (esc)
+   \xe2\x9c\x97 input line 2: longer than 65536 bytes in: add 0 aaaaaaaaaaaaaaaaaaaaaaaaaaaaaaaaaaaaaaaaaaaaaaaaaaaaaa (esc)
+         a one
   [2]

@@ -1,5 +1,5 @@
-Recordings
-==========
+prodash-live: recordings
+========================
 
 A recording has what a run did as event lines, which `prodash-replay` reads. `events` shows one
 without its ticks and the moments of the run.

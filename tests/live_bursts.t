@@ -1,5 +1,5 @@
-Bursts of messages
-==================
+prodash-live: bursts of messages
+================================
 
 No message is lost, however many come between two frames, and they stay in order. The reader of the
 frames is late here, and so are they: it waits until all lines are taken, or for ten seconds.

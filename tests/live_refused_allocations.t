@@ -1,10 +1,10 @@
-A program whose allocations are refused in turn
-===============================================
+prodash-live: refused allocations
+=================================
 
-With the first allocation refused, then the second, and so on until none is: `prodash-live` ends with
-an error, after a closing frame if its renderer was started, or its renderer does without what it was
-refused, draws the row, and erases it in the closing frame. Where rows are hidden the closing frame is
-the first one with bytes.
+The first allocation is refused, then the second, and so on until none is. Each time `prodash-live`
+either ends with an error, after a closing frame if its renderer was running, or the renderer does
+without what it was refused, draws the row, and erases it in the closing frame. While rows are
+hidden, the closing frame is the first with any bytes.
 
   $ build-failures .
   $ without_rows=$(printf '\r\033[J')

@@ -1,5 +1,5 @@
-The command line
-================
+prodash-live: options
+=====================
 
 An option's value is the next word, or follows `=`, and the last one counts.
 

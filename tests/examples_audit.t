@@ -1,5 +1,5 @@
-A run of eight threads
-======================
+prodash-examples: audit
+=======================
 
 The receipts of all calls agree with the journal, which has a line for each call.
 

@@ -1,5 +1,5 @@
-A program with threads
-======================
+prodash-examples: threads
+=========================
 
 Off a terminal each message is a line.
 

@@ -1,5 +1,5 @@
-Signals
-=======
+prodash-live: signals
+=====================
 
 bin/prodash-live runs the program behind bin/tools/relay.py, which is `relay` here. SIGTERM ends
 the input: the lines that were there are taken, and one that isn't whole is left out.

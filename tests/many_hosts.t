@@ -1,7 +1,8 @@
-Jobs on several hosts
-=====================
+examples/many_hosts.sh: jobs on several hosts
+=============================================
 
-examples/many_hosts.sh is `many-hosts` here. `reach` runs its job on this machine, whatever the host.
+Here examples/many_hosts.sh is `many-hosts`, and `reach` runs a job on this machine, whatever the
+host.
 
   $ printf '#!/bin/sh\nexec sh -c "$2"\n' >reach
   $ chmod +x reach

@@ -1,0 +1,86 @@
+prodash-live: messages
+======================
+
+Off a terminal the messages alone are written, to standard error. A faulty line is reported, and
+the rest is read; the status is 2 then. The script comes in pieces of five bytes.
+
+  $ unset COLUMNS LINES NO_COLOR
+  $ cat >script <<END
+  > add @a 0 alpha
+  > add @b @a beta
+  > init @b 10 -
+  > set @b 3
+  > info @b 0 one
+  > bad
+  > done @a 0 two
+  > tick 0
+  > set @c 1
+  > add @b 0 delta
+  > fail 3 0 three
+  > drop 2
+  > drop @b
+  > info @b - four
+  > done 1 0 five
+  > add 0 zeta
+  > END
+  $ { cat script; printf 'info 3 0 si'; } | dd bs=5 2>/dev/null | prodash-live >other
+   beta one
+   \xe2\x9c\x97 input line 6: no event "bad" in: bad (esc)
+   \xe2\x9c\x93 alpha two (esc)
+   \xe2\x9c\x97 input line 8: frames are drawn without "tick" in: tick 0 (esc)
+   \xe2\x9c\x97 input line 9: no such handle in: set @c 1 (esc)
+   \xe2\x9c\x97 delta three (esc)
+   \xe2\x9c\x97 input line 12: no such handle in: drop 2 (esc)
+   \xe2\x9c\x97 input line 14: no such handle in: info @b - four (esc)
+   \xe2\x9c\x93 alpha five (esc)
+   \xe2\x9c\x97 input line 17: cut off in: info 3 0 si (esc)
+  [2]
+  $ cat other
+
+The same on standard output, without the line that is cut off.
+
+  $ prodash-live --stdout <script 2>other
+   beta one
+   \xe2\x9c\x97 input line 6: no event "bad" in: bad (esc)
+   \xe2\x9c\x93 alpha two (esc)
+   \xe2\x9c\x97 input line 8: frames are drawn without "tick" in: tick 0 (esc)
+   \xe2\x9c\x97 input line 9: no such handle in: set @c 1 (esc)
+   \xe2\x9c\x97 delta three (esc)
+   \xe2\x9c\x97 input line 12: no such handle in: drop 2 (esc)
+   \xe2\x9c\x97 input line 14: no such handle in: info @b - four (esc)
+   \xe2\x9c\x93 alpha five (esc)
+  [2]
+  $ cat other
+
+Without a faulty line the status is 0.
+
+  $ printf 'add 0 a\ninfo 1 3723000000000 one\n' | prodash-live --timestamps
+   01:02:03 a one
+
+Severity
+========
+
+Without colours a sign before the origin says that a message is a success or a failure. The row of
+the item has none. `until_shown` keeps the input of a command open until a text is in the file
+`frames`. `last_rows` shows the rows drawn last before the closing frame.
+
+  $ until_shown() {
+  >   text=$1; shift
+  >   { cat; until grep -qs "$text" frames; do sleep 0.02; done; } | "$@"
+  > }
+  $ last_rows() { tail -n $((2 * $1 + 1)) frames | head -n "$1" | sed 's/.*\[2K//'; }
+  $ printf 'add 0 task\ninfo 1 0 a\ndone 1 0 b\nfail 1 0 c\ninit 1 3 -\nset 1 2\n' >said
+  $ until_shown 2/3 prodash-live --no-color --columns 30 --terminal always <said 2>frames
+  $ last_rows 1
+   task 2/3 [===========>------]
+  $ prodash-live <said
+   task a
+   \xe2\x9c\x93 task b (esc)
+   \xe2\x9c\x97 task c (esc)
+
+With colours there are no signs.
+
+  $ until_shown 2/3 prodash-live --columns 30 --terminal always <said 2>frames
+  $ grep -c -e ✓ -e ✗ frames
+  0
+  [1]

@@ -1,0 +1,29 @@
+prodash-live: streams
+=====================
+
+An empty input gets a frame without rows and the closing frame.
+
+  $ prodash-live --terminal always </dev/null
+  \r\x1b[J\r\x1b[J (no-eol) (esc)
+
+An input that can't be read, and an output that can't be written.
+
+  $ prodash-live <.
+  input is broken
+  [1]
+  $ echo 'add @a 0 a' | prodash-live --stdout --terminal always >/dev/full
+  output is broken
+  [1]
+  $ printf 'add @a 0 a\ninfo @a 0 one\n' | prodash-live --stdout >/dev/full
+  output is broken
+  [1]
+
+Once the output is broken, no more of the input is read, whatever its lines ask for.
+
+  $ endless() { echo 'add 0 a'; yes "$1"; }
+  $ endless 'set 1 3' | timeout 10 prodash-live --stdout --terminal always >/dev/full
+  output is broken
+  [1]
+  $ endless 'running 1' | timeout 10 prodash-live --stdout --terminal always >/dev/full
+  output is broken
+  [1]
