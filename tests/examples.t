@@ -38,16 +38,16 @@ The frames without colours have the characters of those with them.
 Arguments that an example doesn't take, and those that name none.
 
   $ prodash-examples workers
-  usage: prodash-workers SECONDS [messages]
+  usage: prodash-examples workers SECONDS [messages]
   [2]
   $ prodash-examples workers 1 all
-  usage: prodash-workers SECONDS [messages]
+  usage: prodash-examples workers SECONDS [messages]
   [2]
   $ prodash-examples colors
-  usage: prodash-colors colored|plain
+  usage: prodash-examples colors colored|plain
   [2]
   $ prodash-examples colors plain plain
-  usage: prodash-colors colored|plain
+  usage: prodash-examples colors colored|plain
   [2]
   $ prodash-examples
   usage: prodash-examples threads | primes | workers SECONDS [messages] | audit [check] | colors colored|plain
@@ -65,10 +65,9 @@ An output that can't be written.
   output is broken
   [1]
 
-The scripts of bin/ pass the name on.
+`examples/run` is `example` here, and passes its words on.
 
-  $ scripts=$(dirname "$(readlink -f "$(command -v install-prodash)")")
-  $ "$scripts"/prodash-colors plain | cmp - uncolored
-  $ "$scripts"/prodash-workers 1 all
-  usage: prodash-workers SECONDS [messages]
+  $ example colors plain | cmp - uncolored
+  $ example workers 1 all
+  usage: prodash-examples workers SECONDS [messages]
   [2]

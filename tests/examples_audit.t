@@ -41,10 +41,10 @@ Without the journal.
 Arguments that are not this word.
 
   $ prodash-examples audit all
-  usage: prodash-audit [check]
+  usage: prodash-examples audit [check]
   [2]
   $ prodash-examples audit check check
-  usage: prodash-audit [check]
+  usage: prodash-examples audit [check]
   [2]
 
 An output that can't be written.

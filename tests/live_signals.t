@@ -1,7 +1,7 @@
 prodash-live: signals
 =====================
 
-bin/prodash-live runs the program behind bin/tools/relay.py, which is `relay` here. SIGTERM ends
+bin/prodash-live runs the program behind lib/relay.py, which is `relay` here. SIGTERM ends
 the input: the lines that were there are taken, and one that isn't whole is left out.
 
   $ mkfifo lines

@@ -12,7 +12,7 @@ use std::sync::Wait;
 use std::thread::Threads;
 
 /// The fault of other arguments.
-const USAGE: Fault = Fault::Usage("prodash-audit [check]");
+const USAGE: Fault = Fault::Usage("prodash-examples audit [check]");
 
 /// Runs the example: writes the journal to `out` unless the arguments say `check`, and how many
 /// receipts there are, all of which agree, to standard error.

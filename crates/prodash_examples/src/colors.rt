@@ -10,7 +10,7 @@ use std::io::Write;
 use std::rt::Env;
 
 /// The fault of arguments that are not one of the two words.
-const USAGE: Fault = Fault::Usage("prodash-colors colored|plain");
+const USAGE: Fault = Fault::Usage("prodash-examples colors colored|plain");
 
 /// Runs the example: writes the bytes of all frames to `out`.
 pub fn run<R: Env + Alloc<A = Global>, O: Write>(rt: &R, out: &mut O) -> Result<(), Fault> {

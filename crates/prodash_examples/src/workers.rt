@@ -21,7 +21,7 @@ const STEPS: u64 = 10;
 const STEP: u64 = 50_000_000;
 
 /// The fault of other arguments.
-const USAGE: Fault = Fault::Usage("prodash-workers SECONDS [messages]");
+const USAGE: Fault = Fault::Usage("prodash-examples workers SECONDS [messages]");
 
 /// How long the workers work, and what is drawn.
 #[derive(Clone, Copy)]

@@ -12,7 +12,7 @@ STORE = f"{CACHES}/prodash-edits"
 # The seconds after which a file that no run has read is removed.
 LIFETIME = 30 * 24 * 3600
 # The tools that put edits together and judge them.
-TOOLS = ("edits", "functions", "kit", "switches", "trials", "verdicts")
+TOOLS = ("edits", "functions", "trials", "verdicts")
 
 
 @dataclass

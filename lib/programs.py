@@ -4,7 +4,7 @@ import signal
 import subprocess
 import sys
 
-TOP = os.path.dirname(os.path.dirname(os.path.dirname(os.path.realpath(__file__))))
+TOP = os.path.dirname(os.path.dirname(os.path.realpath(__file__)))
 
 
 def proved(name):
@@ -110,11 +110,10 @@ def ready(name, stderr_is_output=False):
     return unproved(name)
 
 
-def run(name, words, stderr_is_output=False, first=()):
+def run(name, words, stderr_is_output=False):
     """Runs a program with these words in place of this one, or returns a status if it isn't built.
 
-    The words `first` go before the others. Asked for help it prints what the script of the program
-    says.
+    Asked for help it prints what the script of the program says.
     """
     if words in (["-h"], ["--help"]):
         print(sys.modules["__main__"].__doc__.strip())
@@ -125,9 +124,5 @@ def run(name, words, stderr_is_output=False, first=()):
     # Python ignores these two signals, and the program would too
     for it in (signal.SIGPIPE, signal.SIGXFSZ):
         signal.signal(it, signal.SIG_DFL)
-    os.execv(program, [name.replace("_", "-"), *first, *words])
+    os.execv(program, [name.replace("_", "-"), *words])
 
-
-def run_example(name, words, stderr_is_output=False):
-    """Runs an example with these words, as `run` does a program."""
-    return run("prodash_examples", words, stderr_is_output, [name])

@@ -20,14 +20,14 @@ import time
 SECONDS, BYTES = 60, 1 << 20
 COMMAND, MORE, OUTPUT = "  $ ", "  > ", "  "
 # Scripts that the path has too.
-TOOLS = os.path.dirname(os.path.realpath(__file__))
-TOP = os.path.dirname(os.path.dirname(TOOLS))
+TOP = os.path.dirname(os.path.dirname(os.path.dirname(os.path.realpath(__file__))))
 SCRIPTS = {
-    "build-failures": f"{TOOLS}/build-failures",
+    "build-failures": f"{TOP}/dev/lib/build-failures",
     "install-prodash": f"{TOP}/bin/install",
     "many-hosts": f"{TOP}/examples/many_hosts.sh",
+    "example": f"{TOP}/examples/run",
     "picture": f"{TOP}/bin/picture",
-    "relay": f"{TOOLS}/relay.py",
+    "relay": f"{TOP}/lib/relay.py",
     "resize": f"{TOP}/tests/scripts/resize.py",
 }
 SHORT = {"\\": "\\\\", "\r": "\\r", "\t": "\\t"}

@@ -186,4 +186,6 @@ def fits(edit, it, is_kept):
 def edit_files(crate, folders):
     """Yields the files of the edits of a crate in these of its folders, and below them."""
     for part in folders:
-        yield from sorted(glob.glob(f"{crate.folder}/{part}/**/*.edit", recursive=True))
+        for file in sorted(glob.glob(f"{crate.folder}/{part}/**/*.edit", recursive=True)):
+            if not switches.names_tests(file):
+                yield file

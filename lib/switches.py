@@ -46,6 +46,12 @@ class TestEdit:
         self.lines = {}
 
 
+def names_tests(file):
+    """Returns whether an edit is one that a test must catch."""
+    with open(file, encoding="utf-8") as it:
+        return any(line.startswith("tests:") for line in it)
+
+
 def steps_in(file):
     """Yields path, old and new text of each replacement of an edit."""
     path, old = "", ""

@@ -1,4 +1,4 @@
-"""The test of `bin/try-edits`: a small crate, and what must be said of its edits."""
+"""The test of `dev/try-edits`: a small crate, and what must be said of its edits."""
 import functools
 import os
 import tempfile

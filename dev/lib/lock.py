@@ -20,7 +20,7 @@ from trials import REFUSED
 
 NAME = "edits.lock"
 HEAD = """\
-# The crates whose edits were all refused, and sums of what that rests on. `bin/try-edits` writes
+# The crates whose edits were all refused, and sums of what that rests on. `dev/try-edits` writes
 # this file, and does not try the edits of these crates again, but for one part of all.
 """
 # The folder of the edits that count: `rt ci` tries those of must-fail/ itself.
