@@ -2,7 +2,7 @@
 use Rattle.std.proofs.Common.{◌≡◌, ◌∙◌, ap, sym, subst, ℕ, zero, suc, ◌<◌, ◌++◌, ◌∷◌, [], List, refl, append_assoc, append-nil, take, length, Bool, true, false, cond, Result, Ok, arith}
 use Rattle.std.specs.Prelude.{is_ok}
 use Rattle.std.proofs.lemmas.List.{nil_from_length}
-use Rattle.prodash_line.specs.Renderings.{RendersAll}
+use Rattle.prodash_line.specs.plumbing.RenderedInputs.{RendersAll}
 use Rattle.prodash_line.specs.Screens.{ScreenState}
 use Rattle.prodash_core.specs.Trees.{Effect, OnTree, OnRenderer, Played, play}
 use Rattle.prodash_core.specs.Sessions.{SessionState, is_memory, tree_after, StepsBy, Steps}

@@ -6,7 +6,7 @@ use Rattle.std.specs.Str.{IsUtf8}
 use Rattle.std.proofs.lemmas.List.{take-append-drop, take_rest, take-take, take_at, length-take}
 use Rattle.std.proofs.lemmas.List.Prefix.{front_fits}
 use Rattle.std.proofs.lemmas.Str.{drop_past_char, IsUtf8-encode, length-encode, len_utf8_bounds}
-use Rattle.prodash_line.specs.Reading.{NoCharAt}
+use Rattle.prodash_line.specs.plumbing.SignReading.{NoCharAt}
 
 -- bytes begin with the first character of a text that they begin with
 pub char_begins : (bytes text r t : List ℕ) (c n k : ℕ) → take n bytes ≡ text ++ r → text ≡ encode_utf8 c ++ t → k ≡ len_utf8 c

@@ -15,7 +15,7 @@ use Rattle.unicode_width.specs.declared.state.State.{State}
 use Rattle.unicode_width.specs.Width.{plain, step, read_before, str_width}
 use Rattle.unicode_width.proofs.Rules.{str_width-printable}
 use Rattle.prodash_line.specs.Lines.{Piece, Line, capped, width_of, columns_of}
-use Rattle.prodash_line.specs.Writing.{is_printable}
+use Rattle.prodash_line.specs.plumbing.Writing.{is_printable}
 
 pub columns_of-append : (a b : Line) → columns_of (a ++ b) ≡ capped (columns_of a + columns_of b)
 columns_of-append a b = omega (arith, sum_by-append width_of a b)

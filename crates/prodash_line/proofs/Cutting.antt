@@ -8,8 +8,8 @@ use Rattle.unicode_width.specs.Width.{str_width}
 use Rattle.prodash_line.specs.declared.render.line.draw.room.Room.{Room}
 use Rattle.prodash_line.specs.declared.render.line.draw.room.Room.TheVariants.{Unlimited, Columns, Full}
 use Rattle.prodash_line.specs.Lines.{Piece, Line, styled, width_of, columns_of, longest_prefix, cut_to, cut}
-use Rattle.prodash_line.specs.Cutting.{written_in, room_after, room_of, room_after_line, left_of, Fits}
-use Rattle.prodash_line.specs.Writing.{is_printable, line_bytes}
+use Rattle.prodash_line.specs.plumbing.Cutting.{written_in, room_after, room_of, room_after_line, left_of, Fits}
+use Rattle.prodash_line.specs.plumbing.Writing.{is_printable, line_bytes}
 use Rattle.prodash_line.proofs.Columns.{width-printable, width-indented, width-spaces}
 use Rattle.prodash_line.proofs.Written.{line_bytes-nil, line_bytes-append}
 use Rattle.prodash_line.proofs.Prefixes.{prefix_within, prefix-printable, prefix-width, prefix-indented, prefix-spaces}

@@ -5,7 +5,7 @@ use Rattle.std.specs.List.{AllByRecursion, list_any}
 use Rattle.std.specs.Bool.{then_some}
 use Rattle.std.specs.Char.{is_control}
 use Rattle.prodash_line.specs.DrawnLines.{without_control, drawn_chars}
-use Rattle.prodash_line.specs.Writing.{is_printable}
+use Rattle.prodash_line.specs.plumbing.Writing.{is_printable}
 use Rattle.prodash_line.proofs.Columns.{chars-printable}
 use Rattle.prodash_line.proofs.WithoutControls.{printable_clean}
 

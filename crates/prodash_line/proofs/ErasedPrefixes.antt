@@ -19,7 +19,8 @@ use Rattle.prodash_line.specs.Fits.{HasPlainLines}
 use Rattle.prodash_line.specs.Reading.{AreProper}
 use Rattle.prodash_line.specs.Renderer.{Renderer, remember, frame_at}
 use Rattle.prodash_line.specs.Screens.{ScreenState}
-use Rattle.prodash_line.specs.Renderings.{Rendering, RendersAll, after_result, renderer_after, Attempt, attempt_of, attempts_of, frames_of, drawn_frames, KeepsSize}
+use Rattle.prodash_line.specs.Renderings.{Rendering, after_result, renderer_after, Attempt, attempt_of, attempts_of, frames_of, drawn_frames, KeepsSize}
+use Rattle.prodash_line.specs.plumbing.RenderedInputs.{RendersAll}
 use Rattle.prodash_line.specs.ErasedPages.{IsTerminal, ShowsErased, ShowsBody, ShowsSince, FitsTerminal, ShowsErasing}
 use Rattle.prodash_line.specs.Signs.{IsProper}
 use Rattle.prodash_line.proofs.Lists.{AllByRecursion-append, AllByRecursion-take}

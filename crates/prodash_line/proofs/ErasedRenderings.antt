@@ -23,7 +23,8 @@ use Rattle.prodash_line.specs.Frames.{body_lines}
 use Rattle.prodash_line.specs.Fits.{IsPlain, HasPlainLines, LinesFit, BodyFits}
 use Rattle.prodash_line.specs.Renderer.{Renderer, Drawing, has_messages, closes_at, is_drawn, is_cursor_hidden, ending_of, drawn_rows, drawn_lines, latest_rows, remember, moment_of, drawing_at, action_at, printed_at, body_of, frame_at}
 use Rattle.prodash_line.specs.Screens.{ScreenState}
-use Rattle.prodash_line.specs.Renderings.{Rendering, RendersEach, RendersAll}
+use Rattle.prodash_line.specs.Renderings.{Rendering, RendersEach}
+use Rattle.prodash_line.specs.plumbing.RenderedInputs.{RendersAll}
 use Rattle.prodash_line.specs.ErasedPages.{ErasesPages, ErasesPagesOf}
 use Rattle.prodash_line.proofs.FittingFrames.{lines_fit, body_fits, frame_cut}
 use Rattle.prodash_line.proofs.OrderlyFrames.{orderly_at}

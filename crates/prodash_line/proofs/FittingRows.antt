@@ -11,9 +11,9 @@ use Rattle.prodash_line.specs.declared.render.line.draw.layout.Layout.TheVariant
 use Rattle.prodash_line.specs.Lines.{Line}
 use Rattle.prodash_line.specs.Frames.{covered}
 use Rattle.prodash_line.specs.ProgressRows.{DrawnRow, is_row_drawn, filtered, fitting_count, fitting, more_lines}
-use Rattle.prodash_line.specs.Observing.{shown_by, observe_all}
-use Rattle.prodash_line.specs.OverwriteBytes.{lines_bytes}
-use Rattle.prodash_line.specs.FrameWriting.{count_of, SplitsFitting}
+use Rattle.prodash_line.specs.plumbing.Observing.{shown_by, observe_all}
+use Rattle.prodash_line.specs.plumbing.OverwriteBytes.{lines_bytes}
+use Rattle.prodash_line.specs.plumbing.FrameWriting.{count_of, SplitsFitting}
 use Rattle.prodash_line.proofs.Observing.{shown_by-append, observe_all-append, length-shown_by}
 use Rattle.prodash_line.proofs.OverwriteBytes.{lines_bytes-append}
 

@@ -7,8 +7,8 @@ use Rattle.prodash_line.specs.declared.render.line.draw.line_writer.LineWriter.{
 use Rattle.prodash_line.specs.declared.render.line.draw.room.Room.{Room}
 use Rattle.prodash_line.specs.declared.render.line.draw.room.Room.TheVariants.{Unlimited, Columns, Full}
 use Rattle.prodash_line.specs.Lines.{piece, capped}
-use Rattle.prodash_line.specs.Cutting.{written_in, room_after}
-use Rattle.prodash_line.specs.Writing.{is_printable, Appends}
+use Rattle.prodash_line.specs.plumbing.Cutting.{written_in, room_after}
+use Rattle.prodash_line.specs.plumbing.Writing.{is_printable, Appends}
 use Rattle.prodash_line.proofs.Columns.{printable-append, printable-take, width-printable}
 use Rattle.prodash_line.proofs.Cutting.{fits_unlimited, fits_whole, fits_prefix, fits_full}
 use Rattle.prodash_line.proofs.LineWriting.{appends_piece, appends_then}

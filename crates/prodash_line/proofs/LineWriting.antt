@@ -8,8 +8,8 @@ use Rattle.prodash_line.specs.declared.render.line.draw.room.Room.{Room}
 use Rattle.prodash_line.specs.declared.render.line.draw.room.Room.TheVariants.{Columns}
 use Rattle.prodash_line.specs.declared.render.line.page.style.Style.{Style}
 use Rattle.prodash_line.specs.Lines.{Piece, Line, piece, styled, capped, width_of, columns_of, cut, cut_to}
-use Rattle.prodash_line.specs.Cutting.{written_in, room_after, room_of, room_after_line, left_of}
-use Rattle.prodash_line.specs.Writing.{is_printable, line_bytes, style_of_length, open_bytes, reset_bytes, Writes, Appends, Begun, SameLine, Counts}
+use Rattle.prodash_line.specs.plumbing.Cutting.{written_in, room_after, room_of, room_after_line, left_of}
+use Rattle.prodash_line.specs.plumbing.Writing.{is_printable, line_bytes, style_of_length, open_bytes, reset_bytes, Writes, Appends, Begun, SameLine, Counts}
 use Rattle.prodash_line.proofs.Written.{line_bytes-append, line_bytes-text, line_bytes-printable, line_bytes-joined, styled_bytes}
 use Rattle.prodash_line.proofs.Columns.{columns_of-last, printable-take, printable-spaces, width-printable, width-indented}
 use Rattle.prodash_line.proofs.Cutting.{cut-last, after-last, cut-nil, columns-cut_to}

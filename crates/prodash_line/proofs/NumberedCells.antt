@@ -6,7 +6,7 @@ use Rattle.std.proofs.lemmas.List.{map-append, take-append-le, take_all}
 use Rattle.std.proofs.lemmas.Bool.{cases_lt}
 use Rattle.std.proofs.lemmas.Grind.{reverse_onto}
 use Rattle.prodash_line.specs.ProgressRows.{numbered_cell, numbered_cells}
-use Rattle.prodash_line.specs.Writing.{is_printable}
+use Rattle.prodash_line.specs.plumbing.Writing.{is_printable}
 use Rattle.prodash_line.proofs.Columns.{printable-append}
 
 printable_either : (b : Bool) → is_printable (cond b 61 32 ∷ []) ≡ true

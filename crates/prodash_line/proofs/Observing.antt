@@ -5,7 +5,7 @@ use Rattle.std.specs.Option.{option_map}
 use Rattle.prodash_base.specs.Rows.{PathRow}
 use Rattle.prodash_base.specs.Trackers.{Tracker, observe, observe_rows, throughput_of, throughputs_of, step_of, update_elapsed, reconcile, after_frame}
 use Rattle.prodash_line.specs.ProgressRows.{with_throughputs}
-use Rattle.prodash_line.specs.Observing.{tracker_at, throughput_by, observe_by, shown_by, observe_all}
+use Rattle.prodash_line.specs.plumbing.Observing.{tracker_at, throughput_by, observe_by, shown_by, observe_all}
 
 without_tracker : (rows : List PathRow) → shown_by None rows ≡ map (λ row. (row, None)) rows
 without_tracker [] = refl

@@ -15,7 +15,8 @@ use Rattle.prodash_line.specs.declared.render.line.page.sign.Sign.TheVariants.{C
 use Rattle.prodash_line.specs.declared.render.line.page.style.Style.{Style}
 use Rattle.prodash_line.specs.Styles.{style_codes, style_parameters}
 use Rattle.prodash_line.specs.Signs.{spelling_of, spelling, sequence, IsProper}
-use Rattle.prodash_line.specs.Reading.{is_parameter, NoSignAt, AreProper}
+use Rattle.prodash_line.specs.Reading.{AreProper}
+use Rattle.prodash_line.specs.plumbing.SignReading.{is_parameter, NoSignAt}
 use Rattle.prodash_line.proofs.Lists.{AllByRecursion-append}
 use Rattle.prodash_line.proofs.StyleCodes.{IsCode, are_codes, style_of, style_of-codes}
 use Rattle.prodash_line.proofs.StyleParameters.{parts_of, codes_of_parameters}

@@ -13,9 +13,9 @@ use Rattle.prodash_line.specs.Lines.{Line, spaces, columns_of}
 use Rattle.prodash_line.specs.Frames.{Frame, line_signs, piece_signs, row_start, covered, overwrite_line, first_width, lines_over, overwrite, cursor_up, erased_rows, redraw, body_signs, frame_start, frame_signs}
 use Rattle.prodash_line.specs.declared.render.line.draw.input.Options.{Options}
 use Rattle.prodash_line.specs.MessageLines.{drawn_message_line, message_lines, origin_width, widths_of_origins, greatest_width}
-use Rattle.prodash_line.specs.Writing.{line_bytes}
-use Rattle.prodash_line.specs.OverwriteBytes.{row_end, overwrite_line_bytes, lines_bytes, blank_bytes}
-use Rattle.prodash_line.specs.FrameWriting.{action_start, erasing_end}
+use Rattle.prodash_line.specs.plumbing.Writing.{line_bytes}
+use Rattle.prodash_line.specs.plumbing.OverwriteBytes.{row_end, overwrite_line_bytes, lines_bytes, blank_bytes}
+use Rattle.prodash_line.specs.plumbing.FrameWriting.{action_start, erasing_end}
 use Rattle.prodash_line.specs.Renderer.{Drawing, body_of}
 use Rattle.prodash_line.specs.declared.render.line.draw.action.Action.{Action}
 use Rattle.prodash_line.specs.declared.render.line.draw.action.Action.TheVariants.{Leave, Redraw, Erase, Close}

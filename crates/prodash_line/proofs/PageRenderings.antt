@@ -15,7 +15,8 @@ use Rattle.prodash_line.specs.declared.render.line.draw.action.Action.{Action}
 use Rattle.prodash_line.specs.declared.render.line.draw.action.Action.TheVariants.{Leave, Redraw, Erase, Close}
 use Rattle.prodash_line.specs.Renderer.{Renderer, Renders, frame_at, action_at, ended_after}
 use Rattle.prodash_line.specs.Screens.{ScreenState}
-use Rattle.prodash_line.specs.Renderings.{Rendering, after_result, renderer_after, RendersAll, Attempt, attempt_of, attempts_of, frames_of, drawn_frames, bytes_over, WritesAttempts, FitsPage, ShowsFrames}
+use Rattle.prodash_line.specs.Renderings.{Rendering, after_result, renderer_after, Attempt, attempt_of, attempts_of, frames_of, drawn_frames, bytes_over, WritesAttempts, FitsPage, ShowsFrames}
+use Rattle.prodash_line.specs.plumbing.RenderedInputs.{RendersAll}
 use Rattle.prodash_line.proofs.FittingFrames.{frames_fit}
 use Rattle.prodash_line.proofs.OrderlyFrames.{orderly_frames}
 use Rattle.prodash_line.proofs.ProperFrames.{frames_proper}

@@ -6,8 +6,8 @@ use Rattle.prodash_line.specs.declared.render.line.draw.line_writer.LineWriter.{
 use Rattle.prodash_line.specs.declared.render.line.draw.room.Room.TheVariants.{Columns}
 use Rattle.prodash_line.specs.declared.render.line.page.style.Style.{Style}
 use Rattle.prodash_line.specs.Lines.{piece, styled, spaces, capped, columns_of}
-use Rattle.prodash_line.specs.Cutting.{written_in, room_after}
-use Rattle.prodash_line.specs.Writing.{line_bytes, style_of_length, open_bytes, reset_bytes, Appends}
+use Rattle.prodash_line.specs.plumbing.Cutting.{written_in, room_after}
+use Rattle.prodash_line.specs.plumbing.Writing.{line_bytes, style_of_length, open_bytes, reset_bytes, Appends}
 use Rattle.prodash_line.proofs.Columns.{printable-spaces, width-spaces}
 use Rattle.prodash_line.proofs.Cutting.{whole_written, whole_after}
 use Rattle.prodash_line.proofs.LineWriting.{appends_piece, appends_then}

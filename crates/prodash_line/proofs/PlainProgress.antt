@@ -17,8 +17,8 @@ use Rattle.prodash_line.specs.declared.render.line.page.style.Style.{Style}
 use Rattle.prodash_line.specs.Lines.{Line, piece, spaces, capped, in_color}
 use Rattle.prodash_line.specs.ProgressRows.{fraction_of, fraction_values, values_by, bar, bar_with, bounded_bar, filled_cells}
 use Rattle.prodash_line.specs.TextStyles.{row_style}
-use Rattle.prodash_line.specs.Padding.{end_of_values, AppendsProgress, AppendsText, DrawsProgress, OrNothing, plain_bar, plain_progress}
-use Rattle.prodash_line.specs.Writing.{is_printable, Appends, AppendsWhole}
+use Rattle.prodash_line.specs.plumbing.Padding.{end_of_values, AppendsProgress, AppendsText, DrawsProgress, OrNothing, plain_bar, plain_progress}
+use Rattle.prodash_line.specs.plumbing.Writing.{is_printable, Appends, AppendsWhole}
 use Rattle.prodash_line.proofs.Coloring.{columns_of-in_color}
 use Rattle.prodash_line.proofs.Columns.{printable-append, printable-parts, printable-repeated, printable-spaces, width-printable, width-spaces}
 use Rattle.prodash_line.proofs.JoinedTexts.{joined, ArePrintable, printable-joined, appends_apart}

@@ -8,7 +8,7 @@ use Rattle.std.proofs.lemmas.Str.{IsUtf8-drop, IsCharBoundary-from_take, chars_p
 use Rattle.std.proofs.lemmas.List.{length-take, take_at, drop_at, take-take, length-replicate}
 use Rattle.unicode_width.specs.Width.{str_width}
 use Rattle.prodash_line.specs.Lines.{longest_prefix_of, longest_prefix}
-use Rattle.prodash_line.specs.Writing.{is_printable}
+use Rattle.prodash_line.specs.plumbing.Writing.{is_printable}
 use Rattle.prodash_line.proofs.Columns.{chars-printable, width-printable, width-indented, width-spaces, printable-take}
 
 pub width-none : str_width false [] ≡ 0

@@ -16,7 +16,8 @@ use Rattle.prodash_line.specs.declared.render.line.draw.action.Action.{Action}
 use Rattle.prodash_line.specs.declared.render.line.draw.action.Action.TheVariants.{Leave, Redraw, Erase, Close}
 use Rattle.prodash_line.specs.Renderer.{Renderer, Renders, Drawing, frame_at, frame_bytes, next, action_at, drawing_at, printed_at, ending_of, body_of, state_after}
 use Rattle.prodash_line.specs.Screens.{ScreenState, WritesFrame, has_bytes}
-use Rattle.prodash_line.specs.Renderings.{Rendering, after_result, renderer_after, RendersEach, RendersAll, BreaksExactly, FlushesFrame, attempt_of, attempts_of, bytes_over, AllBroken, WritesAttempts}
+use Rattle.prodash_line.specs.Renderings.{Rendering, after_result, renderer_after, RendersEach, BreaksExactly, FlushesFrame, attempt_of, attempts_of, bytes_over, AllBroken, WritesAttempts}
+use Rattle.prodash_line.specs.plumbing.RenderedInputs.{RendersAll}
 
 -- what holds of each rendering by itself holds of each in a list
 pub each : (P : Renderer → ScreenState → Rendering → ScreenState → Type 0)

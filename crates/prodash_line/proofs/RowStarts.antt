@@ -6,10 +6,10 @@ use Rattle.prodash_line.specs.declared.render.line.draw.layout.Layout.{Layout}
 use Rattle.prodash_line.specs.declared.render.line.draw.layout.Layout.TheVariants.{Overwriting, Erasing}
 use Rattle.prodash_line.specs.Frames.{row_start}
 use Rattle.prodash_line.specs.Lines.{spaces, in_color}
-use Rattle.prodash_line.specs.OverwriteBytes.{on_row}
+use Rattle.prodash_line.specs.plumbing.OverwriteBytes.{on_row}
 use Rattle.prodash_line.specs.ProgressRows.{head_of}
 use Rattle.prodash_line.specs.Signs.{spelling}
-use Rattle.prodash_line.specs.Writing.{Appends, Begun}
+use Rattle.prodash_line.specs.plumbing.Writing.{Appends, Begun}
 use Rattle.prodash_line.proofs.LineWriting.{begun_then, begun_as, begun_to}
 
 -- what erases a row, and six spaces

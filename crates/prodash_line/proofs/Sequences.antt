@@ -9,7 +9,7 @@ use Rattle.std.proofs.lemmas.Str.{char_from_byte}
 use Rattle.prodash_line.specs.declared.render.line.page.sign.Sign.TheVariants.{Char, LineFeed, CarriageReturn, Up, EraseLine, EraseBelow, HideCursor, ShowCursor, Open, Reset}
 use Rattle.prodash_line.specs.Styles.{style_parameters}
 use Rattle.prodash_line.specs.Signs.{sequence}
-use Rattle.prodash_line.specs.Reading.{MakesNone, NoStyle}
+use Rattle.prodash_line.specs.plumbing.SignReading.{MakesNone, NoStyle}
 
 -- a sequence has one list of parameters and one final byte
 same_sequence : (p q : List ℕ) (a b : ℕ) → sequence p a ≡ sequence q b → (p ≡ q) × (a ≡ b)

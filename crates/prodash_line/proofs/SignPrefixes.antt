@@ -12,7 +12,8 @@ use Rattle.prodash_line.specs.declared.render.line.page.sign.Sign.{Sign}
 use Rattle.prodash_line.specs.declared.render.line.page.sign.Sign.TheVariants.{Char, LineFeed, CarriageReturn, Up, EraseLine, EraseBelow, HideCursor, ShowCursor, Open, Reset}
 use Rattle.prodash_line.specs.Styles.{style_parameters}
 use Rattle.prodash_line.specs.Signs.{spelling_of, spelling, sequence, IsProper}
-use Rattle.prodash_line.specs.Reading.{is_parameter, MakesNone, NoSequenceAt, NoSignAt, AreProper, IsLongestPrefix}
+use Rattle.prodash_line.specs.Reading.{AreProper, IsLongestPrefix}
+use Rattle.prodash_line.specs.plumbing.SignReading.{is_parameter, MakesNone, NoSequenceAt, NoSignAt}
 use Rattle.prodash_line.proofs.OneSpelling.{prefix_parameters, digits_parameters, style_is_parameters, spells_something, longest_prefix, one_spelling}
 
 -- each of the bytes is a parameter byte

@@ -11,7 +11,7 @@ use Rattle.std.proofs.lemmas.List.Elements.{All-from_recursion, filter_map-appen
 use Rattle.std.proofs.lemmas.List.Splits.{slice_split_none, slice_split_at, join_with_byte-slice_split, length-slice_split}
 use Rattle.prodash_line.specs.declared.render.line.page.style.Style.{Style}
 use Rattle.prodash_line.specs.Styles.{style_codes, style_parameters}
-use Rattle.prodash_line.specs.Reading.{NoStyle}
+use Rattle.prodash_line.specs.plumbing.SignReading.{NoStyle}
 use Rattle.prodash_line.proofs.StyleCodes.{IsCode, are_codes}
 
 -- the parts of parameters between semicolons

@@ -11,8 +11,9 @@ use Rattle.prodash_line.specs.declared.render.line.draw.input.Input.TheVariants.
 use Rattle.prodash_line.specs.declared.render.line.draw.action.Composed.{Composed}
 use Rattle.prodash_line.specs.declared.render.line.draw.action.Drawn.{Drawn}
 use Rattle.prodash_line.specs.Renderer.{Renderer, is_cursor_hidden, ended_after, latest_rows, resized, action_at, answer_of, next}
-use Rattle.prodash_line.specs.Tracking.{kept_of, tracked, tracker_by}
-use Rattle.prodash_line.specs.FrameWriting.{Leaves, LeavesTick, keeping, remembering}
+use Rattle.prodash_line.specs.Tracking.{kept_of, tracked}
+use Rattle.prodash_line.specs.plumbing.Observing.{tracker_by}
+use Rattle.prodash_line.specs.plumbing.FrameWriting.{Leaves, LeavesTick, keeping, remembering}
 
 -- of a tick
 pub remembers : (p past : Renderer) (t composed kept : Option FrameTracker) (at : ℕ) (show : Bool) (seen : List PathRow × List Message × ℕ) (frame : Composed)

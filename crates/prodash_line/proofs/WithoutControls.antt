@@ -28,9 +28,10 @@ use Rattle.prodash_line.specs.MessageLines.{time_of, text_of, message_line, mess
 use Rattle.prodash_line.specs.Frames.{body_lines}
 use Rattle.prodash_line.specs.ControlCharacters.{IsWithoutControls, DrawsNoControls, DrawsNoControlsOf}
 use Rattle.prodash_line.specs.Renderer.{Renderer, Drawing, drawn_rows, fitting_rows, drawn_lines, latest_rows, remember, moment_of, drawing_at, action_at, printed_at, ending_of, body_of}
-use Rattle.prodash_line.specs.Renderings.{Rendering, RendersEach, RendersAll}
+use Rattle.prodash_line.specs.Renderings.{Rendering, RendersEach}
+use Rattle.prodash_line.specs.plumbing.RenderedInputs.{RendersAll}
 use Rattle.prodash_line.specs.Screens.{ScreenState}
-use Rattle.prodash_line.specs.Writing.{is_printable}
+use Rattle.prodash_line.specs.plumbing.Writing.{is_printable}
 use Rattle.prodash_line.proofs.Columns.{printable-append, printable-one, chars-printable}
 use Rattle.prodash_line.proofs.Lists.{AllByRecursion-append, AllByRecursion-replicate, AllByRecursion-take}
 use Rattle.prodash_line.proofs.Renderings.{each}

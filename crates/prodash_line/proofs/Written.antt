@@ -11,7 +11,7 @@ use Rattle.prodash_line.specs.Signs.{spelling, spelling_of}
 use Rattle.prodash_line.specs.declared.render.line.page.style.Style.{Style}
 use Rattle.prodash_line.specs.Lines.{Line, piece, styled}
 use Rattle.prodash_line.specs.Frames.{piece_signs, line_signs}
-use Rattle.prodash_line.specs.Writing.{is_printable, line_bytes, style_of_length, open_bytes, reset_bytes}
+use Rattle.prodash_line.specs.plumbing.Writing.{is_printable, line_bytes, style_of_length, open_bytes, reset_bytes}
 use Rattle.prodash_line.proofs.Columns.{chars-printable, utf8-printable}
 
 pub spelling-append : (xs ys : List Sign) → spelling (xs ++ ys) ≡ spelling xs ++ spelling ys

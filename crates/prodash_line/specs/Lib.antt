@@ -6,13 +6,7 @@ pub mod DrawnLines
 pub mod Frames
 pub mod ProgressRows
 pub mod MessageLines
-pub mod Cutting
-pub mod Writing
-pub mod Padding
-pub mod OverwriteBytes
-pub mod Observing
 pub mod Tracking
-pub mod FrameWriting
 pub mod Screens
 pub mod Writers
 pub mod Renderer

@@ -1,5 +1,5 @@
 -- Lines, how many columns they take, and where they are cut.
-use Rattle.std.specs.Prelude.{ℕ, zero, suc, ◌-◌, nat_le, Bool, false, if◌then◌else◌, List, [], ◌∷◌, ◌++◌, length, map, take, Option, Some, None, min, replicate, sum_by}
+use Rattle.std.specs.Prelude.{ℕ, zero, suc, ◌-◌, nat_le, Bool, false, if◌then◌else◌, List, [], ◌∷◌, length, map, take, Option, Some, None, min, replicate, sum_by}
 use Rattle.std.specs.Bool.{then_some}
 use Rattle.std.specs.List.{flat_map}
 use Rattle.unicode_width.specs.Width.{str_width}
@@ -24,10 +24,6 @@ piece text = styled None text
 -- n spaces
 abbrev pub spaces : ℕ → Piece
 spaces n = piece (replicate n 32)
-
--- n spaces and then a text
-abbrev pub indented : ℕ → List ℕ → List ℕ
-indented n text = replicate n 32 ++ text
 
 -- widths are capped at 65535
 abbrev pub capped : ℕ → ℕ

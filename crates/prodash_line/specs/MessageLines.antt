@@ -4,7 +4,7 @@ use Rattle.prodash_base.specs.Moments.{time_text}
 use Rattle.prodash_base.specs.Rings.{keep_last}
 use Rattle.prodash_base.specs.declared.messages.Message.{Message}
 use Rattle.prodash_line.specs.declared.render.line.draw.input.Options.{Options}
-use Rattle.prodash_line.specs.Lines.{Line, piece, styled, spaces, columns_of, in_color}
+use Rattle.prodash_line.specs.Lines.{Line, piece, styled, spaces, columns_of}
 use Rattle.prodash_line.specs.DrawnLines.{drawn_chars, as_drawn}
 use Rattle.prodash_line.specs.TextStyles.{origin_style, message_style, time_style}
 
@@ -31,10 +31,6 @@ text_of defensive width m =
 -- a space, the time if times are shown, the origin right-aligned to this width, a space, the text
 abbrev pub message_line : Options → ℕ → Message → Line
 message_line options width m = spaces 1 ∷ time_of options.timestamp m ++ text_of options.defensive width m
-
--- its time as it is drawn
-abbrev pub drawn_time : Options → Message → Line
-drawn_time options m = in_color options.colored (time_of options.timestamp m)
 
 -- the line of a message as it is drawn
 abbrev pub drawn_message_line : Options → ℕ → Message → Line

@@ -1,5 +1,5 @@
 -- The line of a row: its name, and with progress its values and a bar.
-use Rattle.std.specs.Prelude.{◌≡◌, ℕ, ◌-◌, ◌*◌, ◌/◌, ◌%◌, ◌^◌, min, max, List, [], ◌∷◌, ◌++◌, length, map, take, zip, replicate, reverse, codes, if◌then◌else◌, ◌==◌, nat_eq, nat_lt, nat_le, Bool, true, ◌&&◌, ◌||◌, Option, Some, None}
+use Rattle.std.specs.Prelude.{ℕ, ◌-◌, ◌*◌, ◌/◌, ◌%◌, ◌^◌, min, max, List, [], ◌∷◌, ◌++◌, length, map, take, zip, replicate, reverse, codes, if◌then◌else◌, ◌==◌, nat_eq, nat_lt, nat_le, Bool, true, ◌&&◌, ◌||◌, Option, Some, None}
 use Rattle.std.specs.List.{range_with_len, filter}
 use Rattle.std.specs.Fmt.{decimal}
 use Rattle.prodash_base.specs.Kinds.{quantity_shown}
@@ -20,10 +20,6 @@ use Rattle.prodash_line.specs.TextStyles.{dimmed, name_style, values_style, row_
 abbrev pub fraction_of : ℕ → Option ℕ → List ℕ
 fraction_of step None = decimal step
 fraction_of step (Some bound) = decimal step ++ (codes "/" ++ decimal bound)
-
--- this text follows the digits of any step in its fraction of a bound
-abbrev pub FollowsStep : Option ℕ → List ℕ → Type 0
-FollowsStep bound text = (step : ℕ) → fraction_of step bound ≡ decimal step ++ text
 
 -- a row that is drawn, with the throughput that is shown in it, if there is one
 abbrev pub DrawnRow : Type 0

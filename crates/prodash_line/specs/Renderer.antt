@@ -17,10 +17,9 @@ use Rattle.prodash_line.specs.declared.render.line.page.sign.Sign.{Sign}
 use Rattle.prodash_line.specs.declared.render.line.page.sign.Sign.TheVariants.{CarriageReturn, EraseLine, HideCursor, ShowCursor}
 use Rattle.prodash_line.specs.Signs.{spelling}
 use Rattle.prodash_line.specs.Lines.{Line}
-use Rattle.prodash_line.specs.declared.render.line.draw.layout.Layout.{Layout}
 use Rattle.prodash_line.specs.declared.render.line.draw.action.Action.{Action}
 use Rattle.prodash_line.specs.declared.render.line.draw.action.Action.TheVariants.{Leave, Redraw, Erase, Close}
-use Rattle.prodash_line.specs.Frames.{Body, Unchanged, Draws, Closes, Frame, body_signs, frame_signs, widths_of}
+use Rattle.prodash_line.specs.Frames.{Body, Unchanged, Draws, Closes, Frame, frame_signs, widths_of}
 use Rattle.prodash_line.specs.DrawnLines.{erases_rows, layout_of}
 use Rattle.prodash_line.specs.ProgressRows.{DrawnRow, filtered, with_throughputs, fitting, more_lines, row_lines, greatest_midpoint}
 use Rattle.prodash_line.specs.MessageLines.{message_lines, latest_origin_widths}
@@ -102,10 +101,6 @@ erases_at_end options = options.output_is_terminal && not options.defensive
 -- what a closing frame ends with: it shows a cursor that is hidden, and perhaps erases a row
 abbrev pub ending_of : Renderer → List Sign
 ending_of r = (if is_cursor_hidden r then ShowCursor ∷ [] else []) ++ (if erases_at_end r.options then EraseLine ∷ CarriageReturn ∷ [] else [])
-
--- a closing frame after its messages: these lines on screen are blanked, and its end
-abbrev pub closing_signs : Layout → Renderer → List ℕ → List Sign
-closing_signs layout r widths = body_signs layout widths (Closes (ending_of r))
 
 -- no tick with a root was accepted before, or the latest saw other rows
 abbrev pub rows_changed : Option (List PathRow) → List PathRow → Bool
@@ -237,10 +232,6 @@ frame_at r input = record {
   body = body_of (action_at r input) (drawing_at r input) (ending_of r);
 }
 
--- the closing frame without messages
-abbrev pub closing_frame : Renderer → Frame
-closing_frame r = record { layout = layout_of r.options; opening = opening_of r; messages = []; body = Closes (ending_of r) }
-
 -- what a frame leaves to the next one: the width of each line on screen, the greatest midpoint, the tracker, and whether the rows of tasks are
 -- erased
 pub record FrameState : Type 0 where
@@ -280,18 +271,6 @@ next r input = record (remember r input) {
   cursor_hidden = is_cursor_hidden r;
   ended = ended_after (action_at r input) r.ended;
 }
-
--- the renderer after a frame has begun
-abbrev pub begun : Renderer → Renderer
-begun r = record r { cursor_hidden = is_cursor_hidden r }
-
--- the renderer after the screen broke
-abbrev pub broken : Renderer → Renderer
-broken r = record r { ended = Some refusals.Broken }
-
--- the bytes of the closing frame without messages
-abbrev pub closing_bytes : Renderer → List ℕ
-closing_bytes r = spelling (frame_signs r.widths (closing_frame r))
 
 -- the bytes of the frame
 abbrev pub frame_bytes : Renderer → Input → List ℕ

@@ -38,10 +38,6 @@ RendersEach P r s [] s' = s' ≡ s
 RendersEach P r s (x ∷ xs) s' =
     (s₁ : ScreenState) × Renders r x.input s x.result (renderer_after r x) s₁ × P r s x s₁ × RendersEach P (renderer_after r x) s₁ xs s'
 
--- the inputs are rendered one after another
-abbrev pub RendersAll : Renderer → ScreenState → List Rendering → ScreenState → Type 0
-RendersAll = RendersEach (λ _ _ _ _. ⊤)
-
 -- the screen breaks now: it is broken after a frame that has bytes, and the renderer had not ended and was not out of memory
 pub record BreaksNow (r : Renderer) (x : Rendering) (s' : ScreenState) : Type 0 where
   pub running : r.ended ≡ None

@@ -1,5 +1,5 @@
 -- Styles, and the parameters of the control function SGR that set them.
-use Rattle.std.specs.Prelude.{◌≡◌, ℕ, List, [], ◌∷◌, ◌++◌, map, option_map, filter_map}
+use Rattle.std.specs.Prelude.{ℕ, List, [], ◌∷◌, map, option_map, filter_map}
 use Rattle.std.specs.Bool.{then_some}
 use Rattle.std.specs.Fmt.{decimal}
 use Rattle.std.specs.List.{join_with_byte}
@@ -15,21 +15,9 @@ color_code Yellow = 33
 color_code Cyan = 36
 color_code White = 37
 
--- no colour has this code
-abbrev pub NoColor : ℕ → Type 0
-NoColor code = (color : Color) → color_code color ≡ code → ⊥
-
 -- the codes of a style, in ascending order
 abbrev pub style_codes : Style → List ℕ
 style_codes s = filter_map (λ code. code) (then_some s.bold 1 ∷ then_some s.dim 2 ∷ option_map color_code s.color ∷ then_some s.on_yellow 43 ∷ [])
-
--- this style has one code more
-abbrev pub AddsCode : Style → ℕ → Style → Type 0
-AddsCode style code more = style_codes more ≡ style_codes style ++ code ∷ []
-
--- no style has this code next after those of the style
-abbrev pub AddsNone : Style → ℕ → Type 0
-AddsNone style code = (other : Style) (rest : List ℕ) → style_codes other ≡ style_codes style ++ code ∷ rest → ⊥
 
 -- the codes of a style in decimal, with `;` between each two
 abbrev pub style_parameters : Style → List ℕ

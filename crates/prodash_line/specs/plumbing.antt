@@ -2,3 +2,11 @@ pub mod Cells
 pub mod PageInside
 pub mod Endings
 pub mod Calls
+pub mod SignReading
+pub mod Cutting
+pub mod Writing
+pub mod Padding
+pub mod OverwriteBytes
+pub mod Observing
+pub mod FrameWriting
+pub mod RenderedInputs

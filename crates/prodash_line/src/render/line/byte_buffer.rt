@@ -1,6 +1,6 @@
 //! A buffer that bytes are appended to.
 ghost use Rattle.std.specs.Prelude.{◌≡◌, ◌+◌, ◌∷◌, [], ◌++◌, ◌≤◌, ◌<◌, length, replicate, take, vec_len, OnOk, IfOk};
-ghost use Rattle.prodash_line.specs.Padding.{plain_bar, plain_progress};
+ghost use Rattle.prodash_line.specs.plumbing.Padding.{plain_bar, plain_progress};
 
 use std::alloc::{AllocError, Global};
 use std::marker::Model;

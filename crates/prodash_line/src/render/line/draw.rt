@@ -1,7 +1,8 @@
 //! Frames: messages and rows, drawn over the lines on screen.
 ghost use Rattle.std.specs.Prelude.{◌≡◌, ℕ, Bool, Some, None, IsOkUnless, OnOk, OnErr};
 ghost use Rattle.prodash_line.specs.Screens.{WritesFrame, BreaksDuring};
-ghost use Rattle.prodash_line.specs.Renderer.{Renders, begun, broken};
+ghost use Rattle.prodash_line.specs.Renderer.{Renders};
+ghost use Rattle.prodash_line.specs.plumbing.FrameWriting.{begun, broken};
 ghost use Rattle.prodash_line.specs.ErasedPages.{ErasesPages};
 ghost use Rattle.prodash_line.specs.ControlCharacters.{DrawsNoControls};
 

@@ -4,7 +4,7 @@ ghost use Rattle.prodash_base.specs.Rows.{progress_of};
 ghost use Rattle.prodash_line.specs.ProgressRows as rows;
 ghost use Rattle.prodash_line.specs.ProgressRows.{numbered_cells};
 ghost use Rattle.prodash_line.specs.TextStyles as styles;
-ghost use Rattle.prodash_line.specs.Writing.{AppendsIn, SameLine};
+ghost use Rattle.prodash_line.specs.plumbing.Writing.{AppendsIn, SameLine};
 
 use crate::render::line::draw::line_writer::{LineWriter, style_of_length};
 use crate::render::line::draw::styles::row_style;

@@ -1,7 +1,7 @@
 //! Frames that erase the rows that they write on.
 ghost use Rattle.std.specs.Prelude.{◌≡◌, OnOk};
 ghost use Rattle.prodash_line.specs.Frames.{row_start, left_over, erased_rows};
-ghost use Rattle.prodash_line.specs.FrameWriting.{AppendsSigns, action_start, erasing_end};
+ghost use Rattle.prodash_line.specs.plumbing.FrameWriting.{AppendsSigns, action_start, erasing_end};
 
 use crate::render::line::draw::action::Action;
 use crate::render::line::draw::frame::push_up;

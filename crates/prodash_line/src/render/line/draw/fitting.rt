@@ -1,9 +1,9 @@
 //! What is written of a text where its line is cut.
 ghost use Rattle.std.specs.Prelude.{◌≡◌, ℕ, List, ◌≤◌, ◌∷◌, [], true, false, length, chars};
 ghost use Rattle.unicode_width.specs.Width.{str_width};
-ghost use Rattle.prodash_line.specs.Lines.{piece, columns_of, indented};
-ghost use Rattle.prodash_line.specs.Cutting.{written_in, room_after, Fits};
-ghost use Rattle.prodash_line.specs.Writing.{is_printable};
+ghost use Rattle.prodash_line.specs.Lines.{piece, columns_of};
+ghost use Rattle.prodash_line.specs.plumbing.Writing.{indented, is_printable};
+ghost use Rattle.prodash_line.specs.plumbing.Cutting.{written_in, room_after, Fits};
 
 use crate::render::line::draw::room::Room;
 use crate::render::line::draw::text::{longest_prefix, uncapped_width};

@@ -4,11 +4,12 @@ ghost use Rattle.prodash_line.specs.declared.render.line.draw.input.Input.TheVar
 ghost use Rattle.prodash_line.specs.declared.render.line.draw.action.Action.TheVariants.{Redraw};
 ghost use Rattle.prodash_line.specs.Frames.{first_width, covered, redraw, cursor_up};
 ghost use Rattle.prodash_line.specs.MessageLines.{message_lines, widths_of_origins};
-ghost use Rattle.prodash_line.specs.Renderer.{ending_of, closing_signs, closing_bytes};
-ghost use Rattle.prodash_line.specs.Tracking.{kept_of, ahead_of};
-ghost use Rattle.prodash_line.specs.OverwriteBytes.{blank_bytes};
+ghost use Rattle.prodash_line.specs.Renderer.{ending_of};
+ghost use Rattle.prodash_line.specs.plumbing.FrameWriting.{closing_signs, closing_bytes, Composes, AppendsSigns, AppendsOver, AppendsBody, AppendsRedraw, BeginsFrame, FinishesRedraw, LeftBy, LeftByTick, LeftByAction, AddsRows, AddsFitting, ObservesRows, resize_to, shown_lines, fitting_lines};
+ghost use Rattle.prodash_line.specs.Tracking.{kept_of};
+ghost use Rattle.prodash_line.specs.plumbing.Observing.{ahead_of};
+ghost use Rattle.prodash_line.specs.plumbing.OverwriteBytes.{blank_bytes};
 ghost use Rattle.prodash_line.specs.DrawnLines.{layout_of};
-ghost use Rattle.prodash_line.specs.FrameWriting.{Composes, AppendsSigns, AppendsOver, AppendsBody, AppendsRedraw, BeginsFrame, FinishesRedraw, LeftBy, LeftByTick, LeftByAction, AddsRows, AddsFitting, ObservesRows, resize_to, shown_lines, fitting_lines};
 
 use crate::render::line::draw::action::{Action, Composed, Drawn};
 use crate::render::line::draw::drawn_text::drawn_text;

@@ -2,11 +2,11 @@
 //! the line isn't cut.
 ghost use Rattle.std.specs.Prelude.{◌≡◌, ◌+◌, ◌-◌, ℕ, ◌∷◌, [], ◌++◌, ◌≤◌, ◌<◌, true, false, chars, length, replicate, take, OnOk, IfOk};
 ghost use Rattle.prodash_line.specs.Signs.{spelling_of};
-ghost use Rattle.prodash_line.specs.Lines.{piece, styled, spaces, columns_of, indented};
-ghost use Rattle.prodash_line.specs.Writing.{is_printable, style_of_length, open_bytes, reset_bytes, Appends, AppendsWhole, Begun, SameLine, Counts};
-ghost use Rattle.prodash_line.specs.Padding.{plain_progress};
+ghost use Rattle.prodash_line.specs.Lines.{piece, styled, spaces, columns_of};
+ghost use Rattle.prodash_line.specs.plumbing.Writing.{indented, is_printable, style_of_length, open_bytes, reset_bytes, Appends, AppendsWhole, Begun, SameLine, Counts};
+ghost use Rattle.prodash_line.specs.plumbing.Padding.{plain_progress};
 ghost use Rattle.prodash_base.specs.Path.{max_level};
-ghost use Rattle.prodash_line.specs.OverwriteBytes.{on_row, EndsOver, IsCutWidth};
+ghost use Rattle.prodash_line.specs.plumbing.OverwriteBytes.{on_row, EndsOver, IsCutWidth};
 
 use crate::render::line::byte_buffer::ByteBuffer;
 use crate::render::line::draw::fitting::{fit_indented, fit_printable, fit_text};

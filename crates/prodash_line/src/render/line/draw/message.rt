@@ -2,8 +2,8 @@
 ghost use Rattle.std.specs.Prelude.{◌≡◌, chars, OnOk, IsOkUnless};
 ghost use Rattle.prodash_line.specs.Lines.{in_color};
 ghost use Rattle.prodash_line.specs.DrawnLines.{drawn_chars};
-ghost use Rattle.prodash_line.specs.MessageLines.{origin_width, drawn_time, text_of, message_line, greatest_width};
-ghost use Rattle.prodash_line.specs.Writing.{Appends, DrawsLine};
+ghost use Rattle.prodash_line.specs.MessageLines.{origin_width, text_of, message_line, greatest_width};
+ghost use Rattle.prodash_line.specs.plumbing.Writing.{drawn_time, Appends, DrawsLine};
 
 use crate::render::line::draw::drawn_text::drawn_text;
 use crate::render::line::draw::input::Options;

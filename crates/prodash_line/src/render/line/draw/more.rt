@@ -6,10 +6,10 @@ ghost use Rattle.prodash_line.specs.ProgressRows.{filtered};
 ghost use Rattle.prodash_line.specs.DrawnLines.{layout_of};
 ghost use Rattle.prodash_line.specs.Lines.{columns_of};
 ghost use Rattle.prodash_line.specs.DrawnLines.{as_drawn};
-ghost use Rattle.prodash_line.specs.Writing.{DrawsLine};
-ghost use Rattle.prodash_line.specs.Observing.{observe_all};
-ghost use Rattle.prodash_line.specs.Tracking.{kept_of, ahead_of};
-ghost use Rattle.prodash_line.specs.FrameWriting.{AppendsOver, SplitsFitting, CountsRows, count_of, more_of};
+ghost use Rattle.prodash_line.specs.plumbing.Writing.{DrawsLine};
+ghost use Rattle.prodash_line.specs.plumbing.Observing.{observe_all, ahead_of};
+ghost use Rattle.prodash_line.specs.Tracking.{kept_of};
+ghost use Rattle.prodash_line.specs.plumbing.FrameWriting.{AppendsOver, SplitsFitting, CountsRows, count_of, more_of};
 
 use crate::render::line::draw::action::Drawn;
 use crate::render::line::draw::erasing::start_row;

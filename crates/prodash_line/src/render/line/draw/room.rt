@@ -1,6 +1,6 @@
 //! The room that a line has where it is cut.
 ghost use Rattle.std.specs.Prelude.{◌≡◌};
-ghost use Rattle.prodash_line.specs.Cutting.{left_of};
+ghost use Rattle.prodash_line.specs.plumbing.Cutting.{left_of};
 
 /// How much of a line is still written.
 #[derive(Clone, Copy, Debug)]

@@ -3,12 +3,12 @@ ghost use Rattle.std.specs.Prelude.{◌≡◌, ◌≤◌, ◌+◌, ◌++◌, fal
 ghost use Rattle.prodash_base.specs.Units.{measure_of};
 ghost use Rattle.prodash_base.specs.Rows.{row_of, progress_of};
 ghost use Rattle.prodash_line.specs.ProgressRows as rows;
-ghost use Rattle.prodash_line.specs.ProgressRows.{FollowsStep, fraction_values};
+ghost use Rattle.prodash_line.specs.ProgressRows.{fraction_values};
+ghost use Rattle.prodash_line.specs.plumbing.Padding.{FollowsStep, end_of_values, Pads, DrawsProgress, DrawsFraction, DrawsInUnit, DrawsParts, OrNothing};
 ghost use Rattle.prodash_line.specs.DrawnLines.{layout_of};
-ghost use Rattle.prodash_line.specs.OverwriteBytes.{on_row};
+ghost use Rattle.prodash_line.specs.plumbing.OverwriteBytes.{on_row};
 ghost use Rattle.prodash_line.specs.Lines.{capped};
-ghost use Rattle.prodash_line.specs.Padding.{end_of_values, Pads, DrawsProgress, DrawsFraction, DrawsInUnit, DrawsParts, OrNothing};
-ghost use Rattle.prodash_line.specs.Writing.{is_printable, AppendsIn, DrawsLine};
+ghost use Rattle.prodash_line.specs.plumbing.Writing.{is_printable, AppendsIn, DrawsLine};
 
 use crate::render::line::draw::bar::{ARROW, BRACKETS, filled_cells, push_bar};
 use crate::render::line::draw::drawn_text::drawn_text;

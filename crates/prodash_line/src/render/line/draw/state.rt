@@ -2,7 +2,7 @@
 ghost use Rattle.std.specs.Prelude.{◌≡◌, [], false, Some, IfSome, IfOk, IsOkUnless};
 ghost use Rattle.prodash_base.specs.Rows.{rows_of};
 ghost use Rattle.prodash_line.specs.Renderer.{IsEndRefusal, new_renderer, rows_changed, draws_again, is_drawn, erases_at_end, closes_at, hides_cursor, is_cursor_hidden, latest_rows, resized, tick_action, resize_action, answer_of};
-ghost use Rattle.prodash_line.specs.FrameWriting.{keeping, remembering};
+ghost use Rattle.prodash_line.specs.plumbing.FrameWriting.{keeping, remembering};
 ghost use Rattle.prodash_line.specs.Tracking.{kept_of};
 ghost use Rattle.prodash_base.specs.Rings.{keep_last};
 

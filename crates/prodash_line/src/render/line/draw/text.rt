@@ -4,7 +4,7 @@ ghost use Rattle.unicode_width.specs.Width.{str_width};
 ghost use Rattle.std.specs.Bool.{then_some};
 ghost use Rattle.std.specs.Int.{is_in_range};
 ghost use Rattle.prodash_line.specs.Lines.{piece, capped, columns_of, longest_prefix};
-ghost use Rattle.prodash_line.specs.Writing.{is_printable};
+ghost use Rattle.prodash_line.specs.plumbing.Writing.{is_printable};
 
 use unicode_width::UnicodeWidthStr;
 

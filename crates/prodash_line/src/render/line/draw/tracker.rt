@@ -2,8 +2,8 @@
 ghost use Rattle.std.specs.Prelude.{◌≡◌, IfOk, OnOk, IsOkUnless};
 ghost use Rattle.prodash_base.specs.Rows.{row_of, rows_of};
 ghost use Rattle.prodash_line.specs.ProgressRows.{filtered};
-ghost use Rattle.prodash_line.specs.Observing.{tracker_at, throughput_by, observe_by, observe_all};
-ghost use Rattle.prodash_line.specs.Tracking.{kept_of, ahead_of, tracker_by};
+ghost use Rattle.prodash_line.specs.plumbing.Observing.{tracker_at, throughput_by, observe_by, observe_all, ahead_of, tracker_by};
+ghost use Rattle.prodash_line.specs.Tracking.{kept_of};
 
 use crate::render::line::draw::action::Action;
 use crate::render::line::draw::row::is_row_drawn;

@@ -1,6 +1,7 @@
 //! The codes of styles.
 ghost use Rattle.std.specs.Prelude.{◌≡◌, [], filter_map, MatchOption, IsTrue, ◌↔◌};
-ghost use Rattle.prodash_line.specs.Styles.{color_code, style_codes, NoColor, AddsNone, AddsCode};
+ghost use Rattle.prodash_line.specs.Styles.{color_code, style_codes};
+ghost use Rattle.prodash_line.specs.plumbing.SignReading.{NoColor, AddsNone, AddsCode};
 
 use super::style::{Color, Style};
 

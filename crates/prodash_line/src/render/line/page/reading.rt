@@ -3,7 +3,8 @@ ghost use Rattle.std.specs.Prelude.{◌≡◌, List, ◌++◌, length, drop, Mat
 ghost use Rattle.std.specs.Char.{encode_utf8};
 ghost use Rattle.std.specs.List.{prefix_len};
 ghost use Rattle.prodash_line.specs.Signs.{spelling};
-ghost use Rattle.prodash_line.specs.Reading.{NoCharAt, NoSignAt, IsSignAt, NoSequenceAt, IsSequenceAt, NoLongerText, NoNumber, IsNumber, NoStyle, IsStyle, MakesNone, Makes, Reads, GivesSpelled, AreProper, is_parameter};
+ghost use Rattle.prodash_line.specs.Reading.{Reads, GivesSpelled, AreProper};
+ghost use Rattle.prodash_line.specs.plumbing.SignReading.{NoCharAt, NoSignAt, IsSignAt, NoSequenceAt, IsSequenceAt, NoLongerText, NoNumber, IsNumber, NoStyle, IsStyle, MakesNone, Makes, is_parameter};
 ghost use Rattle.prodash_line.specs.declared.render.line.page.sign.Sign.{Sign};
 
 use super::codes::with_code;

@@ -2,7 +2,8 @@ use Rattle.std.proofs.Common.{subst, ap, ◌∙◌}
 use Rattle.prodash_line.specs.declared.render.line.draw.input.Input.TheVariants.{Resize}
 use Rattle.prodash_line.specs.Screens.{WritesFrame}
 use Rattle.prodash_line.specs.Renderer.{Renderer, frame_bytes, next}
-use Rattle.prodash_line.specs.Tracking.{tracked, tracker_by}
+use Rattle.prodash_line.specs.Tracking.{tracked}
+use Rattle.prodash_line.specs.plumbing.Observing.{tracker_by}
 use Rattle.prodash_line.proofs.Ticks.{resizes, drawn_at}
 use Rattle.prodash_line.proofs.render.line.draw.resize.Goals as goal
 

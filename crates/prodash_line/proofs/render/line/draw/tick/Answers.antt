@@ -2,7 +2,8 @@ use Rattle.std.proofs.Common.{Some, subst, ap, ◌∙◌}
 use Rattle.prodash_line.specs.declared.render.line.draw.input.Input.TheVariants.{Tick}
 use Rattle.prodash_line.specs.Screens.{WritesFrame}
 use Rattle.prodash_line.specs.Renderer.{Renderer, action_at, frame_bytes, answer_of, next}
-use Rattle.prodash_line.specs.Tracking.{tracked, tracker_by}
+use Rattle.prodash_line.specs.Tracking.{tracked}
+use Rattle.prodash_line.specs.plumbing.Observing.{tracker_by}
 use Rattle.prodash_line.proofs.Ticks.{remembers}
 use Rattle.prodash_line.proofs.render.line.draw.tick.Goals as goal
 

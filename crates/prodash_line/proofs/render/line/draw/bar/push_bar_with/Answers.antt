@@ -3,7 +3,7 @@ use Rattle.std.proofs.lemmas.List.{length-replicate}
 use Rattle.prodash_base.specs.Rows.{progress_of}
 use Rattle.prodash_line.specs.ProgressRows.{bar_with}
 use Rattle.prodash_line.specs.TextStyles.{row_style}
-use Rattle.prodash_line.specs.Writing.{AppendsIn}
+use Rattle.prodash_line.specs.plumbing.Writing.{AppendsIn}
 use Rattle.prodash_line.proofs.Columns.{printable-repeated}
 use Rattle.prodash_line.proofs.JoinedTexts.{joined, ArePrintable, printable-joined, appends_apart}
 use Rattle.prodash_line.proofs.LineWriting.{appends_printable, same_then}

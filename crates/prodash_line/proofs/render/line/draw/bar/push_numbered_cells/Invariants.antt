@@ -1,6 +1,6 @@
 use Rattle.std.proofs.Common.{◌≡◌, ◌-◌, ◌≤◌, ◌++◌}
 use Rattle.prodash_line.specs.ProgressRows.{numbered_cells}
-use Rattle.prodash_line.specs.Writing.{SameLine}
+use Rattle.prodash_line.specs.plumbing.Writing.{SameLine}
 use Rattle.prodash_line.proofs.render.line.draw.bar.push_numbered_cells.Given as goal
 
 abbrev pub invariant-loop-number : goal.invariant-loop-number

@@ -2,7 +2,7 @@ use Rattle.std.proofs.Common.{◌≡◌, ◌-◌, ◌^◌, [], ◌∷◌, ◌++�
 use Rattle.std.specs.Prelude.{min, codes}
 use Rattle.std.specs.Bool.{then_some}
 use Rattle.prodash_line.specs.Lines.{piece, styled}
-use Rattle.prodash_line.specs.Writing.{style_of_length, open_bytes, reset_bytes}
+use Rattle.prodash_line.specs.plumbing.Writing.{style_of_length, open_bytes, reset_bytes}
 use Rattle.prodash_line.proofs.NumberedCells.{printable-numbered_cells, length-numbered_cells, cells_counted}
 use Rattle.prodash_line.specs.ProgressRows.{numbered_cells}
 use Rattle.prodash_line.proofs.LineWriting.{appends_as, appends_then, appends_counted}

@@ -1,7 +1,7 @@
 use Rattle.std.proofs.Common.{◌++◌, ap, sym, ◌∙◌, chars, replicate}
 use Rattle.std.proofs.lemmas.Str.{chars-nil}
-use Rattle.prodash_line.specs.Lines.{indented}
-use Rattle.prodash_line.specs.Cutting.{written_in}
+use Rattle.prodash_line.specs.plumbing.Writing.{indented}
+use Rattle.prodash_line.specs.plumbing.Cutting.{written_in}
 use Rattle.prodash_line.proofs.Cutting.{indented_spaces, indented_rest}
 use Rattle.prodash_line.proofs.render.line.draw.fitting.fit_indented.Goals as goal
 

@@ -2,7 +2,7 @@ use Rattle.std.proofs.Common.{◌-◌, ◌≡◌, ap, sym, ◌∙◌, chars, ari
 use Rattle.std.proofs.lemmas.Str.{chars-nil}
 use Rattle.unicode_width.specs.Width.{str_width}
 use Rattle.prodash_line.specs.declared.render.line.draw.room.Room.TheVariants.{Columns}
-use Rattle.prodash_line.specs.Cutting.{written_in}
+use Rattle.prodash_line.specs.plumbing.Cutting.{written_in}
 use Rattle.prodash_line.proofs.Cutting.{whole_written, whole_after}
 use Rattle.prodash_line.proofs.render.line.draw.fitting.fit_text.Goals as goal
 

@@ -8,8 +8,8 @@ use Rattle.prodash_line.specs.declared.render.line.draw.input.Input.{Input}
 use Rattle.prodash_line.specs.declared.render.line.draw.input.Input.TheVariants.{Tick}
 use Rattle.prodash_line.specs.Signs.{spelling}
 use Rattle.prodash_line.specs.Frames.{covered, body_signs}
-use Rattle.prodash_line.specs.OverwriteBytes.{lines_bytes}
-use Rattle.prodash_line.specs.FrameWriting.{action_start, state_by}
+use Rattle.prodash_line.specs.plumbing.OverwriteBytes.{lines_bytes}
+use Rattle.prodash_line.specs.plumbing.FrameWriting.{action_start, state_by}
 use Rattle.prodash_line.specs.Tracking.{tracked}
 use Rattle.prodash_line.specs.MessageLines.{message_lines}
 use Rattle.prodash_line.specs.Renderer.{Renderer, Drawing, frame_at, drawing_of, drawing_at, tick_action, action_at, printed_at, body_of, ending_of, state_after}

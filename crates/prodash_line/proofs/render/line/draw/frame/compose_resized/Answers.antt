@@ -8,7 +8,7 @@ use Rattle.prodash_line.specs.declared.render.line.draw.layout.Layout.{Layout}
 use Rattle.prodash_line.specs.Signs.{spelling}
 use Rattle.prodash_line.specs.DrawnLines.{layout_of}
 use Rattle.prodash_line.specs.Frames.{body_signs}
-use Rattle.prodash_line.specs.FrameWriting.{action_start, state_by}
+use Rattle.prodash_line.specs.plumbing.FrameWriting.{action_start, state_by}
 use Rattle.prodash_line.specs.Tracking.{tracked}
 use Rattle.prodash_line.specs.Renderer.{Renderer, Drawing, frame_at, remember, drawing_of, drawing_at, action_at, body_of, ending_of, state_after}
 use Rattle.prodash_line.proofs.OverwriteBytes.{action_starts, frame_bytes_of}

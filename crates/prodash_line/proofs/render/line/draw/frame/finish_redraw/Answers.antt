@@ -1,6 +1,6 @@
 use Rattle.std.proofs.Common.{subst, sym}
 use Rattle.prodash_line.specs.declared.render.line.draw.layout.Layout.{Layout}
-use Rattle.prodash_line.specs.FrameWriting.{FinishesRedraw}
+use Rattle.prodash_line.specs.plumbing.FrameWriting.{FinishesRedraw}
 use Rattle.prodash_line.proofs.OverwriteBytes.{redrawn_erasing}
 use Rattle.prodash_line.proofs.render.line.draw.frame.finish_redraw.Goals as goal
 

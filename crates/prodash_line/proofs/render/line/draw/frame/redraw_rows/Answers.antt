@@ -10,10 +10,10 @@ use Rattle.prodash_line.specs.DrawnLines.{layout_of}
 use Rattle.prodash_line.specs.Frames.{covered, widths_of}
 use Rattle.prodash_line.specs.ProgressRows.{DrawnRow, filtered, fitting, more_lines, row_lines, greatest_midpoint}
 use Rattle.prodash_line.specs.Renderer.{Renderer, drawn_rows, fitting_rows}
-use Rattle.prodash_line.specs.Observing.{shown_by, observe_all}
-use Rattle.prodash_line.specs.Tracking.{kept_of, ahead_of, tracker_by}
-use Rattle.prodash_line.specs.OverwriteBytes.{lines_bytes}
-use Rattle.prodash_line.specs.FrameWriting.{renderer_in, drawing_in, fitting_lines, FinishesRedraw}
+use Rattle.prodash_line.specs.plumbing.Observing.{shown_by, observe_all, ahead_of, tracker_by}
+use Rattle.prodash_line.specs.Tracking.{kept_of}
+use Rattle.prodash_line.specs.plumbing.OverwriteBytes.{lines_bytes}
+use Rattle.prodash_line.specs.plumbing.FrameWriting.{renderer_in, drawing_in, fitting_lines, FinishesRedraw}
 use Rattle.prodash_line.proofs.Observing.{shown_at, observed_at}
 use Rattle.prodash_line.proofs.render.line.draw.frame.redraw_rows.Goals as goal
 

@@ -1,5 +1,5 @@
 use Rattle.std.proofs.Common.{◌≡◌, ◌++◌, drop}
-use Rattle.prodash_line.specs.OverwriteBytes.{blank_bytes}
+use Rattle.prodash_line.specs.plumbing.OverwriteBytes.{blank_bytes}
 use Rattle.prodash_line.proofs.render.line.draw.frame.write_blanks.Given as goal
 
 abbrev pub invariant-loop-width : goal.invariant-loop-width

@@ -7,10 +7,9 @@ use Rattle.prodash_line.specs.declared.render.line.draw.layout.Layout.{Layout}
 use Rattle.prodash_line.specs.DrawnLines.{layout_of}
 use Rattle.prodash_line.specs.Frames.{covered, widths_of}
 use Rattle.prodash_line.specs.ProgressRows.{DrawnRow, filtered, row_lines, more_lines, greatest_midpoint}
-use Rattle.prodash_line.specs.OverwriteBytes.{lines_bytes}
-use Rattle.prodash_line.specs.Observing.{observe_all}
-use Rattle.prodash_line.specs.Tracking.{ahead_of}
-use Rattle.prodash_line.specs.FrameWriting.{SplitsFitting, more_of, shown_rows, shown_lines, fitting_shown, fitting_lines}
+use Rattle.prodash_line.specs.plumbing.OverwriteBytes.{lines_bytes}
+use Rattle.prodash_line.specs.plumbing.Observing.{observe_all, ahead_of}
+use Rattle.prodash_line.specs.plumbing.FrameWriting.{SplitsFitting, more_of, shown_rows, shown_lines, fitting_shown, fitting_lines}
 use Rattle.prodash_line.proofs.FittingRows.{fits_first, others_are, observes_both, both_written}
 use Rattle.prodash_line.proofs.render.line.draw.frame.write_fitting.Goals as goal
 

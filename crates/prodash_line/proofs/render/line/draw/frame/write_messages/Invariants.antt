@@ -1,6 +1,6 @@
 use Rattle.std.proofs.Common.{◌≡◌, ◌++◌, drop}
 use Rattle.prodash_line.specs.MessageLines.{message_lines, widths_of_origins, greatest_width}
-use Rattle.prodash_line.specs.OverwriteBytes.{lines_bytes}
+use Rattle.prodash_line.specs.plumbing.OverwriteBytes.{lines_bytes}
 use Rattle.prodash_line.specs.DrawnLines.{layout_of}
 use Rattle.prodash_line.proofs.render.line.draw.frame.write_messages.Given as goal
 

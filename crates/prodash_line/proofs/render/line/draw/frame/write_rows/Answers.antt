@@ -4,11 +4,10 @@ use Rattle.prodash_base.specs.Rows.{row_of, rows_of}
 use Rattle.prodash_line.specs.DrawnLines.{as_drawn, layout_of}
 use Rattle.prodash_line.specs.Frames.{row_start, widths_of}
 use Rattle.prodash_line.specs.Lines.{Line, columns_of}
-use Rattle.prodash_line.specs.Observing.{shown_by}
-use Rattle.prodash_line.specs.OverwriteBytes.{overwrite_line_bytes, lines_bytes}
+use Rattle.prodash_line.specs.plumbing.Observing.{shown_by, ahead_of}
+use Rattle.prodash_line.specs.plumbing.OverwriteBytes.{overwrite_line_bytes, lines_bytes}
 use Rattle.prodash_line.specs.ProgressRows.{filtered, row_line, row_lines}
 use Rattle.prodash_line.specs.Signs.{spelling}
-use Rattle.prodash_line.specs.Tracking.{ahead_of}
 use Rattle.prodash_line.proofs.render.line.draw.frame.write_rows.Goals as goal
 
 pub loop-row-preserved : goal.loop-row-preserved

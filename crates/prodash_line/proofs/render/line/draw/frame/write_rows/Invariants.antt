@@ -2,9 +2,9 @@ use Rattle.std.proofs.Common.{◌≡◌, ◌++◌, drop, max}
 use Rattle.prodash_base.specs.Rows.{rows_of}
 use Rattle.prodash_line.specs.Frames.{widths_of}
 use Rattle.prodash_line.specs.ProgressRows.{filtered, row_lines, greatest_midpoint}
-use Rattle.prodash_line.specs.Observing.{shown_by, observe_all}
-use Rattle.prodash_line.specs.Tracking.{kept_of, ahead_of}
-use Rattle.prodash_line.specs.OverwriteBytes.{lines_bytes}
+use Rattle.prodash_line.specs.plumbing.Observing.{shown_by, observe_all, ahead_of}
+use Rattle.prodash_line.specs.Tracking.{kept_of}
+use Rattle.prodash_line.specs.plumbing.OverwriteBytes.{lines_bytes}
 use Rattle.prodash_line.specs.DrawnLines.{layout_of}
 use Rattle.prodash_line.proofs.render.line.draw.frame.write_rows.Given as goal
 

@@ -1,5 +1,5 @@
 use Rattle.std.proofs.Common.{◌≡◌, ◌+◌, ◌≤◌, drop}
-use Rattle.prodash_line.specs.FrameWriting.{count_of}
+use Rattle.prodash_line.specs.plumbing.FrameWriting.{count_of}
 use Rattle.prodash_line.proofs.render.line.draw.more.count_drawn.Given as goal
 
 abbrev pub invariant-loop-row : goal.invariant-loop-row

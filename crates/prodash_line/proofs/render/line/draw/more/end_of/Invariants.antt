@@ -1,5 +1,5 @@
 use Rattle.std.proofs.Common.{◌≡◌, ◌+◌, take}
-use Rattle.prodash_line.specs.FrameWriting.{count_of}
+use Rattle.prodash_line.specs.plumbing.FrameWriting.{count_of}
 use Rattle.prodash_line.proofs.render.line.draw.more.end_of.Given as goal
 
 abbrev pub invariant-loop-n : goal.invariant-loop-n

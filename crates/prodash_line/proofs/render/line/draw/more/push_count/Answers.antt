@@ -2,7 +2,7 @@ use Rattle.std.proofs.Common.{◌≡◌, ◌∷◌, [], refl, ap, ◌∙◌, ari
 use Rattle.std.specs.Prelude.{codes}
 use Rattle.std.specs.Str.{chars}
 use Rattle.prodash_line.specs.Lines.{piece}
-use Rattle.prodash_line.specs.Writing.{is_printable}
+use Rattle.prodash_line.specs.plumbing.Writing.{is_printable}
 use Rattle.prodash_line.proofs.Columns.{printable-decimal}
 use Rattle.prodash_line.proofs.LineWriting.{appends_as, begun_then, begun_to}
 use Rattle.prodash_line.proofs.render.line.draw.more.push_count.Goals as goal

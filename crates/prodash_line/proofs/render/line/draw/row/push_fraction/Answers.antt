@@ -3,7 +3,7 @@ use Rattle.prodash_line.specs.ProgressRows.{fraction_of}
 use Rattle.std.specs.Bool.{then_some}
 use Rattle.prodash_line.specs.Lines.{styled}
 use Rattle.prodash_line.specs.TextStyles.{values_style}
-use Rattle.prodash_line.specs.Writing.{is_printable, style_of_length, open_bytes, reset_bytes}
+use Rattle.prodash_line.specs.plumbing.Writing.{is_printable, style_of_length, open_bytes, reset_bytes}
 use Rattle.prodash_line.proofs.Columns.{printable-append, printable-decimal}
 use Rattle.prodash_line.proofs.LineWriting.{appends_counted}
 use Rattle.prodash_line.proofs.RowLines.{length-parts, fraction_end, padded_appends}

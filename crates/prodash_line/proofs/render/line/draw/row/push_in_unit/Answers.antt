@@ -11,7 +11,7 @@ use Rattle.prodash_line.specs.TextStyles.{values_style}
 use Rattle.prodash_line.specs.Lines.{piece, styled, spaces}
 use Rattle.prodash_line.specs.DrawnLines.{drawn_chars}
 use Rattle.prodash_line.specs.ProgressRows.{values_in}
-use Rattle.prodash_line.specs.Padding.{end_of_values}
+use Rattle.prodash_line.specs.plumbing.Padding.{end_of_values}
 use Rattle.prodash_line.proofs.LineWriting.{appends_as}
 use Rattle.prodash_line.proofs.RowLines.{unit_end, padded_appends}
 use Rattle.prodash_line.proofs.render.line.draw.row.push_in_unit.Goals as goal

@@ -1,5 +1,5 @@
 use Rattle.std.proofs.Common.{None, Some}
-use Rattle.prodash_line.specs.Padding.{DrawsProgress, DrawsFraction, DrawsInUnit}
+use Rattle.prodash_line.specs.plumbing.Padding.{DrawsProgress, DrawsFraction, DrawsInUnit}
 use Rattle.prodash_line.proofs.PlainProgress.{drawn_as, draws_by}
 use Rattle.prodash_line.proofs.render.line.draw.row.push_plain.Goals as goal
 

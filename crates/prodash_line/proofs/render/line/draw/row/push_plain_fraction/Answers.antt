@@ -1,9 +1,9 @@
 use Rattle.std.proofs.Common.{◌≡◌, ◌<◌, ◌^◌, ℕ, List, true, ◌++◌, codes, refl, ap, sym, ◌∙◌, arith}
 use Rattle.std.specs.Fmt.{decimal}
 use Rattle.prodash_base.specs.Rows.{progress_of}
-use Rattle.prodash_line.specs.Padding.{AppendsText, DrawsFraction}
+use Rattle.prodash_line.specs.plumbing.Padding.{AppendsText, DrawsFraction}
 use Rattle.prodash_line.specs.ProgressRows.{fraction_of}
-use Rattle.prodash_line.specs.Writing.{is_printable}
+use Rattle.prodash_line.specs.plumbing.Writing.{is_printable}
 use Rattle.prodash_line.proofs.Columns.{printable-append, printable-decimal}
 use Rattle.prodash_line.proofs.PlainProgress.{drawn_as, appends_fraction}
 use Rattle.prodash_line.proofs.render.line.draw.row.push_plain_fraction.Goals as goal

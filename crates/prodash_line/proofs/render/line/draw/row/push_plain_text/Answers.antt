@@ -1,7 +1,7 @@
 use Rattle.std.proofs.Common.{◌≡◌, ◌≤◌, ◌+◌, ◌-◌, ◌++◌, length, sym, ap, ◌∙◌, subst, arith}
 use Rattle.prodash_base.specs.Rows.{progress_of}
 use Rattle.prodash_line.specs.Lines.{capped}
-use Rattle.prodash_line.specs.Padding.{DrawsParts, OrNothing}
+use Rattle.prodash_line.specs.plumbing.Padding.{DrawsParts, OrNothing}
 use Rattle.prodash_line.proofs.Columns.{printable-append}
 use Rattle.prodash_line.proofs.PlainProgress.{appends_plain, drawn_if}
 use Rattle.prodash_line.proofs.RowLines.{length-parts}

@@ -8,9 +8,9 @@ use Rattle.prodash_base.specs.declared.unit.units.Unit.{Unit}
 use Rattle.prodash_base.specs.declared.unit.display.Throughput.{Throughput}
 use Rattle.prodash_line.specs.DrawnLines.{drawn_chars}
 use Rattle.prodash_line.specs.Lines.{piece, capped, columns_of, in_color}
-use Rattle.prodash_line.specs.Padding.{AppendsText, DrawsInUnit}
+use Rattle.prodash_line.specs.plumbing.Padding.{AppendsText, DrawsInUnit}
 use Rattle.prodash_line.specs.ProgressRows.{values_in}
-use Rattle.prodash_line.specs.Writing.{is_printable}
+use Rattle.prodash_line.specs.plumbing.Writing.{is_printable}
 use Rattle.prodash_line.proofs.Columns.{chars-printable, printable-parts, width-ascii}
 use Rattle.prodash_line.proofs.DrawnTexts.{some_if, printable_as_is}
 use Rattle.prodash_line.proofs.PlainProgress.{drawn_as, appends_unit}

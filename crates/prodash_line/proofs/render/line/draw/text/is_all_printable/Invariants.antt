@@ -1,5 +1,5 @@
 use Rattle.std.proofs.Common.{◌≡◌, true, length, take}
-use Rattle.prodash_line.specs.Writing.{is_printable}
+use Rattle.prodash_line.specs.plumbing.Writing.{is_printable}
 use Rattle.prodash_line.proofs.render.line.draw.text.is_all_printable.Given as goal
 
 abbrev pub invariant-loop-left : goal.invariant-loop-left

@@ -2,7 +2,7 @@ use Rattle.std.proofs.Common.{◌<◌, length, chars, false, sym, ap, ◌∙◌,
 use Rattle.std.proofs.lemmas.List.{take_all}
 use Rattle.std.specs.Prelude.{min}
 use Rattle.prodash_line.specs.Lines.{longest_prefix_of}
-use Rattle.prodash_line.specs.Writing.{is_printable}
+use Rattle.prodash_line.specs.plumbing.Writing.{is_printable}
 use Rattle.unicode_width.specs.Width.{str_width}
 use Rattle.prodash_line.proofs.Prefixes.{prefix_init, prefix_fewer, prefix_found, prefix_sliced, shorter, prefix_shorter}
 use Rattle.prodash_line.proofs.render.line.draw.text.longest_prefix.Goals as goal

@@ -1,8 +1,8 @@
 use Rattle.std.proofs.Common.{◌≡◌, drop}
 use Rattle.prodash_base.specs.Rows.{rows_of}
 use Rattle.prodash_line.specs.ProgressRows.{filtered}
-use Rattle.prodash_line.specs.Observing.{observe_all}
-use Rattle.prodash_line.specs.Tracking.{kept_of, ahead_of}
+use Rattle.prodash_line.specs.plumbing.Observing.{observe_all, ahead_of}
+use Rattle.prodash_line.specs.Tracking.{kept_of}
 use Rattle.prodash_line.proofs.render.line.draw.tracker.observe_rows.Given as goal
 
 abbrev pub invariant-loop-row : goal.invariant-loop-row

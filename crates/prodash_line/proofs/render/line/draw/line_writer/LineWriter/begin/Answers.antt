@@ -1,5 +1,5 @@
 use Rattle.std.proofs.Common.{refl, sym, ap, ◌∙◌}
-use Rattle.prodash_line.specs.Cutting.{room_of}
+use Rattle.prodash_line.specs.plumbing.Cutting.{room_of}
 use Rattle.prodash_line.proofs.LineWriting.{begins}
 use Rattle.prodash_line.proofs.render.line.draw.line_writer.LineWriter.begin.Goals as goal
 use Rattle.prodash_line.proofs.render.line.draw.line_writer.LineWriter.begin.Goals.{in-Some, in-None}

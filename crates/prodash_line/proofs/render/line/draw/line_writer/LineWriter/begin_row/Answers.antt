@@ -2,9 +2,9 @@ use Rattle.std.proofs.Common.{◌≡◌, ◌+◌, ◌-◌, refl, ap, sym, ◌∙
 use Rattle.std.proofs.lemmas.List.{length-replicate}
 use Rattle.prodash_line.specs.declared.render.line.draw.line_writer.LineWriter.{LineWriter}
 use Rattle.prodash_line.specs.Frames.{row_start}
-use Rattle.prodash_line.specs.OverwriteBytes.{on_row}
+use Rattle.prodash_line.specs.plumbing.OverwriteBytes.{on_row}
 use Rattle.prodash_line.specs.Signs.{spelling}
-use Rattle.prodash_line.specs.Writing.{Counts}
+use Rattle.prodash_line.specs.plumbing.Writing.{Counts}
 use Rattle.prodash_line.proofs.Columns.{printable-spaces}
 use Rattle.prodash_line.proofs.Cutting.{cut-nil}
 use Rattle.prodash_line.proofs.LineWriting.{begins, begun_then, appends_printable, take_copies}

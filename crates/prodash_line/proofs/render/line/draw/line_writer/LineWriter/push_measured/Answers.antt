@@ -1,6 +1,6 @@
 use Rattle.std.proofs.Common.{ap, ◌∙◌, ◌++◌, subst, arith}
 use Rattle.std.specs.Str.{IsUtf8}
-use Rattle.prodash_line.specs.Writing.{open_bytes, reset_bytes}
+use Rattle.prodash_line.specs.plumbing.Writing.{open_bytes, reset_bytes}
 use Rattle.prodash_line.proofs.LineWriting.{appends_text}
 use Rattle.prodash_line.proofs.render.line.draw.line_writer.LineWriter.push_measured.Goals as goal
 

@@ -1,6 +1,6 @@
 use Rattle.std.proofs.Common.{◌++◌, ap, sym, ◌∙◌, replicate, refl}
 use Rattle.std.proofs.lemmas.List.{length-replicate}
-use Rattle.prodash_line.specs.Writing.{style_of_length, open_bytes, reset_bytes}
+use Rattle.prodash_line.specs.plumbing.Writing.{style_of_length, open_bytes, reset_bytes}
 use Rattle.prodash_line.proofs.Columns.{printable-repeated}
 use Rattle.prodash_line.proofs.LineWriting.{appends_counted, take_copies}
 use Rattle.prodash_line.proofs.render.line.draw.line_writer.LineWriter.push_repeated.Goals as goal

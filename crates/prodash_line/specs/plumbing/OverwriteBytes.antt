@@ -5,7 +5,7 @@ use Rattle.prodash_line.specs.Lines.{Line, columns_of, cut}
 use Rattle.prodash_line.specs.declared.render.line.draw.layout.Layout.{Layout}
 use Rattle.prodash_line.specs.Signs.{spelling}
 use Rattle.prodash_line.specs.Frames.{first_width, row_start}
-use Rattle.prodash_line.specs.Writing.{line_bytes, Begun}
+use Rattle.prodash_line.specs.plumbing.Writing.{line_bytes, Begun}
 
 -- the writer at the beginning of a line's row, which is erased first where frames do that
 abbrev pub on_row : Layout → LineWriter → LineWriter

@@ -8,9 +8,14 @@ use Rattle.prodash_base.specs.declared.unit.units.Unit.{Unit}
 use Rattle.prodash_line.specs.declared.render.line.draw.input.Options.{Options}
 use Rattle.prodash_line.specs.declared.render.line.draw.line_writer.LineWriter.{LineWriter}
 use Rattle.prodash_line.specs.Lines.{Line, piece, spaces, capped, columns_of}
-use Rattle.prodash_line.specs.ProgressRows.{fraction_values, values_in, values_of, bar}
+use Rattle.prodash_line.specs.ProgressRows.{fraction_values, values_in, values_of, bar, fraction_of}
 use Rattle.prodash_line.specs.TextStyles.{row_style}
-use Rattle.prodash_line.specs.Writing.{Appends, AppendsIn}
+use Rattle.prodash_line.specs.plumbing.Writing.{Appends, AppendsIn}
+use Rattle.std.specs.Fmt.{decimal}
+
+-- this text follows the digits of any step in its fraction of a bound
+abbrev pub FollowsStep : Option ℕ → List ℕ → Type 0
+FollowsStep bound text = (step : ℕ) → fraction_of step bound ≡ decimal step ++ text
 
 -- the column at which a space and values end behind this many columns
 abbrev pub end_of_values : ℕ → Line → ℕ

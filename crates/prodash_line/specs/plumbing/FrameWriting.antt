@@ -20,12 +20,33 @@ use Rattle.prodash_line.specs.declared.render.line.page.sign.Sign.{Sign}
 use Rattle.prodash_line.specs.Signs.{spelling}
 use Rattle.prodash_line.specs.Lines.{Line}
 use Rattle.prodash_line.specs.DrawnLines.{layout_of}
-use Rattle.prodash_line.specs.Frames.{Body, covered, erased_rows, left_over, cursor_up, redraw, body_signs, widths_of}
+use Rattle.prodash_line.specs.Frames.{Body, covered, erased_rows, left_over, cursor_up, redraw, body_signs, widths_of, Frame, Closes, frame_signs}
 use Rattle.prodash_line.specs.ProgressRows.{DrawnRow, filtered, fitting_count, fitting, more_lines, row_lines, greatest_midpoint}
-use Rattle.prodash_line.specs.Renderer.{Renderer, Drawing, FrameState, drawing_of, body_of, opening_of, ending_of, state_after, state_at, action_at, remember, latest_rows, frame_bytes, ended_after}
-use Rattle.prodash_line.specs.OverwriteBytes.{lines_bytes}
-use Rattle.prodash_line.specs.Observing.{shown_by, observe_all}
-use Rattle.prodash_line.specs.Tracking.{kept_of, ahead_of, tracked, tracker_by}
+use Rattle.prodash_base.specs.declared.refusal.Refusal.TheVariants as refusals
+use Rattle.prodash_line.specs.Renderer.{Renderer, Drawing, FrameState, drawing_of, body_of, opening_of, ending_of, state_after, state_at, action_at, remember, latest_rows, frame_bytes, ended_after, is_cursor_hidden}
+use Rattle.prodash_line.specs.plumbing.OverwriteBytes.{lines_bytes}
+use Rattle.prodash_line.specs.plumbing.Observing.{shown_by, observe_all, ahead_of, tracker_by}
+use Rattle.prodash_line.specs.Tracking.{kept_of, tracked}
+
+-- a closing frame after its messages: these lines on screen are blanked, and its end
+abbrev pub closing_signs : Layout → Renderer → List ℕ → List Sign
+closing_signs layout r widths = body_signs layout widths (Closes (ending_of r))
+
+-- the closing frame without messages
+abbrev pub closing_frame : Renderer → Frame
+closing_frame r = record { layout = layout_of r.options; opening = opening_of r; messages = []; body = Closes (ending_of r) }
+
+-- the renderer after a frame has begun
+abbrev pub begun : Renderer → Renderer
+begun r = record r { cursor_hidden = is_cursor_hidden r }
+
+-- the renderer after the screen broke
+abbrev pub broken : Renderer → Renderer
+broken r = record r { ended = Some refusals.Broken }
+
+-- the bytes of the closing frame without messages
+abbrev pub closing_bytes : Renderer → List ℕ
+closing_bytes r = spelling (frame_signs r.widths (closing_frame r))
 
 -- the buffer holds the frame of an input
 abbrev pub HoldsFrame : Renderer → Input → LineWriter → Type 0

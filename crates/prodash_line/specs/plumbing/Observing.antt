@@ -2,9 +2,22 @@
 use Rattle.std.specs.Prelude.{ℕ, List, [], ◌∷◌, Option, Some, None}
 use Rattle.std.specs.Option.{option_map}
 use Rattle.prodash_base.specs.Rows.{PathRow}
-use Rattle.prodash_base.specs.Trackers.{Tracker, observe, update_elapsed, throughput_of, step_of}
+use Rattle.prodash_base.specs.Trackers.{Tracker, observe, update_elapsed, throughput_of, step_of, reconcile}
 use Rattle.prodash_base.specs.declared.unit.display.Throughput.{Throughput}
 use Rattle.prodash_line.specs.ProgressRows.{DrawnRow}
+use Rattle.prodash_line.specs.declared.render.line.draw.action.Action.{Action}
+use Rattle.prodash_line.specs.declared.render.line.draw.action.Action.TheVariants.{Redraw}
+use Rattle.prodash_base.specs.FrameTrackers.{FrameTracker}
+use Rattle.prodash_line.specs.Tracking.{kept_of}
+
+-- and after what the frame that is composed has observed
+abbrev pub ahead_of : Option FrameTracker → Option Tracker
+ahead_of t = option_map (λ t. t.ahead) t
+
+-- the tracker that a written frame keeps that does this: if it draws these rows, the one that has observed them
+abbrev pub tracker_by : Action → Option FrameTracker → List PathRow → Option Tracker
+tracker_by Redraw t rows = option_map (λ t. reconcile t rows) (ahead_of t)
+tracker_by _ t rows = kept_of t
 
 -- the tracker at a moment
 abbrev pub tracker_at : ℕ → Option Tracker → Option Tracker

@@ -1,5 +1,5 @@
 -- What a line writer has written.
-use Rattle.std.specs.Prelude.{◌≡◌, ◌≤◌, ℕ, zero, suc, ◌+◌, ◌-◌, Bool, true, List, [], ◌++◌, length, Option, Some, None}
+use Rattle.std.specs.Prelude.{◌≡◌, ◌≤◌, ℕ, zero, suc, ◌+◌, ◌-◌, Bool, true, List, [], ◌++◌, length, Option, Some, None, replicate}
 use Rattle.std.specs.List.{list_all}
 use Rattle.std.specs.Int.{is_in_range}
 use Rattle.prodash_line.specs.declared.render.line.draw.line_writer.LineWriter.{LineWriter}
@@ -10,8 +10,14 @@ use Rattle.prodash_line.specs.Signs.{spelling_of, spelling}
 use Rattle.prodash_line.specs.declared.render.line.draw.input.Options.{Options}
 use Rattle.prodash_line.specs.Lines.{Line, capped, columns_of, in_color, cut}
 use Rattle.prodash_line.specs.DrawnLines.{limit_of}
-use Rattle.prodash_line.specs.Cutting.{room_of, room_after_line, Fits}
+use Rattle.prodash_line.specs.plumbing.Cutting.{room_of, room_after_line, Fits}
 use Rattle.prodash_line.specs.Frames.{line_signs}
+use Rattle.prodash_base.specs.declared.messages.Message.{Message}
+use Rattle.prodash_line.specs.MessageLines.{time_of}
+
+-- n spaces and then a text
+abbrev pub indented : ℕ → List ℕ → List ℕ
+indented n text = replicate n 32 ++ text
 
 -- are all of them printable ASCII characters?
 abbrev pub is_printable : List ℕ → Bool
@@ -83,3 +89,7 @@ pub record Counts (old : LineWriter) (n count : ℕ) (new : LineWriter) : Type 0
   pub limit : new.limit ≡ old.limit
   pub within : count ≤ n
   pub fits : (text : List ℕ) → is_printable text ≡ true → length text ≡ n → Fits old.room text count new.room
+
+-- its time as it is drawn
+abbrev pub drawn_time : Options → Message → Line
+drawn_time options m = in_color options.colored (time_of options.timestamp m)
