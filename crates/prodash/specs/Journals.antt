@@ -5,7 +5,7 @@ use Rattle.std.specs.Option.{ForSome}
 use Rattle.prodash_base.specs.declared.refusal.Refusal.{Refusal}
 use Rattle.prodash_base.specs.declared.refusal.Refusal.TheVariants.{Memory, TooManyHandles}
 use Rattle.prodash_core.specs.Refusals.{refusal_of}
-use Rattle.prodash_core.specs.Trees.{Tree, new_tree, Plays}
+use Rattle.prodash_core.specs.Trees.{Tree, new_tree, Applies}
 use Rattle.prodash_core.specs.declared.tree.event.Event.{Event}
 use Rattle.prodash_core.specs.declared.tree.event.Event.TheVariants.{IncBy}
 use Rattle.prodash_core.specs.declared.tree.event.Reply.{Reply}
@@ -15,7 +15,7 @@ use Rattle.prodash_core.specs.declared.tree.event.Reply.{Reply}
 abbrev pub Leads : Tree → List (Event × Reply) → Tree → Type 0
 Leads t [] t' = t' ≡ t
 Leads t (entry ∷ entries) t' =
-    (t₁ : Tree) × Plays t entry.0 (Ok entry.1) t₁ × Leads t₁ entries t'
+    (t₁ : Tree) × Applies t entry.0 (Ok entry.1) t₁ × Leads t₁ entries t'
 
 -- The entries replay: they lead from a tree with nothing but its root, which keeps this many
 -- messages, to the other tree.
@@ -63,7 +63,7 @@ sum_of shares = sum_by (λ share. share.sum) shares
 
 -- The event is accepted with this reply, and gets an entry.
 pub record Records (old : Recorded) (e : Event) (reply : Reply) (new : Recorded) : Type 0 where
-  pub plays : Plays old.tree e (Ok reply) new.tree
+  pub applied : Applies old.tree e (Ok reply) new.tree
   pub entry : new.entries ≡ old.entries ++ (e, reply) ∷ []
 
 -- the same of a recorded tree whose journal isn't taken out

@@ -12,7 +12,7 @@ use Rattle.prodash_core.specs.declared.render.tui.event.KeyCode.{KeyCode}
 use Rattle.prodash_core.specs.declared.render.tui.event.KeyCode.TheVariants.{Char as Character, Esc, Other}
 use Rattle.prodash_core.specs.declared.render.tui.state.State.{State}
 use Rattle.prodash_core.specs.declared.render.tui.state.InterruptMode.TheVariants.{Deferred}
-use Rattle.prodash_core.specs.Dashboard.{redraw, skip, interrupt, effects, effect_of, interrupts_by, handle, state_after, is_request, sets_instantly}
+use Rattle.prodash_core.specs.Dashboard.{redraw, skip, interrupt, key_effects, key_effect, interrupts_by, handle, state_after, is_request, sets_instantly}
 
 -- an effect that leaves the mode as it was
 abbrev KeepsMode : (State → State) → Type 0
@@ -25,7 +25,7 @@ AllKeepMode (Some effect) = KeepsMode effect
 abbrev Row : Type 0
 Row = Char × (State → State)
 
-effects_keep : AllByRecursion (λ row. KeepsMode row.1) effects
+effects_keep : AllByRecursion (λ row. KeepsMode row.1) key_effects
 effects_keep = (
   λ s. refl,
   (
@@ -62,8 +62,8 @@ found_keeps test [] keep = tt
 found_keeps test (row ∷ rows) keep =
     chosen_keeps (test row) row (find test rows) keep.0 (found_keeps test rows keep.1)
 
-effect_keeps : (key : KeyCode) → AllKeepMode (effect_of key)
-effect_keeps (Character c) = found_keeps (λ row. code row.0 == c) effects effects_keep
+effect_keeps : (key : KeyCode) → AllKeepMode (key_effect key)
+effect_keeps (Character c) = found_keeps (λ row. code row.0 == c) key_effects effects_keep
 effect_keeps Esc = tt
 effect_keeps Other = tt
 
@@ -107,7 +107,7 @@ event_mode : (s : State) (r : Bool) (e : Event)
     → (handle s e).0.interrupt_mode ≡ Deferred (r || is_request e)
 event_mode s r Tick mode other = mode ∙ ap Deferred (or_false r)
 event_mode s r (Input key) mode other =
-    key_mode key.release (interrupts_by key.code key.control) (effect_of key.code) s r mode
+    key_mode key.release (interrupts_by key.code key.control) (key_effect key.code) s r mode
     (effect_keeps key.code)
 event_mode s r (SetWindowSize size) mode other = mode ∙ ap Deferred (or_false r)
 event_mode s r (SetTitle title) mode other = mode ∙ ap Deferred (or_false r)

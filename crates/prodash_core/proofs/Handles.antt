@@ -8,7 +8,7 @@ use Rattle.prodash_base.specs.Path.{Path, child}
 use Rattle.prodash_base.specs.Rings.{Ring}
 use Rattle.prodash_core.specs.Tables.{new_entry, Table}
 use Rattle.prodash_core.specs.declared.tree.slot.Slot.{Slot}
-use Rattle.prodash_core.specs.Trees.{Tree, Played, if_valid, or_gone, new_slot, with_child, add_child, for_slot, with_handle}
+use Rattle.prodash_core.specs.Trees.{Tree, Outcome, if_valid, or_gone, new_slot, with_child, add_child, for_slot, with_handle}
 use Rattle.prodash_core.specs.declared.tree.event.Reply.TheVariants as replies
 
 found : (o : Option Slot) (slot : Slot) → Ok slot ≡ or_gone o → o ≡ Some slot
@@ -22,7 +22,7 @@ within_by slots n slot (Some x) e l = slice_get_within slots n x e
 set_push : (slots : List Slot) (n : ℕ) (slot other : Slot) → n < length slots → slice_set (slots ++ other ∷ []) n slot ≡ slice_set slots n slot ++ other ∷ []
 set_push slots n slot other l = set-append_left slots (other ∷ []) n slot l
 
-abbrev adding : Tree → ℕ → List ℕ → List ℕ → Played
+abbrev adding : Tree → ℕ → List ℕ → List ℕ → Outcome
 adding t parent name id = with_handle t parent (λ slot. Ok (add_child t parent slot name id, replies.Made (length t.slots)))
 
 -- what adding a child leaves, put together from its steps
@@ -33,7 +33,7 @@ pub adds_child : (table after : Table ℕ) (slots pushed put : List Slot) (ring 
     ≡ Ok (record { table = after; slots = put; ring = ring }, replies.Made made)
 adds_child table after slots pushed put ring parent made slot path name id valid m k e i s =
     let t : Tree = record { table = table; slots = slots; ring = ring } in
-    let returned : Slot → Played = λ slot. Ok (add_child t parent slot name id, replies.Made (length slots)) in
+    let returned : Slot → Outcome = λ slot. Ok (add_child t parent slot name id, replies.Made (length slots)) in
     let at = found (if_valid (slice_get slots parent)) slot valid in
     let table_is : finite.insert table (child slot.key slot.next_child) (new_entry name id) ≡ after =
     sym (i ∙ ap (λ (q : Path). finite.insert table q (new_entry name id)) k) in

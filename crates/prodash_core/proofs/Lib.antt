@@ -9,11 +9,11 @@ pub mod EventLaws
 pub mod TreeSteps
 pub mod StepLaws
 pub mod RunLaws
-pub mod AllSaid
+pub mod AcceptedMessages
 pub mod WorkedTrees
 pub mod WorkedRuns
 pub mod WorkedDashboard
 pub mod DashboardLaws
 pub mod WorkedPrefixes
-pub mod PlayedEvents
+pub mod AppliedEvents
 pub mod Boxes

@@ -4,7 +4,7 @@ use Rattle.std.specs.Prelude.{is_ok}
 use Rattle.std.proofs.lemmas.List.{nil_from_length}
 use Rattle.prodash_line.specs.plumbing.RenderedInputs.{RendersAll}
 use Rattle.prodash_line.specs.Screens.{ScreenState}
-use Rattle.prodash_core.specs.Trees.{Effect, OnTree, OnRenderer, Played, play}
+use Rattle.prodash_core.specs.Trees.{Effect, OnTree, OnRenderer, Outcome, effect_of}
 use Rattle.prodash_core.specs.Sessions.{SessionState, is_memory, tree_after, StepsBy, Steps}
 use Rattle.prodash_core.specs.Runs.{Run, StepsAt, next_by, next_session, session_after, events_with_memory, replies_with_memory, rendering_by, renderings_from}
 use Rattle.prodash_core.proofs.StepLaws.{frame_renders, step_next, step_idle, screen_stays}
@@ -38,17 +38,17 @@ completes_all w₀ s₀ all replies w s left c e =
 pub pushed_is : {E X : Type 0} (r : Result X E) (x : X) (xs ys zs : List Reply) → r ≡ Ok x → xs ≡ cond (is_ok r) ys zs → xs ≡ ys
 pushed_is r x xs ys zs e h = h ∙ ap (λ q. cond (is_ok q) ys zs) e
 
-same_renderer : (w : SessionState) (played : Played) (b : Bool) → (cond b w (record w { tree = tree_after w.tree played })).renderer ≡ w.renderer
-same_renderer w played true = refl
-same_renderer w played false = refl
+same_renderer : (w : SessionState) (outcome : Outcome) (b : Bool) → (cond b w (record w { tree = tree_after w.tree outcome })).renderer ≡ w.renderer
+same_renderer w outcome true = refl
+same_renderer w outcome false = refl
 
 renders_more : (f : Effect) (w : SessionState) (s : ScreenState) (r : Reply) (es : List Event) (rs : List Reply) (w₁ : SessionState) (s₁ s' : ScreenState) → StepsBy f w s r w₁ s₁
     → RendersAll (next_by f w r).renderer s₁ (renderings_from (next_by f w r) es rs) s'
     → RendersAll w.renderer s (rendering_by f w r ++ renderings_from (next_by f w r) es rs) s'
-renders_more (OnTree memory played) w s r es rs w₁ s₁ s' step more =
-    let next = next_by (OnTree memory played) w r in
-    subst (λ q. RendersAll q s (renderings_from next es rs) s') (same_renderer w played (is_memory r))
-    (subst (λ q. RendersAll next.renderer q (renderings_from next es rs) s') (screen_stays w s memory played r w₁ s₁ step) more)
+renders_more (OnTree memory outcome) w s r es rs w₁ s₁ s' step more =
+    let next = next_by (OnTree memory outcome) w r in
+    subst (λ q. RendersAll q s (renderings_from next es rs) s') (same_renderer w outcome (is_memory r))
+    (subst (λ q. RendersAll next.renderer q (renderings_from next es rs) s') (screen_stays w s memory outcome r w₁ s₁ step) more)
 renders_more (OnRenderer input) w s r es rs w₁ s₁ s' step more = (s₁, frame_renders w (input w.renderer.seen) s r w₁ s₁ step, tt, more)
 
 -- a run renders the inputs of its frames
@@ -56,7 +56,7 @@ pub run_renders : (es : List Event) (rs : List Reply) (w : SessionState) (s s' :
 run_renders [] [] w s s' h = h
 run_renders [] (r ∷ rs) w s s' h = absurd h
 run_renders (e ∷ es) [] w s s' h = absurd h
-run_renders (e ∷ es) (r ∷ rs) w s s' h = renders_more (play w.tree e) w s r es rs (next_session w e r) h.0 s' h.1 (run_renders es rs (next_session w e r) h.0 s' h.2)
+run_renders (e ∷ es) (r ∷ rs) w s s' h = renders_more (effect_of w.tree e) w s r es rs (next_session w e r) h.0 s' h.1 (run_renders es rs (next_session w e r) h.0 s' h.2)
 
 -- a prefix of a run is a run
 pub prefix_runs : (j : ℕ) (es : List Event) (rs : List Reply) (w : SessionState) (s s' : ScreenState) → Run w s es rs s' → (t : ScreenState) × Run w s (take j es) (take j rs) t

@@ -9,8 +9,8 @@ use Rattle.prodash_line.specs.declared.render.line.draw.input.Answer.TheVariants
 use Rattle.prodash_line.specs.Renderer.{Renderer, Renders}
 use Rattle.prodash_line.specs.Renderings.{after_result}
 use Rattle.prodash_line.specs.Screens.{ScreenState}
-use Rattle.prodash_core.specs.Trees.{Played, Effect, OnTree, OnRenderer, play}
-use Rattle.prodash_core.specs.Sessions.{SessionState, is_memory, frame_reply, tree_after, RendersFrame, PlaysOnTree, RunsOutOfMemory, StepsOnTree, StepsBy, Steps}
+use Rattle.prodash_core.specs.Trees.{Outcome, Effect, OnTree, OnRenderer, effect_of}
+use Rattle.prodash_core.specs.Sessions.{SessionState, is_memory, frame_reply, tree_after, RendersFrame, AppliesToTree, RunsOutOfMemory, StepsOnTree, StepsBy, Steps}
 use Rattle.prodash_core.specs.Runs.{result_of, next_by, next_session}
 use Rattle.prodash_core.specs.declared.tree.event.Event.{Event}
 use Rattle.prodash_core.specs.declared.tree.event.Reply.{Reply}
@@ -47,28 +47,28 @@ frame_next w input s reply w' s' h =
     renders_after w.renderer input s h.result w'.renderer s' h.renders ∙ ap (after_result w.renderer input) (sym (ap result_of h.replied ∙ result_of-reply h.result)) in
     λ i. record { tree = h.tree i; renderer = renderer i }
 
-tree_next : (w : SessionState) (s : ScreenState) (memory : Bool) (played : Played) (reply : Reply) (w' : SessionState) (s' : ScreenState) (b : Bool)
-    → MatchBool b (RunsOutOfMemory w s memory played w' s') (PlaysOnTree w s played reply w' s') → w' ≡ cond b w (record w { tree = tree_after w.tree played })
-tree_next w s memory played reply w' s' true h = h.session
-tree_next w s memory played reply w' s' false h = λ i. record { tree = h.tree i; renderer = h.renderer i }
+tree_next : (w : SessionState) (s : ScreenState) (memory : Bool) (outcome : Outcome) (reply : Reply) (w' : SessionState) (s' : ScreenState) (b : Bool)
+    → MatchBool b (RunsOutOfMemory w s memory outcome w' s') (AppliesToTree w s outcome reply w' s') → w' ≡ cond b w (record w { tree = tree_after w.tree outcome })
+tree_next w s memory outcome reply w' s' true h = h.session
+tree_next w s memory outcome reply w' s' false h = λ i. record { tree = h.tree i; renderer = h.renderer i }
 
 next_is : (f : Effect) (w : SessionState) (s : ScreenState) (reply : Reply) (w' : SessionState) (s' : ScreenState) → StepsBy f w s reply w' s' → w' ≡ next_by f w reply
-next_is (OnTree memory played) w s reply w' s' h = tree_next w s memory played reply w' s' (is_memory reply) h
+next_is (OnTree memory outcome) w s reply w' s' h = tree_next w s memory outcome reply w' s' (is_memory reply) h
 next_is (OnRenderer input) w s reply w' s' h = frame_next w (input w.renderer.seen) s reply w' s' h
 
 -- the session after a step
 pub step_next : (w : SessionState) (s : ScreenState) (e : Event) (reply : Reply) (w' : SessionState) (s' : ScreenState) → Steps w s e reply w' s' → w' ≡ next_session w e reply
-step_next w s e reply w' s' h = next_is (play w.tree e) w s reply w' s' h
+step_next w s e reply w' s' h = next_is (effect_of w.tree e) w s reply w' s' h
 
-screen_by : (w : SessionState) (s : ScreenState) (memory : Bool) (played : Played) (reply : Reply) (w' : SessionState) (s' : ScreenState) (b : Bool)
-    → MatchBool b (RunsOutOfMemory w s memory played w' s') (PlaysOnTree w s played reply w' s') → s' ≡ s
-screen_by w s memory played reply w' s' true h = h.screen
-screen_by w s memory played reply w' s' false h = h.screen
+screen_by : (w : SessionState) (s : ScreenState) (memory : Bool) (outcome : Outcome) (reply : Reply) (w' : SessionState) (s' : ScreenState) (b : Bool)
+    → MatchBool b (RunsOutOfMemory w s memory outcome w' s') (AppliesToTree w s outcome reply w' s') → s' ≡ s
+screen_by w s memory outcome reply w' s' true h = h.screen
+screen_by w s memory outcome reply w' s' false h = h.screen
 
 -- an event that is no frame leaves the screen
-pub screen_stays : (w : SessionState) (s : ScreenState) (memory : Bool) (played : Played) (reply : Reply) (w' : SessionState) (s' : ScreenState)
-    → StepsOnTree w s memory played reply w' s' → s' ≡ s
-screen_stays w s memory played reply w' s' h = screen_by w s memory played reply w' s' (is_memory reply) h
+pub screen_stays : (w : SessionState) (s : ScreenState) (memory : Bool) (outcome : Outcome) (reply : Reply) (w' : SessionState) (s' : ScreenState)
+    → StepsOnTree w s memory outcome reply w' s' → s' ≡ s
+screen_stays w s memory outcome reply w' s' h = screen_by w s memory outcome reply w' s' (is_memory reply) h
 
 frame_idle : (r : Renderer) (input : Input) (s : ScreenState) (result : Result Answer Refusal) (r' : Renderer) (s' : ScreenState) → is_memory (frame_reply result) ≡ true
     → Renders r input s result r' s' → (r' ≡ r) × (s' ≡ s)
@@ -83,8 +83,8 @@ frame_idle r input s (Err refusals.Closed) r' s' m h = cc
 frame_idle r input s (Err refusals.Broken) r' s' m h = cc
 
 idle_by : (f : Effect) (w : SessionState) (s : ScreenState) (reply : Reply) (w' : SessionState) (s' : ScreenState) → is_memory reply ≡ true → StepsBy f w s reply w' s' → (w' ≡ w) × (s' ≡ s)
-idle_by (OnTree memory played) w s reply w' s' m h =
-    let out = subst (λ b. MatchBool b (RunsOutOfMemory w s memory played w' s') (PlaysOnTree w s played reply w' s')) m h in
+idle_by (OnTree memory outcome) w s reply w' s' m h =
+    let out = subst (λ b. MatchBool b (RunsOutOfMemory w s memory outcome w' s') (AppliesToTree w s outcome reply w' s')) m h in
     (out.session, out.screen)
 idle_by (OnRenderer input) w s reply w' s' m h =
     let kept = frame_idle w.renderer (input w.renderer.seen) s h.result w'.renderer s' (sym (ap is_memory h.replied) ∙ m) h.renders in
@@ -92,4 +92,4 @@ idle_by (OnRenderer input) w s reply w' s' m h =
 
 -- a step that is out of memory playeds nothing
 pub step_idle : (w : SessionState) (s : ScreenState) (e : Event) (reply : Reply) (w' : SessionState) (s' : ScreenState) → is_memory reply ≡ true → Steps w s e reply w' s' → (w' ≡ w) × (s' ≡ s)
-step_idle w s e reply w' s' m h = idle_by (play w.tree e) w s reply w' s' m h
+step_idle w s e reply w' s' m h = idle_by (effect_of w.tree e) w s reply w' s' m h

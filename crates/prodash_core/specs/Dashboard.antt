@@ -72,8 +72,8 @@ abbrev pub scroll_tasks : (ℕ → ℕ) → State → State
 scroll_tasks move s = record s { task_offset = move s.task_offset }
 
 -- what the key of each character does
-abbrev pub effects : List (Char × (State → State))
-effects =
+abbrev pub key_effects : List (Char × (State → State))
+key_effects =
     ("`", λ s. record s { hide_messages = not s.hide_messages })
     ∷ ("~", λ s. record s { messages_fullscreen = not s.messages_fullscreen })
     ∷ ("[", λ s. record s { hide_info = not s.hide_info })
@@ -88,10 +88,10 @@ effects =
     ∷ ("u", scroll_tasks (up 10))
     ∷ []
 
-abbrev pub effect_of : KeyCode → Option (State → State)
-effect_of (Character c) = option_map (λ row. row.1) (find (λ row. code row.0 == c) effects)
-effect_of Esc = None
-effect_of Other = None
+abbrev pub key_effect : KeyCode → Option (State → State)
+key_effect (Character c) = option_map (λ row. row.1) (find (λ row. code row.0 == c) key_effects)
+key_effect Esc = None
+key_effect Other = None
 
 -- the keys that interrupt: Esc, q, and with control c and [
 abbrev pub interrupts_by : KeyCode → Bool → Bool
@@ -129,7 +129,7 @@ abbrev pub press : State → Key → State × Answer
 press s key =
     if key.release then skip s
     else if interrupts_by key.code key.control then interrupt s
-    else option_map_or (λ effect. redraw (effect s)) (effect_of key.code) (skip s)
+    else option_map_or (λ effect. redraw (effect s)) (key_effect key.code) (skip s)
 
 -- an event: the state after it, and the answer
 abbrev pub handle : State → Event → State × Answer

@@ -3,7 +3,7 @@ use Rattle.std.specs.Prelude.{◌≡◌, ℕ, suc, Bool, true, false, ◌<◌, L
 use Rattle.std.specs.Global.{Vec}
 use Rattle.prodash_base.specs.declared.refusal.Refusal.{Refusal}
 use Rattle.prodash_base.specs.declared.refusal.Refusal.TheVariants as refusals
-use Rattle.prodash_base.specs.declared.messages.Message.{Message as Said}
+use Rattle.prodash_base.specs.declared.messages.Message.{Message}
 use Rattle.prodash_base.specs.declared.messages.MessageLevel.{MessageLevel}
 use Rattle.prodash_base.specs.Rings.{ring_of}
 use Rattle.prodash_line.specs.declared.render.line.draw.input.Answer.{Answer}
@@ -14,11 +14,11 @@ use Rattle.prodash_line.specs.ErasedPages.{ErasesPagesOf, FitsTerminal, ShowsEra
 use Rattle.prodash_line.specs.ControlCharacters.{DrawsNoControlsOf}
 use Rattle.prodash_line.specs.Page.{Canvas}
 use Rattle.prodash_core.specs.declared.tree.slot.Slot.{Slot}
-use Rattle.prodash_core.specs.Trees.{Tree, Effect, OnTree, OnRenderer, play, item_at, message_by}
+use Rattle.prodash_core.specs.Trees.{Tree, Effect, OnTree, OnRenderer, effect_of, item_at, message_by}
 use Rattle.prodash_core.specs.Sessions.{SessionState, new_session, tree_after, is_memory, Steps}
 use Rattle.prodash_core.specs.declared.tree.options.SessionOptions.{SessionOptions}
 use Rattle.prodash_core.specs.declared.tree.event.Event.{Event}
-use Rattle.prodash_core.specs.declared.tree.event.Event.TheVariants.{Message}
+use Rattle.prodash_core.specs.declared.tree.event.Event.TheVariants as events
 use Rattle.prodash_core.specs.declared.tree.event.Reply.{Reply}
 use Rattle.prodash_core.specs.declared.tree.event.Reply.TheVariants as replies
 
@@ -30,14 +30,14 @@ result_of (replies.Refused refusal) = Err refusal
 result_of _ = Err refusals.Memory
 
 abbrev pub next_by : Effect → SessionState → Reply → SessionState
-next_by (OnTree memory played) w reply =
-    if is_memory reply then w else record w { tree = tree_after w.tree played }
+next_by (OnTree memory outcome) w reply =
+    if is_memory reply then w else record w { tree = tree_after w.tree outcome }
 next_by (OnRenderer input) w reply =
     record w { renderer = after_result w.renderer (input w.renderer.seen) (result_of reply) }
 
 -- the session after an event with this reply
 abbrev pub next_session : SessionState → Event → Reply → SessionState
-next_session w e reply = next_by (play w.tree e) w reply
+next_session w e reply = next_by (effect_of w.tree e) w reply
 
 -- the session after a list of events with these replies
 abbrev pub session_after : SessionState → List Event → List Reply → SessionState
@@ -95,35 +95,36 @@ pub record RunsWithMemory (options : SessionOptions) (es : List Event) (rs : Lis
   pub session : session_after (new_session options) (events_with_memory es rs) (replies_with_memory rs)
       ≡ session_after (new_session options) es rs
 
-abbrev pub said_for : Tree → Option Slot → ℕ → MessageLevel → List ℕ → List Said
-said_for t None at level text = []
-said_for t (Some slot) at level text = message_by t slot at level text ∷ []
+-- the same for the slot of its item
+abbrev pub sent_from : Tree → Option Slot → ℕ → MessageLevel → List ℕ → List Message
+sent_from t None at level text = []
+sent_from t (Some slot) at level text = message_by t slot at level text ∷ []
 
--- the message of an event, if it is one of a valid item
-abbrev pub said_by : Tree → Event → List Said
-said_by t (Message n at level text) = said_for t (item_at t n) at level text
-said_by t _ = []
+-- the message that an event sends, if its item is valid
+abbrev pub sent_by : Tree → Event → List Message
+sent_by t (events.Message n at level text) = sent_from t (item_at t n) at level text
+sent_by t _ = []
 
 abbrev pub is_done : Reply → Bool
 is_done replies.Done = true
 is_done _ = false
 
 -- all accepted messages, in order
-abbrev pub all_said : SessionState → List Event → List Reply → List Said
-all_said w [] rs = []
-all_said w (e ∷ es) [] = []
-all_said w (e ∷ es) (r ∷ rs) =
-    (if is_done r then said_by w.tree e else []) ++ all_said (next_session w e r) es rs
+abbrev pub accepted_messages : SessionState → List Event → List Reply → List Message
+accepted_messages w [] rs = []
+accepted_messages w (e ∷ es) [] = []
+accepted_messages w (e ∷ es) (r ∷ rs) =
+    (if is_done r then sent_by w.tree e else []) ++ accepted_messages (next_session w e r) es rs
 
 -- after each prefix of the events, the ring is that of all messages so far
 abbrev pub KeepsMessages : SessionOptions → List Event → List Reply → Type 0
 KeepsMessages options es rs =
     (j : ℕ) → (session_after (new_session options) (take j es) (take j rs)).tree.ring
     ≡ ring_of options.root.message_buffer_capacity
-    (all_said (new_session options) (take j es) (take j rs))
+    (accepted_messages (new_session options) (take j es) (take j rs))
 
 abbrev pub rendering_by : Effect → SessionState → Reply → List Rendering
-rendering_by (OnTree memory played) w reply = []
+rendering_by (OnTree memory outcome) w reply = []
 rendering_by (OnRenderer input) w reply =
     record { input = input w.renderer.seen; result = result_of reply } ∷ []
 
@@ -132,7 +133,7 @@ abbrev pub renderings_from : SessionState → List Event → List Reply → List
 renderings_from w [] rs = []
 renderings_from w (e ∷ es) [] = []
 renderings_from w (e ∷ es) (r ∷ rs) =
-    rendering_by (play w.tree e) w r ++ renderings_from (next_session w e r) es rs
+    rendering_by (effect_of w.tree e) w r ++ renderings_from (next_session w e r) es rs
 
 abbrev pub renderings_of : SessionOptions → List Event → List Reply → List Rendering
 renderings_of options es rs = renderings_from (new_session options) es rs

@@ -7,7 +7,7 @@ use Rattle.prodash_line.specs.declared.render.line.draw.input.Answer.{Answer}
 use Rattle.prodash_line.specs.declared.render.line.draw.input.Answer.TheVariants as answers
 use Rattle.prodash_line.specs.Renderer.{Renderer, Renders, new_renderer}
 use Rattle.prodash_line.specs.Screens.{ScreenState}
-use Rattle.prodash_core.specs.Trees.{Tree, new_tree, Played, Effect, OnTree, OnRenderer, play}
+use Rattle.prodash_core.specs.Trees.{Tree, new_tree, Outcome, Effect, OnTree, OnRenderer, effect_of}
 use Rattle.prodash_core.specs.declared.tree.options.SessionOptions.{SessionOptions}
 use Rattle.prodash_core.specs.declared.tree.event.Event.{Event}
 use Rattle.prodash_core.specs.declared.tree.event.Reply.{Reply}
@@ -25,12 +25,12 @@ new_session options = record {
 }
 
 abbrev pub input_by : SessionState → Effect → Option Input
-input_by w (OnTree memory played) = None
+input_by w (OnTree memory outcome) = None
 input_by w (OnRenderer input) = Some (input w.renderer.seen)
 
 -- the input for the renderer, if the event is a frame
 abbrev pub input_at : SessionState → Event → Option Input
-input_at w e = input_by w (play w.tree e)
+input_at w e = input_by w (effect_of w.tree e)
 
 -- the reply with what the renderer returned
 abbrev pub frame_reply : Result Answer Refusal → Reply
@@ -38,12 +38,13 @@ frame_reply (Ok answers.Drawn) = replies.Drawn
 frame_reply (Ok answers.Ended) = replies.Ended
 frame_reply (Err refusal) = replies.Refused refusal
 
--- the reply to what was played, and the tree after it
-abbrev pub reply_of : Played → Reply
+-- the reply of an outcome
+abbrev pub reply_of : Outcome → Reply
 reply_of (Ok changed) = changed.1
 reply_of (Err refusal) = replies.Refused refusal
 
-abbrev pub tree_after : Tree → Played → Tree
+-- the tree after an outcome
+abbrev pub tree_after : Tree → Outcome → Tree
 tree_after t (Ok changed) = changed.0
 tree_after t (Err refusal) = t
 
@@ -55,20 +56,20 @@ pub record RendersFrame (w : SessionState) (input : Input) (s : ScreenState) (re
   pub tree : w'.tree ≡ w.tree
   pub renders : Renders w.renderer input s result w'.renderer s'
 
--- another event: it is played on the tree, and renderer and screen stay
-pub record PlaysOnTree (w : SessionState) (s : ScreenState) (played : Played) (reply : Reply)
+-- another event: it is applied to the tree, and renderer and screen stay
+pub record AppliesToTree (w : SessionState) (s : ScreenState) (outcome : Outcome) (reply : Reply)
     (w' : SessionState) (s' : ScreenState) : Type 0 where
-  pub replied : reply ≡ reply_of played
-  pub tree : w'.tree ≡ tree_after w.tree played
+  pub replied : reply ≡ reply_of outcome
+  pub tree : w'.tree ≡ tree_after w.tree outcome
   pub renderer : w'.renderer ≡ w.renderer
   pub screen : s' ≡ s
 
 -- another event runs out of memory: only if it may, and if the tree doesn't refuse it. Nothing has
 -- changed.
-pub record RunsOutOfMemory (w : SessionState) (s : ScreenState) (memory : Bool) (played : Played)
+pub record RunsOutOfMemory (w : SessionState) (s : ScreenState) (memory : Bool) (outcome : Outcome)
     (w' : SessionState) (s' : ScreenState) : Type 0 where
   pub may : IsTrue memory
-  pub accepted : IsOk played
+  pub accepted : IsOk outcome
   pub session : w' ≡ w
   pub screen : s' ≡ s
 
@@ -77,18 +78,18 @@ abbrev pub is_memory : Reply → Bool
 is_memory (replies.Refused refusals.Memory) = true
 is_memory _ = false
 
-abbrev pub StepsOnTree : SessionState → ScreenState → Bool → Played → Reply → SessionState
+abbrev pub StepsOnTree : SessionState → ScreenState → Bool → Outcome → Reply → SessionState
     → ScreenState → Type 0
-StepsOnTree w s memory played reply w' s' =
-    MatchBool (is_memory reply) (RunsOutOfMemory w s memory played w' s')
-    (PlaysOnTree w s played reply w' s')
+StepsOnTree w s memory outcome reply w' s' =
+    MatchBool (is_memory reply) (RunsOutOfMemory w s memory outcome w' s')
+    (AppliesToTree w s outcome reply w' s')
 
 abbrev pub StepsBy : Effect → SessionState → ScreenState → Reply → SessionState → ScreenState
     → Type 0
-StepsBy (OnTree memory played) w s reply w' s' = StepsOnTree w s memory played reply w' s'
+StepsBy (OnTree memory outcome) w s reply w' s' = StepsOnTree w s memory outcome reply w' s'
 StepsBy (OnRenderer input) w s reply w' s' =
     RendersFrame w (input w.renderer.seen) s reply w' s'
 
 -- one event: its reply, and what it leaves of the session and the screen
 abbrev pub Steps : SessionState → ScreenState → Event → Reply → SessionState → ScreenState → Type 0
-Steps w s e reply w' s' = StepsBy (play w.tree e) w s reply w' s'
+Steps w s e reply w' s' = StepsBy (effect_of w.tree e) w s reply w' s'

@@ -7,7 +7,7 @@ use Rattle.prodash_base.specs.declared.unit.units.Unit.{Unit}
 use Rattle.prodash_base.specs.Rows as phases
 use Rattle.prodash_base.specs.Messages.{message_of}
 use Rattle.prodash_base.specs.Rings.{Ring, new_ring, push, messages_since, is_push_limit_reached}
-use Rattle.prodash_base.specs.declared.messages.Message.{Message as Said}
+use Rattle.prodash_base.specs.declared.messages.Message.{Message}
 use Rattle.prodash_base.specs.declared.messages.MessageLevel.{MessageLevel}
 use Rattle.prodash_base.specs.declared.refusal.Refusal.{Refusal}
 use Rattle.prodash_base.specs.declared.refusal.Refusal.TheVariants as refusals
@@ -18,7 +18,7 @@ use Rattle.prodash_core.specs.Tables.{Table, TaskEntry, new_entry, new_progress,
 use Rattle.prodash_core.specs.declared.tree.slot.Slot.{Slot}
 use Rattle.prodash_core.specs.declared.tree.event.Event.{Event}
 use Rattle.prodash_core.specs.declared.tree.event.Event.TheVariants as events
-use Rattle.prodash_core.specs.declared.tree.event.Event.TheVariants.{AddChild, Drop, Init, SetName, SetMax, Set, IncBy, Blocked, Halted, Running, Message, Name, Id, Step, Max, NumTasks, Snapshot, CopyMessages, CopyNew, DropRoot, Tick, Resize, Quit}
+use Rattle.prodash_core.specs.declared.tree.event.Event.TheVariants.{AddChild, Drop, Init, SetName, SetMax, Set, IncBy, Blocked, Halted, Running, Name, Id, Step, Max, NumTasks, Snapshot, CopyMessages, CopyNew, DropRoot, Tick, Resize, Quit}
 use Rattle.prodash_core.specs.declared.tree.event.Reply.{Reply}
 use Rattle.prodash_core.specs.declared.tree.event.Reply.TheVariants as replies
 
@@ -116,19 +116,19 @@ name_of None = []
 name_of (Some e) = e.name
 
 -- a message of a handle with this slot: its origin is the name of the entry at the slot's path
-abbrev pub message_by : Tree → Slot → ℕ → MessageLevel → List ℕ → Said
+abbrev pub message_by : Tree → Slot → ℕ → MessageLevel → List ℕ → Message
 message_by t slot at level text = message_of at level (name_of (entry_at t slot)) text
 
 -- the counter of the handle n is higher by this step, modulo 2^64
 abbrev pub inc_counter : Tree → ℕ → Slot → ℕ → Tree
 inc_counter t n slot step = set_counter t n slot ((slot.counter + step) % 2 ^ 64)
 
--- the tree after an event and the reply to it, or the refusal
-abbrev pub Played : Type 0
-Played = Result (Tree × Reply) Refusal
+-- the outcome of an event on a tree: the tree after it and the reply, or the refusal
+abbrev pub Outcome : Type 0
+Outcome = Result (Tree × Reply) Refusal
 
 -- the message is pushed, unless no more can be counted
-abbrev pub push_message : Tree → Said → Played
+abbrev pub push_message : Tree → Message → Outcome
 push_message t m =
     if is_push_limit_reached t.ring then Err refusals.TooManyMessages
     else Ok (record t { ring = push t.ring m }, replies.Done)
@@ -152,81 +152,87 @@ abbrev pub or_gone : Option Slot → Result Slot Refusal
 or_gone None = Err refusals.Gone
 or_gone (Some slot) = Ok slot
 
-abbrev pub for_slot : Option Slot → (Slot → Played) → Played
+abbrev pub for_slot : Option Slot → (Slot → Outcome) → Outcome
 for_slot None f = Err refusals.Gone
 for_slot (Some slot) f = f slot
 
 -- an event on a handle, and one on an item: refused if the handle isn't valid
-abbrev pub with_handle : Tree → ℕ → (Slot → Played) → Played
+abbrev pub with_handle : Tree → ℕ → (Slot → Outcome) → Outcome
 with_handle t n f = for_slot (slot_at t n) f
 
-abbrev pub with_item : Tree → ℕ → (Slot → Played) → Played
+abbrev pub with_item : Tree → ℕ → (Slot → Outcome) → Outcome
 with_item t n f = for_slot (item_at t n) f
 
 -- the progress of the item's entry, if it has one, has this phase
-abbrev pub set_phase : Tree → ℕ → Phase → Played
+abbrev pub set_phase : Tree → ℕ → Phase → Outcome
 set_phase t n phase =
     with_item t n (λ slot. Ok (change_entry t slot (with_phase phase), replies.Done))
 
 -- a reply that is read from an item's slot
-abbrev pub read_item : Tree → ℕ → (Slot → Reply) → Played
+abbrev pub read_item : Tree → ℕ → (Slot → Reply) → Outcome
 read_item t n f = with_item t n (λ slot. Ok (t, f slot))
 
 -- a reply that is read from the tree; it needs the root
-abbrev pub read_tree : Tree → Reply → Played
+abbrev pub read_tree : Tree → Reply → Outcome
 read_tree t reply = with_handle t 0 (λ root. Ok (t, reply))
 
--- What an event does: it is played on the tree, with a mark whether it may run out of memory; or it
--- is a frame, which gives the renderer an input that is made of the tree and of how many messages
+-- What an event does. On the tree it has an outcome, and a mark that says whether it may run out of
+-- memory. A frame gives the renderer an input, which is made of the tree and of how many messages
 -- the renderer has seen.
 pub data Effect : Type 0 where
-  OnTree : Bool → Played → Effect
+  OnTree : Bool → Outcome → Effect
   OnRenderer : (Option ℕ → Input) → Effect
 
--- an event that never runs out of memory, and one that may
-abbrev pub plays : Played → Effect
-plays played = OnTree false played
+-- the effect of an event that never runs out of memory
+abbrev pub needs_no_memory : Outcome → Effect
+needs_no_memory outcome = OnTree false outcome
 
-abbrev pub plays_with_memory : Played → Effect
-plays_with_memory played = OnTree true played
+-- the effect of one that may
+abbrev pub needs_memory : Outcome → Effect
+needs_memory outcome = OnTree true outcome
 
--- what each event does to a tree
-abbrev pub play : Tree → Event → Effect
-play t (AddChild parent name id) =
-    plays_with_memory (with_handle t parent (λ slot.
+-- the effect of each event on a tree
+abbrev pub effect_of : Tree → Event → Effect
+effect_of t (AddChild parent name id) =
+    needs_memory (with_handle t parent (λ slot.
     Ok (add_child t parent slot name id, replies.Made (length t.slots))))
-play t (Drop n) = plays (with_item t n (λ slot. Ok (drop_item t n slot, replies.Done)))
-play t (Init n max unit) =
-    plays (with_item t n (λ slot. Ok (init t n slot max unit, replies.Done)))
-play t (SetName n name) =
-    plays_with_memory (with_item t n (λ slot.
+effect_of t (Drop n) =
+    needs_no_memory (with_item t n (λ slot. Ok (drop_item t n slot, replies.Done)))
+effect_of t (Init n max unit) =
+    needs_no_memory (with_item t n (λ slot. Ok (init t n slot max unit, replies.Done)))
+effect_of t (SetName n name) =
+    needs_memory (with_item t n (λ slot.
     Ok (change_entry t slot (with_name name), replies.Done)))
-play t (SetMax n max) =
-    plays (with_item t n (λ slot.
+effect_of t (SetMax n max) =
+    needs_no_memory (with_item t n (λ slot.
     Ok (change_entry t slot (with_bound max), replies.Bound (bound_of (entry_at t slot)))))
-play t (Set n step) = plays (with_item t n (λ slot. Ok (set_counter t n slot step, replies.Done)))
-play t (IncBy n step) =
-    plays (with_item t n (λ slot. Ok (inc_counter t n slot step, replies.Done)))
-play t (Blocked n reason eta) = plays (set_phase t n (phases.Blocked reason.now eta))
-play t (Halted n reason eta) = plays (set_phase t n (phases.Halted reason.now eta))
-play t (Running n) = plays (set_phase t n phases.Running)
-play t (Message n at level text) =
-    plays_with_memory (with_item t n (λ slot. push_message t (message_by t slot at level text)))
-play t (Name n) =
-    plays_with_memory (read_item t n (λ slot. replies.Name (name_at (entry_at t slot))))
-play t (Id n) = plays (read_item t n (λ slot. replies.Id (id_of (entry_at t slot))))
-play t (Step n) = plays (read_item t n (λ slot. replies.Step slot.counter))
-play t (Max n) = plays (read_item t n (λ slot. replies.Bound (bound_of (entry_at t slot))))
-play t (events.Unit n) = plays (read_item t n (λ slot. replies.Unit (unit_of (entry_at t slot))))
-play t NumTasks = plays (read_tree t (replies.Count (finite.len t.table)))
-play t Snapshot = plays_with_memory (read_tree t (replies.Rows (tree_rows t)))
-play t CopyMessages = plays_with_memory (read_tree t (replies.Messages t.ring.messages))
-play t (CopyNew previous) =
-    plays_with_memory (read_tree t (replies.New (messages_since t.ring previous) t.ring.pushed))
-play t DropRoot = plays (with_handle t 0 (λ root. Ok (drop_root t root, replies.Done)))
-play t (Tick at show) = OnRenderer (λ seen. inputs.Tick at show (snapshot_of t seen))
-play t (Resize at show columns rows) = OnRenderer (λ seen. inputs.Resize at show columns rows)
-play t (Quit at) = OnRenderer (λ seen. inputs.Quit at)
+effect_of t (Set n step) =
+    needs_no_memory (with_item t n (λ slot. Ok (set_counter t n slot step, replies.Done)))
+effect_of t (IncBy n step) =
+    needs_no_memory (with_item t n (λ slot. Ok (inc_counter t n slot step, replies.Done)))
+effect_of t (Blocked n reason eta) = needs_no_memory (set_phase t n (phases.Blocked reason.now eta))
+effect_of t (Halted n reason eta) = needs_no_memory (set_phase t n (phases.Halted reason.now eta))
+effect_of t (Running n) = needs_no_memory (set_phase t n phases.Running)
+effect_of t (events.Message n at level text) =
+    needs_memory (with_item t n (λ slot. push_message t (message_by t slot at level text)))
+effect_of t (Name n) =
+    needs_memory (read_item t n (λ slot. replies.Name (name_at (entry_at t slot))))
+effect_of t (Id n) = needs_no_memory (read_item t n (λ slot. replies.Id (id_of (entry_at t slot))))
+effect_of t (Step n) = needs_no_memory (read_item t n (λ slot. replies.Step slot.counter))
+effect_of t (Max n) =
+    needs_no_memory (read_item t n (λ slot. replies.Bound (bound_of (entry_at t slot))))
+effect_of t (events.Unit n) =
+    needs_no_memory (read_item t n (λ slot. replies.Unit (unit_of (entry_at t slot))))
+effect_of t NumTasks = needs_no_memory (read_tree t (replies.Count (finite.len t.table)))
+effect_of t Snapshot = needs_memory (read_tree t (replies.Rows (tree_rows t)))
+effect_of t CopyMessages = needs_memory (read_tree t (replies.Messages t.ring.messages))
+effect_of t (CopyNew previous) =
+    needs_memory (read_tree t (replies.New (messages_since t.ring previous) t.ring.pushed))
+effect_of t DropRoot =
+    needs_no_memory (with_handle t 0 (λ root. Ok (drop_root t root, replies.Done)))
+effect_of t (Tick at show) = OnRenderer (λ seen. inputs.Tick at show (snapshot_of t seen))
+effect_of t (Resize at show columns rows) = OnRenderer (λ seen. inputs.Resize at show columns rows)
+effect_of t (Quit at) = OnRenderer (λ seen. inputs.Quit at)
 
 -- is it a frame?
 abbrev pub is_frame : Event → Bool
@@ -235,21 +241,22 @@ is_frame (Resize at show columns rows) = true
 is_frame (Quit at) = true
 is_frame _ = false
 
--- What is returned of what was played, and the tree that is left: that result, whose refusal leaves
--- the tree as it was; or `Memory`, if the event may run out of it and the tree accepts the event,
--- and the tree is left as it was.
-abbrev pub Returns : Tree → Bool → Played → Result Reply Refusal → Tree → Type 0
-Returns t memory played (Ok reply) t' = played ≡ Ok (t', reply)
-Returns t memory played (Err refusals.Memory) t' = IsTrue memory × IsOk played × (t' ≡ t)
-Returns t memory played (Err refusal) t' = (played ≡ Err refusal) × (t' ≡ t)
+-- A call returns this outcome and leaves this tree; a refusal leaves the tree as it was. Or it
+-- returns `Memory`, if the event may run out of it and the tree accepts the event, and leaves the
+-- tree as it was.
+abbrev pub Returns : Tree → Bool → Outcome → Result Reply Refusal → Tree → Type 0
+Returns t memory outcome (Ok reply) t' = outcome ≡ Ok (t', reply)
+Returns t memory outcome (Err refusals.Memory) t' = IsTrue memory × IsOk outcome × (t' ≡ t)
+Returns t memory outcome (Err refusal) t' = (outcome ≡ Err refusal) × (t' ≡ t)
 
-abbrev pub PlaysBy : Effect → Tree → Result Reply Refusal → Tree → Type 0
-PlaysBy (OnTree memory played) t result t' = Returns t memory played result t'
-PlaysBy (OnRenderer input) t result t' = ⊥
+-- the same of the effect of an event; a frame is applied to no tree
+abbrev pub AppliesEffect : Effect → Tree → Result Reply Refusal → Tree → Type 0
+AppliesEffect (OnTree memory outcome) t result t' = Returns t memory outcome result t'
+AppliesEffect (OnRenderer input) t result t' = ⊥
 
--- what an event that is no frame returns, and the tree that it leaves
-abbrev pub Plays : Tree → Event → Result Reply Refusal → Tree → Type 0
-Plays t e result t' = PlaysBy (play t e) t result t'
+-- applied to a tree, an event that is no frame returns this result and leaves this tree
+abbrev pub Applies : Tree → Event → Result Reply Refusal → Tree → Type 0
+Applies t e result t' = AppliesEffect (effect_of t e) t result t'
 
 -- what an event returns whose reply is `Done`, if it isn't refused
 abbrev pub done_if_ok : {A : Type 0} → Result A Refusal → Result Reply Refusal

@@ -2,7 +2,7 @@ ghost use Rattle.std.specs.Prelude.{◌≡◌, IfOk, false, IsOkUnless};
 ghost use Rattle.prodash_base.specs.Rings.{messages_since};
 ghost use Rattle.prodash_base.specs.Rows.{phase_of};
 ghost use Rattle.prodash_core.specs.Tables.{ListsEachOnce};
-ghost use Rattle.prodash_core.specs.Trees.{Tree, new_tree, slot_at, item_at, or_gone, tree_rows, snapshot_of, set_phase, is_frame, Returns, Plays, done_if_ok};
+ghost use Rattle.prodash_core.specs.Trees.{Tree, new_tree, slot_at, item_at, or_gone, tree_rows, snapshot_of, set_phase, is_frame, Returns, Applies, done_if_ok};
 ghost use Rattle.prodash_core.specs.Refusals.{refusal_of, IsRefusalOfMessage};
 
 use crate::tree::event::{Event, Handle, Reply};
@@ -88,7 +88,7 @@ impl TreeState {
     /// refused leaves the tree as it was.
     pub fn apply(&mut self, alloc: Global, event: &Event) -> Result<Reply, Refusal>
         requires { is_frame event.now ≡ false }
-        ensures { Plays self.old event.now result self.new }
+        ensures { Applies self.old event.now result self.new }
     {
         match event {
             Event::AddChild { parent, name, id } => {
@@ -135,7 +135,7 @@ impl TreeState {
 
     /// Applies a `Set`, whose reply is `Done`, as `apply` does.
     pub(crate) fn set(&mut self, item: Handle, step: Step) -> Result<(), Refusal>
-        ensures { Plays self.old (Event.Set item step) (done_if_ok result) self.new }
+        ensures { Applies self.old (Event.Set item step) (done_if_ok result) self.new }
     {
         if item == 0 || !self.slots.set_counter(item, step) {
             return Err(Refusal::Gone);
@@ -145,7 +145,7 @@ impl TreeState {
 
     /// Applies an `IncBy`, whose reply is `Done`, as `apply` does.
     pub(crate) fn inc_by(&mut self, item: Handle, step: Step) -> Result<(), Refusal>
-        ensures { Plays self.old (Event.IncBy item step) (done_if_ok result) self.new }
+        ensures { Applies self.old (Event.IncBy item step) (done_if_ok result) self.new }
     {
         if item == 0 || !self.slots.add_steps(item, step) {
             return Err(Refusal::Gone);
@@ -297,7 +297,7 @@ impl TreeState {
         name: &str,
         id: Id,
     ) -> Result<Reply, Refusal>
-        ensures { Plays self.old (Event.AddChild parent name.now id) result self.new }
+        ensures { Applies self.old (Event.AddChild parent name.now id) result self.new }
     {
         let slot = self.slot(parent)?;
         let key = slot.key.add_child(slot.next_child);
@@ -312,7 +312,7 @@ impl TreeState {
     }
 
     fn drop_item(&mut self, item: Handle) -> Result<Reply, Refusal>
-        ensures { Plays self.old (Event.Drop item) result self.new }
+        ensures { Applies self.old (Event.Drop item) result self.new }
     {
         let slot = self.item(item)?;
         self.table.remove(slot.key);
@@ -326,7 +326,7 @@ impl TreeState {
         max: Option<Step>,
         unit: Option<Unit>,
     ) -> Result<Reply, Refusal>
-        ensures { Plays self.old (Event.Init item max unit) result self.new }
+        ensures { Applies self.old (Event.Init item max unit) result self.new }
     {
         let slot = self.item(item)?;
         if self.table.init(slot.key, Counted::begin(item, max, unit)) {
@@ -336,7 +336,7 @@ impl TreeState {
     }
 
     fn set_name(&mut self, alloc: Global, item: Handle, name: &str) -> Result<Reply, Refusal>
-        ensures { Plays self.old (Event.SetName item name.now) result self.new }
+        ensures { Applies self.old (Event.SetName item name.now) result self.new }
     {
         let slot = self.item(item)?;
         self.table.set_name(alloc, slot.key, name)?;
@@ -344,7 +344,7 @@ impl TreeState {
     }
 
     fn set_max(&mut self, item: Handle, max: Option<Step>) -> Result<Reply, Refusal>
-        ensures { Plays self.old (Event.SetMax item max) result self.new }
+        ensures { Applies self.old (Event.SetMax item max) result self.new }
     {
         let slot = self.item(item)?;
         Ok(Reply::Bound(self.table.set_max(slot.key, max)))
@@ -367,7 +367,7 @@ impl TreeState {
         level: MessageLevel,
         text: &str,
     ) -> Result<Reply, Refusal>
-        ensures { Plays self.old (Event.Message item at level text.now) result self.new }
+        ensures { Applies self.old (Event.Message item at level text.now) result self.new }
     {
         let slot = self.item(item)?;
         let origin = self.table.name(slot.key).unwrap_or("");
@@ -376,7 +376,7 @@ impl TreeState {
     }
 
     fn name(&self, alloc: Global, item: Handle) -> Result<Reply, Refusal>
-        ensures { Plays self.now (Event.Name item) result self.now }
+        ensures { Applies self.now (Event.Name item) result self.now }
     {
         let slot = self.item(item)?;
         Ok(Reply::Name(match self.table.name(slot.key) {
@@ -386,49 +386,49 @@ impl TreeState {
     }
 
     fn id(&self, item: Handle) -> Result<Reply, Refusal>
-        ensures { Plays self.now (Event.Id item) result self.now }
+        ensures { Applies self.now (Event.Id item) result self.now }
     {
         let slot = self.item(item)?;
         Ok(Reply::Id(self.table.id(slot.key)))
     }
 
     fn step(&self, item: Handle) -> Result<Reply, Refusal>
-        ensures { Plays self.now (Event.Step item) result self.now }
+        ensures { Applies self.now (Event.Step item) result self.now }
     {
         let slot = self.item(item)?;
         Ok(Reply::Step(slot.counter))
     }
 
     fn max(&self, item: Handle) -> Result<Reply, Refusal>
-        ensures { Plays self.now (Event.Max item) result self.now }
+        ensures { Applies self.now (Event.Max item) result self.now }
     {
         let slot = self.item(item)?;
         Ok(Reply::Bound(self.table.max(slot.key)))
     }
 
     fn unit(&self, item: Handle) -> Result<Reply, Refusal>
-        ensures { Plays self.now (Event.Unit item) result self.now }
+        ensures { Applies self.now (Event.Unit item) result self.now }
     {
         let slot = self.item(item)?;
         Ok(Reply::Unit(self.table.unit(slot.key)))
     }
 
     fn num_tasks(&self) -> Result<Reply, Refusal>
-        ensures { Plays self.now Event.NumTasks result self.now }
+        ensures { Applies self.now Event.NumTasks result self.now }
     {
         self.root()?;
         Ok(Reply::Count(self.table.len()))
     }
 
     fn snapshot(&self, alloc: Global) -> Result<Reply, Refusal>
-        ensures { Plays self.now Event.Snapshot result self.now }
+        ensures { Applies self.now Event.Snapshot result self.now }
     {
         self.root()?;
         Ok(Reply::Rows(self.rows(alloc)?))
     }
 
     fn copy_messages(&self, alloc: Global) -> Result<Reply, Refusal>
-        ensures { Plays self.now Event.CopyMessages result self.now }
+        ensures { Applies self.now Event.CopyMessages result self.now }
     {
         self.root()?;
         let mut messages = Vec::new(alloc);
@@ -437,7 +437,7 @@ impl TreeState {
     }
 
     fn copy_new(&self, alloc: Global, previous: Option<MessageCopyState>) -> Result<Reply, Refusal>
-        ensures { Plays self.now (Event.CopyNew previous) result self.now }
+        ensures { Applies self.now (Event.CopyNew previous) result self.now }
     {
         self.root()?;
         let spare = Messages::new(Vec::new(alloc));
@@ -446,7 +446,7 @@ impl TreeState {
     }
 
     fn drop_root(&mut self) -> Result<Reply, Refusal>
-        ensures { Plays self.old Event.DropRoot result self.new }
+        ensures { Applies self.old Event.DropRoot result self.new }
     {
         let slot = self.root()?;
         self.slots.put(0, slot.invalidated());

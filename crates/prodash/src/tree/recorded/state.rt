@@ -1,6 +1,6 @@
 //! A tree beside its journal.
 ghost use Rattle.std.specs.Prelude.{◌≡◌, ◌≢◌, ◌++◌, ◌∷◌, [], Ok, Err, None, false, IfOk, IfErr, OnErr, IfSome, IfNone, length, IsOkUnless};
-ghost use Rattle.prodash_core.specs.Trees.{new_tree, is_frame, Plays};
+ghost use Rattle.prodash_core.specs.Trees.{new_tree, is_frame, Applies};
 ghost use Rattle.prodash_core.specs.Refusals.{refusal_of};
 ghost use Rattle.prodash_core.specs.Replies.{owns_memory};
 ghost use Rattle.prodash.specs.Journals.{Replays};
@@ -76,7 +76,7 @@ impl RecordedState {
     /// is refused leaves the tree and the journal as they were.
     pub fn apply(&mut self, alloc: Global, event: &Event) -> Result<Reply, Refusal>
         requires { is_frame event.now ≡ false }
-        ensures reply { IfOk result (λ r. Plays self.old.tree event.now (Ok r) self.new.tree) }
+        ensures reply { IfOk result (λ r. Applies self.old.tree event.now (Ok r) self.new.tree) }
         ensures entry { IfOk result (λ r.
             self.new.entries ≡ self.old.entries ++ (event.now, r) ∷ []) }
         ensures capacity { self.new.capacity ≡ self.old.capacity }
@@ -94,7 +94,7 @@ impl RecordedState {
     #[tactic(auto, using(crate::proofs::JournalLaws::applying))]
     pub(crate) fn record(&mut self, alloc: Global, event: &Event) -> Result<(Reply, Reply), Refusal>
         requires { is_frame event.now ≡ false }
-        ensures reply { IfOk result (λ r. Plays self.old.tree event.now (Ok r.0) self.new.tree) }
+        ensures reply { IfOk result (λ r. Applies self.old.tree event.now (Ok r.0) self.new.tree) }
         ensures copy { IfOk result (λ r. r.1 ≡ r.0) }
         ensures entry { IfOk result (λ r.
             self.new.entries ≡ self.old.entries ++ (event.now, r.0) ∷ []) }
@@ -148,7 +148,7 @@ fn applied(
 ) -> Result<(Reply, Reply, Reply), Refusal>
     requires frame { is_frame event.now ≡ false }
     requires refused { refusal_of tree.old event.now ≡ None }
-    ensures reply { IfOk result (λ r. Plays tree.old event.now (Ok r.0) tree.new) }
+    ensures reply { IfOk result (λ r. Applies tree.old event.now (Ok r.0) tree.new) }
     ensures copies { IfOk result (λ r. (r.1 ≡ r.0) × (r.2 ≡ r.0)) }
     ensures err { OnErr result (tree.new ≡ tree.old) }
     ensures reason { IsOkUnless result Refusal.Memory }

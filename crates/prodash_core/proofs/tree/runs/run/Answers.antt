@@ -1,7 +1,7 @@
 use Rattle.std.proofs.Common.{arith, [], refl}
 use Rattle.std.proofs.lemmas.Grind.{common_steps}
 use Rattle.prodash_core.proofs.RunLaws.{completes_more, completes_all, pushed_is, run_renders, steps_at, run_with_memory, after_with_memory}
-use Rattle.prodash_core.proofs.AllSaid.{rings_of_prefixes}
+use Rattle.prodash_core.proofs.AcceptedMessages.{rings_of_prefixes}
 use Rattle.prodash_line.proofs.Renderings.{writes_attempts, breaks_exactly, flushes_each, stays_flushed}
 use Rattle.prodash_line.proofs.ErasedRenderings.{erases_each}
 use Rattle.prodash_line.proofs.WithoutControls.{draws_no_controls_each}
