@@ -4,14 +4,14 @@ prodash-examples: primes, workers and colors
 examples_threads.t has the example `threads`, and the frames of `colors colored` are stored with the
 crate.
 
-The number of primes is that of another program.
+Another program has found the same number of primes.
 
   $ prodash-examples primes 2>messages
   283146 primes below 4000000
   $ grep -c 'done 500.00k numbers in' messages
   8
 
-Off a terminal there are the messages of the workers and their parts, and none beside them.
+Off a terminal there are the messages of the workers and their parts, and no others.
 
   $ counted() { sed 's/^ *//' | sort | uniq -c | sed 's/^ *//'; }
   $ prodash-examples workers 1 2>messages
@@ -30,12 +30,12 @@ With `messages` it is the same on a terminal.
   $ on_terminal 'exec prodash-examples workers 1 messages' | tr -d '\r' | counted >shown
   $ counted <messages | cmp - shown
 
-The frames without colours have the characters of those with them.
+The frames without colours have the same characters as those with colours.
 
   $ prodash-examples colors colored | sed 's/\x1b\[[0-9;]*m//g' >uncolored
   $ prodash-examples colors plain | cmp - uncolored
 
-Arguments that an example doesn't take, and those that name none.
+Arguments that an example doesn't take, and arguments that name no example.
 
   $ prodash-examples workers
   usage: prodash-examples workers SECONDS [messages]

@@ -8,7 +8,7 @@ The receipts of all calls agree with the journal, which has a line for each call
   $ wc -l <journal | tr -d ' '
   160
 
-The order of the lines differs from run to run, and so do handles. How many there are of each kind
+The order of the lines and the handles differ from run to run. The number of lines of each kind
 doesn't.
 
   $ sed 's/ .*//' journal | sort | uniq -c | sed 's/^ *//'
@@ -18,7 +18,7 @@ doesn't.
   120 inc
   8 init
 
-The tree that the lines make again has all jobs at their last step, and a message of each part.
+The tree that the lines rebuild has all jobs at their last step, and a message of each part.
 
   $ { cat journal; echo 'tick 1'; } | prodash-replay page 40 20 >page
   $ grep -c '^ part is done$' page
@@ -38,7 +38,7 @@ Without the journal.
   $ prodash-examples audit check
   160 receipts agree
 
-Arguments that are not this word.
+Arguments other than this word.
 
   $ prodash-examples audit all
   usage: prodash-examples audit [check]

@@ -12,7 +12,7 @@ Off a terminal each message is a line.
   job is done
   verify is done
 
-On a terminal there are rows, of the size and with the colours that the environment asks for.
+On a terminal there are rows, with the size and the colours that the environment asks for.
 
   $ on_terminal() {
   >     python3 -c 'import pty, sys; pty.spawn(["sh", "-c", sys.argv[1]])' "$1" </dev/null
@@ -24,7 +24,7 @@ On a terminal there are rows, of the size and with the colours that the environm
   $ head -n 1 frames | cut -c 1-9
    \x1b[1;36mj (esc)
 
-Standard error is asked, and not standard output.
+What counts is whether standard error is a terminal, not standard output.
 
   $ on_terminal 'exec prodash-examples threads 2>messages' >frames
   $ wc -c <frames | tr -d ' '

@@ -1,8 +1,7 @@
-bin/: help
-==========
+scripts: help
+=============
 
-Each script of bin/, of dev/ and of examples/ that is run prints help if it is asked for it, and does
-nothing else.
+Each script of bin/ and of dev/, and examples/run, prints its help on request and does nothing else.
 
   $ top=$(dirname "$(dirname "$(readlink -f "$(command -v install-prodash)")")")
   $ for it in "$top"/bin/* "$top"/dev/* "$top"/examples/run; do

@@ -1,8 +1,8 @@
 bin/install: installed programs
 ===============================
 
-bin/install is `install-prodash` here. What it installs runs from a folder that was moved, with
-nothing but Python in the path.
+Here bin/install is `install-prodash`. What it installs runs from a folder that was moved, with only
+Python on the path.
 
   $ install-prodash $HOW prefix
   $ find prefix -type f | sort
@@ -22,7 +22,7 @@ nothing but Python in the path.
   prodash-live 31.0.1
   built from commit ..
 
-A program that is in use is replaced.
+A program is replaced while it is running.
 
   $ mkfifo lines
   $ alone moved/bin/prodash-live --stdout <lines >output &
@@ -35,7 +35,7 @@ A program that is in use is replaced.
   $ cat output
    alpha one
 
-A folder that can't be made.
+A folder that can't be created.
 
   $ touch file
   $ install-prodash $HOW file/it

@@ -1,8 +1,8 @@
 prodash-live: bursts of messages
 ================================
 
-No message is lost, however many come between two frames, and they stay in order. The reader of the
-frames is late here, and so are they: it waits until all lines are taken, or for ten seconds.
+No message is lost, however many come between two frames, and they stay in order. Here the reader of
+the frames starts late: it waits until all lines are taken, or for ten seconds.
 
   $ burst() {
   >   echo 'add @a 0 a'
@@ -17,7 +17,7 @@ frames is late here, and so are they: it waits until all lines are taken, or for
   $ burst | timeout 30 prodash-live --stdout --fps 1 | late | cmp expected -
   $ rm taken
 
-On a terminal too. Rows are as late as they are asked to be.
+The same on a terminal, where rows wait for the delay.
 
   $ as_on_a_terminal() {
   >   timeout 30 prodash-live --stdout --fps 1 --no-color --terminal always --delay 86400000
@@ -29,14 +29,14 @@ On a terminal too. Rows are as late as they are asked to be.
   0
   [1]
 
-Faulty lines are messages too. They are so long that few of them fit in the pipe.
+Faulty lines are messages too. These are so long that few of them fit in the pipe.
 
   $ nothings() { yes "$(printf 'nothing %0200d' 0)" | head -n 20000 && touch taken; }
   $ nothings | timeout 38 prodash-live --stdout --fps 1 | late >output
   $ shown=$(printf 'nothing %052d' 0)
   $ seq 20000 | sed "s/.*/ ✗ input line &: no event \"nothing\" in: $shown/" | cmp output -
 
-No frame is awaited where none comes: of an output that is broken, or of a tree without its root.
+Nothing waits for a frame that won't come, because the output is broken or the root was dropped.
 
   $ burst | timeout 30 prodash-live --stdout --fps 1 >/dev/full
   output is broken

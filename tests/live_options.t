@@ -1,7 +1,7 @@
 prodash-live: options
 =====================
 
-An option's value is the next word, or follows `=`, and the last one counts.
+An option's value is the next word, or follows `=`. If an option is repeated, the last value counts.
 
   $ unset COLUMNS LINES NO_COLOR
   $ until_shown() {

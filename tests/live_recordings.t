@@ -1,8 +1,8 @@
 prodash-live: recordings
 ========================
 
-A recording has what a run did as event lines, which `prodash-replay` reads. `events` shows one
-without its ticks and the moments of the run.
+A recording has what a run did as event lines, which `prodash-replay` reads. `events` shows a
+recording without its ticks and the moments of the run.
 
   $ unset COLUMNS LINES NO_COLOR
   $ events() { grep -v -e '^tick' "$1" | sed -E 's/[0-9]{19}/NOW/'; }
@@ -76,7 +76,7 @@ A replay has the messages of the run, and its closing frame erases the rows.
   $ prodash-replay page 80 20 --any-unit --defensive <recording | sed '/^$/d' | cmp said -
   $ prodash-replay page 80 20 --any-unit <recording | sed '/^$/d' | cmp said -
 
-With colours there are no signs, and the replay has none.
+With colours there are no signs, neither in the run nor in the replay.
 
   $ prodash-live --record recording --terminal always <script 2>frames
   [2]
@@ -93,8 +93,8 @@ Rows
 ====
 
 The rows of the last tick are those that the run drew last. `until_shown` keeps the input of a
-command open until the file `frames` has a text, and `last_rows` shows the rows that were drawn last
-before a closing frame.
+command open until a text is in the file `frames`, and `last_rows` shows the rows drawn last before
+a closing frame.
 
   $ until_shown() {
   >   text=$1; shift
@@ -119,7 +119,7 @@ before a closing frame.
     gamma
    last
 
-Without its last line a recording leaves them on the page.
+Without its last line, a recording leaves these rows on the page.
 
   $ sed '$d' recording | prodash-replay page 40 4 --any-unit
    alpha [30%] 3/10 files [===>----------]
@@ -127,7 +127,7 @@ Without its last line a recording leaves them on the page.
    last
   
 
-A root that is dropped ends the frames, as it does in the run.
+Dropping the root ends the frames, as in the run.
 
   $ printf 'add 0 a\ndroproot\ninfo 1 0 b\n' | prodash-live --record recording
   $ events recording
@@ -141,9 +141,8 @@ A root that is dropped ends the frames, as it does in the run.
 Ticks
 =====
 
-There is a tick where a frame was due since the line before, at the moment at which it was, and one
-at the end. With ten frames a second they are some tenths of a second after each other, but for the
-last.
+If a frame was due since the previous line, there is a tick with the moment at which it was due, and
+one at the end. At ten frames a second, all but the last are whole tenths of a second apart.
 
   $ {
   >   for it in 1 2 3 4; do echo "add 0 $it"; sleep 0.25; done
@@ -161,7 +160,7 @@ last.
   $ sed -n -E 's/^tick [0-9]*([0-9]{8})$/\1/p' recording | sed '$d' | sort -u | wc -l
   1
 
-A replay keeps 20 messages until the next tick, so there is one after as many.
+A replay keeps 20 messages until the next tick, so there is a tick after every 20.
 
   $ { echo 'add 0 a'; seq 50 | sed 's/^/info 1 0 /'; } >many
   $ prodash-live --record recording --fps 1 <many 2>said
@@ -170,7 +169,7 @@ A replay keeps 20 messages until the next tick, so there is one after as many.
 Files
 =====
 
-A recording has all lines that were taken, also if the run is killed.
+A recording has all lines that were taken, even if the run is killed.
 
   $ mkfifo lines
   $ prodash-live --record recording <lines &
@@ -192,7 +191,7 @@ The relay doesn't change that.
   info 1 0 one
   quit NOW
 
-A file that can't be made, and one that can't be written. No message is lost.
+A file that can't be created, and one that can't be written. No message is lost.
 
   $ prodash-live --record no/recording <script
   recording is broken

@@ -1,8 +1,8 @@
 prodash-live: signals
 =====================
 
-bin/prodash-live runs the program behind lib/relay.py, which is `relay` here. SIGTERM ends
-the input: the lines that were there are taken, and one that isn't whole is left out.
+bin/prodash-live runs the program behind lib/relay.py, which is `relay` here. SIGTERM ends the input:
+the lines that have arrived are taken, and an incomplete one is left out.
 
   $ mkfifo lines
   $ relay prodash-live --stdout <lines >output &
@@ -19,7 +19,7 @@ the input: the lines that were there are taken, and one that isn't whole is left
    alpha one
    alpha two
 
-SIGINT is left to the script, whose end is the end of the input.
+SIGINT is left to the script, and the input ends when the script does.
 
   $ env --default-signal=INT relay prodash-live --stdout <lines >output &
   $ exec 3>lines
@@ -33,8 +33,8 @@ SIGINT is left to the script, whose end is the end of the input.
    alpha three
    alpha four
 
-The status is the program's, which says what is wrong with a line that is cut off. The relay doesn't
-wait for a script whose program has ended.
+The status is the program's, which reports a line that is cut off. Once the program has ended, the
+relay doesn't wait for the script.
 
   $ printf 'add @a 0 alpha\ninfo @a 0 one' | relay prodash-live --stdout
    \xe2\x9c\x97 input line 2: cut off in: info @a 0 one (esc)
@@ -48,7 +48,7 @@ wait for a script whose program has ended.
   $ relay sh -c 'kill -9 $$' </dev/null
   [137]
 
-No signal of the terminal reaches the program itself.
+No signal from the terminal reaches the program itself.
 
   $ relay sh -c 'kill -INT $$; kill -TERM $$; kill -HUP $$; echo alive' </dev/null
   alive

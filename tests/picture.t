@@ -1,9 +1,9 @@
 bin/picture: an animated picture
 ================================
 
-bin/picture draws the frames of event lines. A row is in the picture once for each text that it
-has, and is shown while it has it. Times are parts of a round, which goes on for three seconds after
-the last frame, and then begins again.
+bin/picture draws the frames of event lines. A row is in the picture once for each text that it has,
+and is shown for as long as it has that text. Times are parts of a round, which ends three seconds
+after the last frame, and then begins again.
 
   $ top=$(dirname "$(dirname "$(readlink -f "$(command -v picture)")")")
   $ picture --columns 40 --rows 5 "$top/tests/scripts/throughput.events" >moving
@@ -31,7 +31,7 @@ the last frame, and then begins again.
   r1-5 copy50/100items |33/s| [===============&gt;----------------]
   r2-3 bytes500.0kB/1.0MB[=======&gt;-------]
 
-A file whose lines draw no frame, one that isn't of event lines, and one that isn't there.
+A file whose lines draw no frame, one that has other lines, and one that doesn't exist.
 
   $ printf 'add 0 a\n' >none
   $ picture none
