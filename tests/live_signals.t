@@ -1,8 +1,8 @@
 prodash-live: signals
 =====================
 
-bin/prodash-live runs the program behind lib/relay.py, which is `relay` here. SIGTERM ends the input:
-the lines that have arrived are taken, and an incomplete one is left out.
+bin/prodash-live runs the program behind lib/relay.py, which is `relay` here. SIGTERM ends the
+input: the lines that have arrived are taken, and an incomplete one is left out.
 
   $ mkfifo lines
   $ relay prodash-live --stdout <lines >output &
