@@ -4,7 +4,7 @@ import signal
 import subprocess
 import sys
 
-TOP = os.path.dirname(os.path.dirname(os.path.realpath(__file__)))
+from crates import TOP, with_below
 
 
 def proved(name):
@@ -17,29 +17,13 @@ def unproved(name):
     return f"{TOP}/crates/{name}/out/unproved/{name}"
 
 
-def made_of(name):
-    """Returns the names of a program's crate and of all crates of this repository that it uses."""
-    uses, left, found = {}, [name], set()
-    with open(f"{TOP}/crates.txt", encoding="utf-8") as it:
-        for line in it:
-            crate, colon, used = line.partition("#")[0].partition(":")
-            if colon:
-                uses[crate.split()[0]] = used.split()
-    while left:
-        crate = left.pop()
-        if crate in uses and crate not in found:
-            found.add(crate)
-            left += uses[crate]
-    return found
-
-
 def newest(name, parts):
     """Returns when the newest of these parts of a program's crates was changed.
 
     A crate that uses one more crate has a changed source, so crates.txt is not asked.
     """
     paths = []
-    for crate in made_of(name):
+    for crate in with_below([name]):
         for part in parts:
             for folder, _, files in os.walk(f"{TOP}/crates/{crate}/{part}"):
                 paths += [folder, *(f"{folder}/{it}" for it in files)]
@@ -58,14 +42,6 @@ def is_built(name):
 
 def is_current(program, name, parts):
     return os.access(program, os.X_OK) and os.path.getmtime(program) >= newest(name, parts)
-
-
-def date_back(program, began):
-    """Gives a program the time at which its build began.
-
-    A change of a source during the build then counts as newer.
-    """
-    os.utime(program, (began, began))
 
 
 def say(text, stderr_is_output):
@@ -104,8 +80,7 @@ def ready(name, stderr_is_output=False):
     if not is_built(name):
         how = "building without proofs, in about a minute; bin/build proves and builds it"
         say(f"{name.replace('_', '-')}: {how}", stderr_is_output)
-        is_quiet = stderr_is_output and not os.isatty(2)
-        if not builds("--unproved", *["--quiet"] * is_quiet, name):
+        if not builds("--unproved", "--quiet", name):
             return None
     return unproved(name)
 

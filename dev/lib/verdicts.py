@@ -1,9 +1,8 @@
-"""Reads what a check says of a crate's functions."""
+"""Reads what `rt check` says of a crate's functions."""
 import re
 
 GOALS = re.compile(r"`search` did not prove ((?:`[^`]+`(?:, | and )?)+)")
-ERROR = re.compile(r"(?m)^(?:\./)?(proofs/\S+?\.antt):\d+:\d+: error: (?:`([^`]+)`: )?(.*)")
-UNKNOWN = re.compile(r"error: `[^`]*` has no function `([^`]+)`")
+ERROR = re.compile(r"(?m)^(?:\./)?proofs/(\S+?\.antt):\d+:\d+: error: (?:`([^`]+)`: )?(.*)")
 # Errors that follow from another one.
 FOLLOWS = re.compile(r"declarations? that depends? on|was not admitted")
 # Errors of a proof file that names what is no longer there.
@@ -13,67 +12,53 @@ LOST = re.compile(r"has no field|is not in scope|has no `|is no name")
 class Verdict:
     """What one check of a crate said."""
 
-    def __init__(self, status, text):
-        self.status, self.text = status, text
-        self.lines = self.text.rstrip("\n").split("\n")
-        self.functions = dict(re.findall(r"(?m)^fn (\S+): (.*)$", self.text))
-
-    def is_proved(self):
-        return self.status == 0
-
-    def is_refused(self):
-        """Returns whether the check came to its end, and didn't prove all that it was asked for."""
-        return self.status == 1 and self.lines[-1].startswith(("logic=not-proved", "only="))
+    def __init__(self, crate, status, text):
+        self.crate, self.status, self.lines = crate, status, text.rstrip("\n").split("\n")
+        # By the path of a function in the crate: whether it is proved, and if not, why.
+        self.functions = dict(re.findall(rf"(?m)^fn {crate}::(\S+): (.*)$", text))
+        # File, goal and text of each error in a proof file.
+        self.errors = [it for it in ERROR.findall(text) if not FOLLOWS.search(it[2])]
 
     def judges(self):
         """Returns whether the check came to the functions at all."""
-        return bool(self.functions) and any(it.startswith(("logic=", "only=")) for it in self.lines)
+        ended = any(it.startswith(("logic=", "only=")) for it in self.lines)
+        return ended and bool(self.functions)
 
-    def unknown(self):
-        """Returns the name that was asked for, below the crate, if no function has it, or None."""
-        found = UNKNOWN.search(self.text)
-        return found and found[1]
+    def parts_of(self, function):
+        """Returns the paths of a function and of its closures, which are below `fn::`."""
+        inside = f"{function}::"
+        return [it for it in self.functions if f"{it.replace('fn::', '', 1)}::".startswith(inside)]
 
-    def compiles(self):
-        """Returns whether a check that was asked for no proof found nothing wrong."""
-        return any(it.startswith("only=") for it in self.lines)
+    def is_proved(self, function):
+        """Returns whether the function and its closures are proved."""
+        parts = self.parts_of(function)
+        return function in parts and all(self.functions[it] == "proved" for it in parts)
 
-    def errors(self):
-        """Returns file, goal and text of each error in a proof file that isn't a consequence."""
-        return [it for it in ERROR.findall(self.text) if not FOLLOWS.search(it[2])]
+    def goal_of(self, function):
+        """Returns a goal of the function, or of a closure of it, that is not proved, or None.
 
-    def goals_of(self, name):
-        """Returns the goals of this function that are not proved. The end of its name is enough.
-
-        That a callee isn't proved is none of them.
+        That a callee isn't proved is none, nor that a proof names what is gone.
         """
-        names = self.with_closures(self.whole_name(name))
-        if not names or all(self.functions[it] == "proved" for it in names):
-            return []
-        goals = []
-        for it in names:
-            found = GOALS.search(self.functions[it])
-            goals += re.findall(r"`([^`]+)`", found[1]) if found else []
-        folders = tuple("proofs/" + "/".join(it.split("::")[1:]) + "/" for it in names)
-        ours = [it for it in self.errors() if it[0].startswith(folders)]
-        return goals + [goal or file for file, goal, why in ours if not is_lost_name(why)]
+        for part in self.parts_of(function):
+            found = GOALS.search(self.functions[part])
+            if found:
+                return found[1].split("`")[1]
+        return next((goal or file for file, goal, _ in self.own_errors(function, False)), None)
 
-    def whole_name(self, name):
-        """Returns the name of the function of a crate that this is, or of the only one whose name
-        ends so.
-        """
-        crate, _, end = name.partition("::")
-        if name in self.functions:
-            return name
-        ours = [it for it in self.functions if it.startswith(f"{crate}::")]
-        ending = [it for it in ours if it.endswith(f"::{end}")]
-        return ending[0] if len(ending) == 1 else name
+    def own_errors(self, function, are_lost):
+        """Yields the errors in the proof of a function that say only that a name is gone, or others."""
+        folders = tuple(f"{it.replace('::', '/')}/" for it in self.parts_of(function))
+        for error in self.errors:
+            if error[0].startswith(folders) and is_lost_name(error[2]) == are_lost:
+                yield error
 
-    def with_closures(self, name):
-        """Returns the function and its closures, whose lines are below `fn::NAME`."""
-        module, _, last = name.rpartition("::")
-        inside = f"{module}::fn::{last}::"
-        return [it for it in self.functions if it == name or it.startswith(inside)]
+    def reason(self, function):
+        """Returns the best that can be said of why the check refuses the function at no goal."""
+        lost = [f"{file}: {why}" for file, _, why in self.own_errors(function, True)]
+        unproved = [self.functions[it] for it in self.parts_of(function)]
+        errors = [it for it in self.lines if "error" in it]
+        found = [*lost, *(it for it in unproved if it != "proved"), *errors, self.lines[-1]]
+        return found[0][:200]
 
 
 def is_lost_name(why):

@@ -9,6 +9,7 @@ else: a bug that a check would have stopped goes on.
 import glob
 import os
 import re
+import shlex
 import subprocess
 import sys
 import tempfile
@@ -42,6 +43,17 @@ def hinted_functions(crate, folder):
         with open(path, encoding="utf-8") as it:
             for hint, name in HINTED.findall(it.read()):
                 yield module, name, HINTS[hint]
+
+
+def compiler(crates, kit, room):
+    """Returns the command that compiles so, with the hints of these crates and of a kit's."""
+    folders = [*glob.glob(f"{crates}/*/src"), *glob.glob(f"{kit}/rattle/*/src")]
+    with open(f"{room}/hinted", "w", encoding="utf-8") as it:
+        for folder in folders:
+            found = hinted_functions(os.path.basename(os.path.dirname(folder)), folder)
+            it.writelines(f"{' '.join(words)}\n" for words in found)
+    script = os.path.realpath(__file__)
+    return shlex.join([sys.executable, "-ISB", script, f"{kit}/toolchain/bin", f"{room}/hinted"])
 
 
 def hint_of(path, hints):

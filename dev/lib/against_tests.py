@@ -1,0 +1,153 @@
+"""Tries the wrong bodies that a test has to catch: a test of a crate, or a transcript of tests/.
+
+The sources are copied, and each function gets its wrong bodies beside its right one, behind a
+switch. Crates of tests and programs are built of this copy without proofs. With the right bodies
+all tests have to pass. Then each wrong body is chosen in turn, and its tests run until one fails.
+"""
+import multiprocessing
+import os
+import re
+import resource
+import subprocess
+import tempfile
+from concurrent.futures import ProcessPoolExecutor, ThreadPoolExecutor, as_completed
+
+import crates
+import switches
+import transcripts
+import unproved
+from against_proofs import UNFIT
+
+CAUGHT, MISSED = "caught", "not caught"
+# The seconds that a test may take, a command of a transcript, and all tests of a crate.
+SECONDS = transcripts.SECONDS = 40
+WHOLE = 300
+# The CPU seconds that a test may take. Those of right bodies take less than one.
+CPU_SECONDS = 5
+# How often a test has to pass: with the right bodies, and before a wrong body is not caught. A test
+# of threads may end otherwise now and then.
+RIGHT, WRONG = 50, 20
+# By a program's crate: the command of transcripts.
+PROGRAMS = {"prodash_live": "prodash-live", "prodash_replay": "prodash-replay"}
+
+
+class Bench:
+    """The crates of tests and the programs with all wrong bodies, as they are built in a folder."""
+
+    def __init__(self, found, room, end):
+        self.room, self.end = room, end
+        # The wrong bodies by their numbers.
+        self.left = dict(enumerate(found, 1))
+        words = {word for it in found for word in it.tests}
+        self.transcripts = sorted(it for it in words if it.endswith(".t"))
+        self.suites = sorted({it.partition("::")[0] for it in words - {*self.transcripts}})
+        self.programs = list(PROGRAMS) if self.transcripts else []
+
+    def drop(self, number, why):
+        self.end(self.left.pop(number), UNFIT, why)
+
+    def build(self, jobs):
+        """Builds all, without the bodies that don't build. Returns what is wrong else, or None."""
+        names = [*self.suites, *self.programs]
+        while True:
+            with tempfile.TemporaryDirectory(dir=self.room) as folder:
+                crates.copy(names, f"{folder}/copy")
+                unfit = switches.switch(self.left, f"{folder}/copy", crates.with_below(names))
+                for number in [n for n, it in self.left.items() if it in unfit]:
+                    self.drop(number, unfit[self.left[number]])
+                with ThreadPoolExecutor(jobs) as pool:
+                    said = list(pool.map(lambda it: self.build_crate(folder, it), names))
+                wrong = [it for it in said if it]
+                faults = switches.blamed("\n".join(wrong), f"{folder}/copy") if wrong else {}
+            for number, why in faults.items():
+                self.drop(number, why)
+            if not faults:
+                return wrong[0] if wrong else None
+
+    def build_crate(self, folder, name):
+        """Builds a crate and runs its tests. Returns what was said if that fails, or None."""
+        room = f"{folder}/{name}"
+        os.mkdir(room)
+        words, seconds = ([], 1) if name in PROGRAMS else (["--test"], WHOLE)
+        crate = f"{folder}/copy/crates/{name}"
+        passed, said, made = unproved.build(crate, room, *words, seconds=seconds, level="-O0")
+        if made is None or not passed and name not in PROGRAMS:
+            return said
+        os.replace(made, f"{self.room}/{name}")
+        return None
+
+    def tests(self):
+        """Returns the names of all tests, each with that of its crate."""
+        found = []
+        for suite in self.suites:
+            words = [f"{self.room}/{suite}", "--list"]
+            listed = subprocess.run(words, stdout=subprocess.PIPE, text=True, check=True).stdout
+            found += [f"{suite}::{it}" for it in re.findall(r"(?m)^(\S+): test$", listed)]
+        return found
+
+    def run(self, jobs):
+        """Tries all wrong bodies. Returns what is wrong with the right ones, or None."""
+        why = self.build(jobs)
+        if why:
+            return why
+        names = self.tests()
+        of_words = {it: [name for name in names if f"{name}::".startswith(f"{it}::")] for it in
+                    {word for it in self.left.values() for word in it.tests}}
+        of_words |= {it: [it] for it in self.transcripts}
+        for number, mutant in list(self.left.items()):
+            lacking = [it for it in mutant.tests if not of_words[it]]
+            if lacking:
+                self.drop(number, f"there is no test {lacking[0]}")
+        # a thread that starts a program would keep open what another one writes
+        with ProcessPoolExecutor(jobs, multiprocessing.get_context("fork")) as pool:
+            return self.try_right(pool, of_words) or self.try_wrong(pool, of_words)
+
+    def try_right(self, pool, of_words):
+        """Runs each test that a wrong body names. Returns which one fails, or None."""
+        tests = sorted({it for named in of_words.values() for it in named})
+        times = [1 if it.endswith(".t") else RIGHT for it in tests]
+        tried = [pool.submit(failing, self.room, 0, [it], n) for it, n in zip(tests, times)]
+        return next((f"{it.result()} fails with the right bodies" for it in tried if it.result()), None)
+
+    def try_wrong(self, pool, of_words):
+        tried = {}
+        for number, mutant in self.left.items():
+            tests = [it for word in mutant.tests for it in of_words[word]]
+            tried[pool.submit(failing, self.room, number, tests, WRONG)] = mutant
+        for it in as_completed(tried):
+            self.end(tried[it], CAUGHT if it.result() else MISSED, it.result() or "")
+
+
+def failing(room, number, tests, times):
+    """Runs tests so many times with the body of this number, and returns the first that fails."""
+    with tempfile.TemporaryDirectory(dir=room) as folder:
+        made = {}
+
+        def program(name):
+            if name not in made:
+                made[name] = f"{folder}/{name}"
+                switches.choose(f"{room}/{name}", number, made[name])
+            return made[name]
+
+        for it in tests * times:
+            if it.endswith(".t"):
+                commands = {command: program(name) for name, command in PROGRAMS.items()}
+                passes = transcripts.passes(f"{crates.TOP}/tests/{it}", commands)
+            else:
+                suite, _, name = it.partition("::")
+                passes = test_passes(program(suite), name)
+            if not passes:
+                return it
+    return None
+
+
+def test_passes(program, name):
+    """Runs a test, and returns whether it passes in time."""
+    how = {"stdin": subprocess.DEVNULL, "stdout": subprocess.DEVNULL, "stderr": subprocess.DEVNULL}
+    with subprocess.Popen([program, name], **how) as test:
+        resource.prlimit(test.pid, resource.RLIMIT_CPU, (CPU_SECONDS, CPU_SECONDS))
+        try:
+            return test.wait(SECONDS) == 0
+        except subprocess.TimeoutExpired:
+            test.kill()
+            return False
