@@ -1,5 +1,6 @@
 #!/bin/sh
-# Hashes files, one item for each, with a part of the hash as its message: examples/hash_files.sh FILE.. | bin/prodash-live
+# Hashes files. Each file has an item, which sends the beginning of the hash as its message:
+# examples/hash_files.sh FILE.. | bin/prodash-live
 echo "add @all 0 files"
 echo "init @all $# items"
 for file; do

@@ -7,20 +7,20 @@ import random
 import time
 
 
-def say(*words):
+def write_event(*words):
     """Writes one event as a line, at once."""
     print(*words, flush=True)
 
 
-say("add @all 0 downloads")
-say("init @all 3 items")
+write_event("add @all 0 downloads")
+write_event("init @all 3 items")
 for name in ("readme.txt", "manual.pdf", "disk.img"):
     size = random.randrange(500_000, 5_000_000)
-    say("add @file @all", name)
-    say("init @file", size, "bytes")
+    write_event("add @file @all", name)
+    write_event("init @file", size, "bytes")
     for done in range(0, size, 100_000):
-        say("set @file", done)
+        write_event("set @file", done)
         time.sleep(0.02)
-    say("done @file - downloaded")
-    say("drop @file")
-    say("inc @all 1")
+    write_event("done @file - downloaded")
+    write_event("drop @file")
+    write_event("inc @all 1")
