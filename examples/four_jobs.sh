@@ -1,5 +1,5 @@
 #!/bin/sh
-# Four jobs that run at the same time and write to one pipe: examples/four_jobs.sh | bin/prodash-live
+# Four jobs at the same time, which write to one pipe: examples/four_jobs.sh | bin/prodash-live
 job() {
     echo "add @$1 0 $1"
     echo "init @$1 $2 items"

@@ -1,6 +1,7 @@
 #!/bin/sh
-# Runs a job on several hosts, which write to one pipe: examples/many_hosts.sh HOST.. | bin/prodash-live
-# REACH is the command that runs a script on a host, as `$REACH HOST SCRIPT`. By default it is `ssh`.
+# Runs a job on several hosts, which write to one pipe:
+# examples/many_hosts.sh HOST.. | bin/prodash-live
+# `$REACH HOST SCRIPT` runs a script on a host; REACH is `ssh` by default.
 job='echo "add @copy 0 copy"
 echo "init @copy 20 items"
 for step in 1 2 3 4 5 6 7 8 9 10 11 12 13 14 15 16 17 18 19 20; do
@@ -10,7 +11,7 @@ done
 echo "done @copy - copied"
 echo "drop @copy"'
 
-# Adds an item for a host and moves the host's items below it, with the host's name before their words.
+# Adds an item for a host, and moves the host's items below it. Their words get the host's name.
 below() {
     echo "add @$1 0 $1"
     sed -u "s/^\([a-z]* \)@/\1@$1-/; s/^\(add [^ ]* \)@/\1@$1-/; s/^\(add [^ ]* \)0 /\1@$1 /"
