@@ -4,12 +4,14 @@ The sources are copied, and each function gets its wrong bodies beside its right
 switch. Crates of tests and programs are built of this copy without proofs. With the right bodies
 all tests have to pass. Then each wrong body is chosen in turn, and its tests run until one fails.
 """
+import math
 import multiprocessing
 import os
 import re
 import resource
 import subprocess
 import tempfile
+import time
 from concurrent.futures import ProcessPoolExecutor, ThreadPoolExecutor, as_completed
 
 import crates
@@ -24,9 +26,9 @@ SECONDS = transcripts.SECONDS = 40
 WHOLE = 300
 # The CPU seconds that a test may take. Those of right bodies take less than one.
 CPU_SECONDS = 5
-# How often a test has to pass: with the right bodies, and before a wrong body is not caught. A test
-# of threads may end otherwise now and then.
-RIGHT, WRONG = 50, 20
+# How often a test has to pass, since one of threads may end otherwise now and then: with the right
+# bodies, if that takes no longer than so many seconds, and before a wrong body is not caught.
+RIGHT, RIGHT_SECONDS, WRONG = 50, 5, 20
 # By a program's crate: the command of transcripts.
 PROGRAMS = {"prodash_live": "prodash-live", "prodash_replay": "prodash-replay"}
 
@@ -91,8 +93,8 @@ class Bench:
         if why:
             return why
         names = self.tests()
-        of_words = {it: [name for name in names if f"{name}::".startswith(f"{it}::")] for it in
-                    {word for it in self.left.values() for word in it.tests}}
+        words = {word for it in self.left.values() for word in it.tests}
+        of_words = {it: [name for name in names if f"{name}::".startswith(f"{it}::")] for it in words}
         of_words |= {it: [it] for it in self.transcripts}
         for number, mutant in list(self.left.items()):
             lacking = [it for it in mutant.tests if not of_words[it]]
@@ -105,9 +107,9 @@ class Bench:
     def try_right(self, pool, of_words):
         """Runs each test that a wrong body names. Returns which one fails, or None."""
         tests = sorted({it for named in of_words.values() for it in named})
-        times = [1 if it.endswith(".t") else RIGHT for it in tests]
-        tried = [pool.submit(failing, self.room, 0, [it], n) for it, n in zip(tests, times)]
-        return next((f"{it.result()} fails with the right bodies" for it in tried if it.result()), None)
+        right = [(self.room, 0, [it], RIGHT, RIGHT_SECONDS) for it in tests]
+        failed = [it for it in pool.map(failing, *zip(*right)) if it]
+        return f"{failed[0]} fails with the right bodies" if failed else None
 
     def try_wrong(self, pool, of_words):
         tried = {}
@@ -118,8 +120,12 @@ class Bench:
             self.end(tried[it], CAUGHT if it.result() else MISSED, it.result() or "")
 
 
-def failing(room, number, tests, times):
-    """Runs tests so many times with the body of this number, and returns the first that fails."""
+def failing(room, number, tests, times, seconds=math.inf):
+    """Runs tests so many times, or for so long, with the body of this number.
+
+    Returns the first that fails, or None.
+    """
+    began = time.monotonic()
     with tempfile.TemporaryDirectory(dir=room) as folder:
         made = {}
 
@@ -129,7 +135,9 @@ def failing(room, number, tests, times):
                 switches.choose(f"{room}/{name}", number, made[name])
             return made[name]
 
-        for it in tests * times:
+        for n, it in enumerate(tests * times):
+            if n >= len(tests) and time.monotonic() - began > seconds:
+                break
             if it.endswith(".t"):
                 commands = {command: program(name) for name, command in PROGRAMS.items()}
                 passes = transcripts.passes(f"{crates.TOP}/tests/{it}", commands)
