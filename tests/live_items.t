@@ -45,18 +45,3 @@ The root can be dropped once, and then takes no more children.
   $ printf 'droproot\ndroproot\n' | prodash-live --strict
   line 2: no such handle in: droproot
   [2]
-
-Of 200,000 items that are added to one item and dropped, one after another, none takes the row of an
-item that stays. The items that stay have names of one length, since a frame aligns its bars with
-those of the frame before it.
-
-  $ {
-  >   printf 'add @task 0 task\nadd @first @task first\ninit @first 3 -\n'
-  >   yes 'add @part @task part
-  > drop @part' | head -n 400000
-  >   printf 'add @final @task final\ninit @final 3 -\nset @final 2\n'
-  > } | until_shown 2/3 prodash-live --no-color --columns 40 --terminal always 2>frames
-  $ tail -n 7 frames | head -n 3 | sed 's/.*\[2K//; s/ *$//'
-   task
-    first 0/3 [>-------------------------]
-    final 2/3 [================>---------]
