@@ -45,7 +45,7 @@ def copy(names, to):
 
 
 def link(folder, to):
-    """Copies a copy with what `rt` has made in it, by links to what `rt` replaces and never changes."""
+    """Copies a copy and what `rt` has made in it, by links where `rt` replaces files whole."""
 
     def link_or_copy(source, made):
         if "/rlib/" in source or source.endswith(".oantt"):

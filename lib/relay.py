@@ -129,7 +129,7 @@ def has_size():
 def run(program, words, terminal=2, follows_size=None):
     """Runs a program with these words, the first of which is its name. Returns the status.
 
-    `terminal` is the stream that it draws on. Its size is followed, unless the environment says one.
+    `terminal` is the stream that it draws on. Its size is followed, unless the environment has one.
     """
     if follows_size is None:
         follows_size = not has_size()

@@ -94,8 +94,9 @@ class Bench:
             return why
         names = self.tests()
         words = {word for it in self.left.values() for word in it.tests}
-        of_words = {it: [name for name in names if f"{name}::".startswith(f"{it}::")] for it in words}
-        of_words |= {it: [it] for it in self.transcripts}
+        of_words = {it: [it] for it in self.transcripts}
+        for word in words - {*self.transcripts}:
+            of_words[word] = [it for it in names if f"{it}::".startswith(f"{word}::")]
         for number, mutant in list(self.left.items()):
             lacking = [it for it in mutant.tests if not of_words[it]]
             if lacking:

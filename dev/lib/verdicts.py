@@ -46,7 +46,7 @@ class Verdict:
         return next((goal or file for file, goal, _ in self.own_errors(function, False)), None)
 
     def own_errors(self, function, are_lost):
-        """Yields the errors in the proof of a function that say only that a name is gone, or others."""
+        """Yields the errors in the proof of a function: of names that are gone, or the others."""
         folders = tuple(f"{it.replace('::', '/')}/" for it in self.parts_of(function))
         for error in self.errors:
             if error[0].startswith(folders) and is_lost_name(error[2]) == are_lost:
