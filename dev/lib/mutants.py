@@ -93,12 +93,12 @@ def find(top, crates, below=""):
 
     Returns also why others don't apply, by their labels.
     """
-    found, unfit = [], {}
+    found, unfit, inside = [], {}, below.strip("/") + "/" if below else ""
     for crate in crates:
         folder = f"{top}/crates/{crate}"
         for file in sorted(glob.glob(f"{folder}/edits/**/*.edit", recursive=True)):
             path = os.path.relpath(file, f"{folder}/edits").removesuffix(".edit")
-            if not f"{path}/".startswith(below):
+            if not path.startswith(inside):
                 continue
             try:
                 mutant = read(crate, path, file)

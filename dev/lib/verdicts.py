@@ -26,8 +26,8 @@ class Verdict:
 
     def parts_of(self, function):
         """Returns the paths of a function and of its closures, which are below `fn::`."""
-        inside = f"{function}::"
-        return [it for it in self.functions if f"{it.replace('fn::', '', 1)}::".startswith(inside)]
+        paths = {it: re.sub(r"\bfn::", "", it, count=1) for it in self.functions}
+        return [it for it, path in paths.items() if f"{path}::".startswith(f"{function}::")]
 
     def is_proved(self, function):
         """Returns whether the function and its closures are proved."""
