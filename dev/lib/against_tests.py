@@ -21,11 +21,12 @@ import unproved
 from against_proofs import UNFIT
 
 CAUGHT, MISSED = "caught", "not caught"
-# The seconds that a test may take, a command of a transcript, and all tests of a crate.
-SECONDS = transcripts.SECONDS = 40
-WHOLE = 300
-# The CPU seconds that a test may take. Those of right bodies take less than one.
-CPU_SECONDS = 5
+# The seconds that a test or a command of a transcript may take, and all tests of a crate.
+SECONDS = transcripts.SECONDS = 60
+WHOLE = 600
+# The CPU seconds that a test may take. With right bodies one takes five, and the others less than
+# one: programs are not optimized, since a compiler would take the switch for a constant.
+CPU_SECONDS = 20
 # How often a test has to pass, since one of threads may end otherwise now and then: with the right
 # bodies, if that takes no longer than so many seconds, and before a wrong body is not caught.
 RIGHT, RIGHT_SECONDS, WRONG = 50, 5, 20
