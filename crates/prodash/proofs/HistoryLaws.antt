@@ -7,7 +7,7 @@ use Rattle.prodash_core.specs.declared.tree.event.Reply.{Reply}
 use Rattle.prodash.specs.declared.tree.recorded.history.HistoryEntry.{HistoryEntry}
 use Rattle.prodash.specs.declared.tree.recorded.history.HistoryEntry.TheVariants.{Call, End}
 use Rattle.prodash.proofs.ListPrefixes.{prefix_get}
-use Rattle.prodash.specs.Histories.{IsOpen, IsOrderly, history_of, ended}
+use Rattle.prodash.specs.plumbing.Histories.{IsOpen, IsOrderly, history_of, ended}
 
 -- an entry more keeps an open history orderly
 pub orderly_more : (h : List HistoryEntry) (x : HistoryEntry) → IsOpen h → IsOrderly (h ++ x ∷ [])

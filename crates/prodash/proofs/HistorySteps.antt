@@ -6,7 +6,7 @@ use mathlib.Core.List.{IsPrefix}
 use prog.Atomic.{either}
 use Rattle.logbook.specs.Pages.{Cell, cell, keeps, no_nib, step, Moves, Goes}
 use Rattle.prodash.specs.declared.tree.recorded.history.HistoryEntry.{HistoryEntry}
-use Rattle.prodash.specs.Histories.{IsOrderly, IsOpen, IsKept, Appends}
+use Rattle.prodash.specs.plumbing.Histories.{IsOrderly, IsOpen, IsKept, Appends}
 use Rattle.prodash.proofs.ListPrefixes.{prefix_whole}
 use Rattle.prodash.proofs.HistoryLaws.{orderly_more}
 

@@ -10,7 +10,7 @@ use Rattle.prodash_line.specs.declared.render.line.draw.input.Input.{Input}
 use Rattle.prodash_line.specs.declared.render.line.draw.input.Input.TheVariants as inputs
 use Rattle.prodash_line.specs.declared.render.line.draw.input.Answer.{Answer}
 use Rattle.prodash_line.specs.declared.render.line.draw.input.Options.{Options as DrawOptions}
-use Rattle.prodash_line.specs.Renderer.{Renderer, Seen, Accepts, RunsOutOfMemory, Refuses, Breaks, Renders, new_renderer}
+use Rattle.prodash_line.specs.Renderer.{Renderer, Seen, Accepts, RunsOutOfMemory, Refuses, Breaks, new_renderer, default_options as draw_defaults}
 use Rattle.prodash_line.specs.Screens.{ScreenState}
 use Rattle.prodash_line.specs.declared.render.line.terminal.Environment.{Environment}
 use Rattle.prodash.specs.declared.render.line.engine.options.Options.{Options}
@@ -28,20 +28,20 @@ abbrev pub new_engine : {S W : Type 0} → DrawOptions → Bool → S → W → 
 new_engine options throughput screen weak =
     record { renderer = new_renderer options throughput; screen = screen; weak = weak }
 
--- the options by default: a coloured terminal of 80 columns and 20 rows, six frames a second
+-- the options by default: those of frames, with six frames a second, no delay and no throughput
 abbrev pub default_options : Options
 default_options = record {
-  output_is_terminal = true;
-  colored = true;
-  timestamp = false;
-  terminal_dimensions = (80, 20);
-  hide_cursor = false;
-  defensive = false;
+  output_is_terminal = draw_defaults.output_is_terminal;
+  colored = draw_defaults.colored;
+  timestamp = draw_defaults.timestamp;
+  terminal_dimensions = draw_defaults.terminal_dimensions;
+  hide_cursor = draw_defaults.hide_cursor;
+  defensive = draw_defaults.defensive;
   throughput = false;
-  level_filter = None;
+  level_filter = draw_defaults.level_filter;
   initial_delay = None;
   nanoseconds_per_frame = 166_666_666;
-  keep_running_if_progress_is_empty = true;
+  keep_running_if_progress_is_empty = draw_defaults.keep_running_if_progress_is_empty;
 }
 
 -- the options for an output: the default ones, but with what the environment says of the terminal
@@ -49,20 +49,10 @@ abbrev pub terminal_options : Bool → Environment → Options
 terminal_options is_terminal it = record default_options {
   output_is_terminal = is_terminal;
   colored = is_terminal && not it.no_color;
-  terminal_dimensions = (unwrap_or it.columns 80, unwrap_or it.rows 20);
-}
-
--- those of the options that decide what a frame is
-abbrev pub draw_options : Options → DrawOptions
-draw_options o = record {
-  level_filter = o.level_filter;
-  terminal_dimensions = o.terminal_dimensions;
-  keep_running_if_progress_is_empty = o.keep_running_if_progress_is_empty;
-  output_is_terminal = o.output_is_terminal;
-  colored = o.colored;
-  timestamp = o.timestamp;
-  hide_cursor = o.hide_cursor;
-  defensive = o.defensive;
+  terminal_dimensions = (
+    unwrap_or it.columns default_options.terminal_dimensions.0,
+    unwrap_or it.rows default_options.terminal_dimensions.1,
+  );
 }
 
 -- what one look at a root may show, by how many messages were seen before
@@ -122,10 +112,3 @@ module _ {S W Root : Type 0} where
   EngineSteps state finds looks e event result e' =
       StepsAt event (EngineSees finds looks e) e.renderer (state e.screen) result
       e'.renderer (state e'.screen)
-
-module _ {S W : Type 0} where
-  -- what an engine returns for an input, and what it leaves of the renderer and the screen
-  abbrev pub EngineRenders : (S → ScreenState) → EngineState S W → Input → Result Answer Refusal
-      → EngineState S W → Type 0
-  EngineRenders state e input result e' =
-      Renders e.renderer input (state e.screen) result e'.renderer (state e'.screen)

@@ -1,5 +1,5 @@
 -- Journals: the accepted events of a tree, each with its reply.
-use Rattle.std.specs.Prelude.{◌≡◌, ℕ, ◌+◌, ◌<◌, ◌⊎◌, List, [], ◌∷◌, ◌++◌, length, Option, Some, None, Ok}
+use Rattle.std.specs.Prelude.{◌≡◌, ℕ, ◌+◌, ◌<◌, ◌⊎◌, List, [], ◌∷◌, ◌++◌, slice_get, Option, Some, None, Ok}
 use Rattle.std.specs.List.{sum_by}
 use Rattle.std.specs.Option.{ForSome}
 use Rattle.prodash_base.specs.declared.refusal.Refusal.{Refusal}
@@ -54,28 +54,24 @@ no_calls = record { calls = 0; sum = 0 }
 abbrev pub with_call : Tally → Event → Tally
 with_call tally e = record { calls = tally.calls + 1; sum = tally.sum + amount_of e }
 
--- all shares' calls together, and the sum of their sums
+-- the number of all shares' calls together
 abbrev pub calls_of : List Tally → ℕ
 calls_of shares = sum_by (λ share. share.calls) shares
 
+-- the sum of all shares' sums
 abbrev pub sum_of : List Tally → ℕ
 sum_of shares = sum_by (λ share. share.sum) shares
-
--- The event is accepted with this reply, and gets an entry.
-pub record Records (old : Recorded) (e : Event) (reply : Reply) (new : Recorded) : Type 0 where
-  pub applied : Applies old.tree e (Ok reply) new.tree
-  pub entry : new.entries ≡ old.entries ++ (e, reply) ∷ []
-
--- the same of a recorded tree whose journal isn't taken out
-abbrev pub RecordsIn : Option Recorded → Event → Reply → Option Recorded → Type 0
-RecordsIn (Some old) e reply (Some new) = Records old e reply new
-RecordsIn _ e reply _ = ⊥
 
 -- a receipt of an accepted call: the number of its entry in the journal, its event and its reply
 pub record Received : Type 0 where
   pub number : ℕ
   pub event : Event
   pub reply : Reply
+
+-- The entry at the receipt's number has its event and its reply.
+abbrev pub HasEntryOf : List (Event × Reply) → Received → Type 0
+HasEntryOf entries receipt =
+    slice_get entries receipt.number ≡ Some (receipt.event, receipt.reply)
 
 -- an item of a recorded tree: what it has done, and the number of its last accepted call, if any
 pub record Caller : Type 0 where
@@ -109,9 +105,3 @@ RefusesOn None e refusal = refusal ≡ TooManyHandles
 -- why a call on some recorded tree may be refused
 abbrev pub RefusesCall : Event → Refusal → Type 0
 RefusesCall e refusal = (recorded : Option Recorded) × RefusesOn recorded e refusal
-
--- The receipt is that of the next call on a recorded tree whose journal isn't taken out.
-abbrev pub IsReceiptOf : Option Recorded → Event → Reply → Received → Type 0
-IsReceiptOf (Some recorded) e reply receipt =
-    receipt ≡ record { number = length recorded.entries; event = e; reply = reply }
-IsReceiptOf None e reply receipt = ⊥

@@ -4,8 +4,9 @@ pub mod Turns
 pub mod Engines
 pub mod Logs
 pub mod Wrappers
-pub mod Histories
+pub mod Reporters
 pub mod Journals
+pub mod plumbing
 pub use Rattle.prodash_base.specs.Path
 pub use Rattle.prodash_base.specs.Rows
 pub use Rattle.prodash_base.specs.Messages

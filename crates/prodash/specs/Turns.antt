@@ -1,113 +1,124 @@
 -- Turns at the lock of a tree: what one thread finds there, and what it leaves.
 use Rattle.std.specs.Prelude.{◌≡◌, ℕ, Bool, cond, not, nat_eq, List, [], Option}
 use Rattle.std.specs.FinMap as finite
-use Rattle.prodash_base.specs.Path.{Path, child, next_id}
-use Rattle.prodash_base.specs.Rows.{PathRow, Phase}
+use Rattle.prodash_base.specs.Path.{Path, child}
+use Rattle.prodash_base.specs.Rows.{PathRow, Phase, rows_of}
 use Rattle.prodash_base.specs.Rings.{messages_since}
+use Rattle.prodash_base.specs.declared.progress.Row.{Row}
 use Rattle.prodash_base.specs.declared.messages.Message.{Message}
 use Rattle.prodash_base.specs.declared.messages.MessageLevel.{MessageLevel}
 use Rattle.prodash_base.specs.declared.unit.units.Unit.{Unit}
-use Rattle.prodash_core.specs.Tables.{new_entry, with_name, with_bound, with_phase, id_of, bound_of, unit_of}
-use Rattle.prodash.specs.Locks.{ListsTasks, Inserts, name_in, message_from, with_owner, with_message, begun_at, changed_at}
-use Rattle.prodash.specs.declared.tree.locked.Locked.{Locked}
+use Rattle.prodash_core.specs.Tables.{with_name, with_bound, with_phase, id_of, bound_of, unit_of}
+use Rattle.prodash.specs.Locks.{ListsTasks, InsertsTask, InsertsChild, name_in, message_from, with_owner, with_message, begun_at, changed_at}
+use Rattle.prodash.specs.Items.{Place, next_path}
+use Rattle.prodash.specs.declared.tree.locked.LockedTree.{LockedTree}
 use Rattle.prodash.specs.declared.tree.turns.Turn.{Turn}
 
 -- what is known of a turn and the tree that it found, or that it left
 abbrev pub OfTurn : Type 1
-OfTurn = Turn → Locked → Type 0
+OfTurn = Turn → LockedTree → Type 0
 
 -- The fact holds of the tree that one turn found.
-abbrev pub Finds : OfTurn → (Locked → Type 0) → Type 0
-Finds found fact = (turn : Turn) × (tree : Locked) × found turn tree × fact tree
+abbrev pub Finds : OfTurn → (LockedTree → Type 0) → Type 0
+Finds found fact = (turn : Turn) × (tree : LockedTree) × found turn tree × fact tree
 
 -- The fact holds of the tree that one turn found and of the tree that the same turn left.
-abbrev pub Changes : OfTurn → OfTurn → (Locked → Locked → Type 0) → Type 0
+abbrev pub Changes : OfTurn → OfTurn → (LockedTree → LockedTree → Type 0) → Type 0
 Changes found left fact =
-    (turn : Turn) × (old : Locked) × (new : Locked) × found turn old × left turn new × fact old new
+    (turn : Turn) × (old : LockedTree) × (new : LockedTree) × found turn old × left turn new × fact old new
 
 -- the tree has this many tasks
-abbrev pub HasTasks : ℕ → Locked → Type 0
+abbrev pub HasTasks : ℕ → LockedTree → Type 0
 HasTasks tasks tree = tasks ≡ finite.len tree.table
 
 -- the tree keeps at most this many messages
-abbrev pub KeepsAtMost : ℕ → Locked → Type 0
+abbrev pub KeepsAtMost : ℕ → LockedTree → Type 0
 KeepsAtMost capacity tree = capacity ≡ tree.ring.capacity
 
 -- the rows are those of all tasks of the tree
-abbrev pub HasRows : List PathRow → Locked → Type 0
+abbrev pub HasRows : List PathRow → LockedTree → Type 0
 HasRows rows tree = ListsTasks tree rows
 
 -- the messages are those that the tree keeps
-abbrev pub HasMessages : List Message → Locked → Type 0
+abbrev pub HasMessages : List Message → LockedTree → Type 0
 HasMessages messages tree = messages ≡ tree.ring.messages
 
 -- The messages are those of the tree since this many were sent, or all of them without that
 -- number; so many were sent by now.
-abbrev pub HasNews : Option ℕ → List Message → ℕ → Locked → Type 0
+abbrev pub HasNews : Option ℕ → List Message → ℕ → LockedTree → Type 0
 HasNews previous messages sent tree =
     (messages ≡ messages_since tree.ring previous) × (sent ≡ tree.ring.pushed)
 
 -- the rows and the messages are those of the one tree
-abbrev pub HasRowsAndNews : Option ℕ → List PathRow → List Message → ℕ → Locked → Type 0
+abbrev pub HasRowsAndNews : Option ℕ → List PathRow → List Message → ℕ → LockedTree → Type 0
 HasRowsAndNews previous rows messages sent tree =
     HasRows rows tree × HasNews previous messages sent tree
 
+-- One turn found a tree with these rows and messages. It is known of the rows as they are copied.
+abbrev pub CopiesRowsAndNews : OfTurn → Option ℕ → List Row → List Message → ℕ → Type 0
+CopiesRowsAndNews found previous rows messages sent =
+    Finds found (HasRowsAndNews previous (rows_of rows) messages sent)
+
 -- the name of the task at the path, if there is one
-abbrev pub HasName : Path → Option (List ℕ) → Locked → Type 0
+abbrev pub HasName : Path → Option (List ℕ) → LockedTree → Type 0
 HasName path name tree = name ≡ name_in tree path
 
 -- the identifier of the task at the path, or the unknown one if there is no task
-abbrev pub HasId : Path → List ℕ → Locked → Type 0
+abbrev pub HasId : Path → List ℕ → LockedTree → Type 0
 HasId path id tree = id ≡ id_of (finite.get tree.table path)
 
 -- the bound of the task at the path, if it has one
-abbrev pub HasBound : Path → Option ℕ → Locked → Type 0
+abbrev pub HasBound : Path → Option ℕ → LockedTree → Type 0
 HasBound path max tree = max ≡ bound_of (finite.get tree.table path)
 
 -- the unit of the task at the path, if it has one
-abbrev pub HasUnit : Path → Option Unit → Locked → Type 0
+abbrev pub HasUnit : Path → Option Unit → LockedTree → Type 0
 HasUnit path unit tree = unit ≡ unit_of (finite.get tree.table path)
 
 -- Nothing changes.
-abbrev pub Stays : Locked → Locked → Type 0
+abbrev pub Stays : LockedTree → LockedTree → Type 0
 Stays old new = new ≡ old
 
 -- The tree gets one owner more.
-abbrev pub GetsOwner : Locked → Locked → Type 0
+abbrev pub GetsOwner : LockedTree → LockedTree → Type 0
 GetsOwner old new = new ≡ with_owner old
 
 -- The tree gets one owner more exactly if it has one, and else stays; this says whether it has.
-abbrev pub Upgrades : Bool → Locked → Locked → Type 0
+abbrev pub Upgrades : Bool → LockedTree → LockedTree → Type 0
 Upgrades is_owned old new =
     (is_owned ≡ not (nat_eq old.owners 0)) × (new ≡ cond is_owned (with_owner old) old)
 
 -- The progress of the task at the path is begun.
-abbrev pub Begins : Path → Option ℕ → Option Unit → Locked → Locked → Type 0
+abbrev pub Begins : Path → Option ℕ → Option Unit → LockedTree → LockedTree → Type 0
 Begins path max unit old new = (slot : ℕ) × (new ≡ begun_at old path slot max unit)
 
 -- The task at the path gets this name.
-abbrev pub SetsName : Path → List ℕ → Locked → Locked → Type 0
+abbrev pub SetsName : Path → List ℕ → LockedTree → LockedTree → Type 0
 SetsName path name old new = new ≡ changed_at old path (with_name name)
 
 -- The progress of the task at the path gets this bound, and had that one before.
-abbrev pub SetsBound : Path → Option ℕ → Option ℕ → Locked → Locked → Type 0
+abbrev pub SetsBound : Path → Option ℕ → Option ℕ → LockedTree → LockedTree → Type 0
 SetsBound path max before old new =
     HasBound path before old × (new ≡ changed_at old path (with_bound max))
 
 -- The progress of the task at the path gets this phase.
-abbrev pub SetsPhase : Path → Phase → Locked → Locked → Type 0
+abbrev pub SetsPhase : Path → Phase → LockedTree → LockedTree → Type 0
 SetsPhase path phase old new = new ≡ changed_at old path (with_phase phase)
 
 -- A message of the task at the path is sent.
-abbrev pub Sends : Path → ℕ → MessageLevel → List ℕ → Locked → Locked → Type 0
+abbrev pub Sends : Path → ℕ → MessageLevel → List ℕ → LockedTree → LockedTree → Type 0
 Sends path at level text old new = new ≡ with_message old (message_from old path at level text)
 
 -- A task is added at the path.
-abbrev pub Adds : Path → List ℕ → List ℕ → Locked → Locked → Type 0
+abbrev pub Adds : Path → List ℕ → List ℕ → LockedTree → LockedTree → Type 0
 Adds path name id old new =
-    (slot : ℕ) × Inserts old path (new_entry name id) slot old.next_child new
+    (slot : ℕ) × InsertsTask old path name id slot new
+
+-- A task is added below an item, at the path of the item's next child.
+abbrev pub AddsBelow : Place → List ℕ → List ℕ → LockedTree → LockedTree → Type 0
+AddsBelow item name id old new = Adds (next_path item) name id old new
 
 -- A task is added at the path, which is the root's next child.
-abbrev pub AddsChild : Path → List ℕ → List ℕ → Locked → Locked → Type 0
+abbrev pub AddsChild : Path → List ℕ → List ℕ → LockedTree → LockedTree → Type 0
 AddsChild path name id old new = (path ≡ child [] old.next_child)
-    × ((slot : ℕ) × Inserts old path (new_entry name id) slot (next_id old.next_child) new)
+    × ((slot : ℕ) × InsertsChild old path name id slot new)

@@ -1,6 +1,5 @@
 -- Progress that wraps other progress, or none.
-use Rattle.std.specs.Prelude.{ℕ, Option, Some, None}
-use Rattle.prodash.specs.declared.progress.utils.do_or_discard.DoOrDiscard.{DoOrDiscard}
+use Rattle.std.specs.Prelude.{Option, Some, None}
 use Rattle.prodash.specs.declared.progress.utils.either.Either.{Either}
 use Rattle.prodash.specs.declared.progress.utils.either.Either.TheVariants.{Left, Right}
 
@@ -15,15 +14,7 @@ OnBoth p q (Left l) (Left m) = p l m
 OnBoth p q (Right r) (Right s) = q r s
 OnBoth p q _ _ = ⊥
 
--- the left value, if it is one
-abbrev pub left : {T R : Type 0} → Either T R → Option T
-left (Left p) = Some p
-left (Right r) = None
-
--- the progress, if it is not discarded
-abbrev pub held : {T : Type 0} → DoOrDiscard T → Option T
-held it = left it.inner
-
--- the fact holds of some moment, since a clock promises nothing
-abbrev pub AtSomeMoment : (ℕ → Type 0) → Type 0
-AtSomeMoment fact = (at : ℕ) × fact at
+-- the progress of a `DoOrDiscard`, if it is not discarded
+abbrev pub held : {T R : Type 0} → Either T R → Option T
+held (Left progress) = Some progress
+held (Right _) = None

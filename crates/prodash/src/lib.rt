@@ -21,7 +21,7 @@
 //! job.init(Some(2), None);
 //! for name in ["fetch", "verify"] {
 //!     let part = job.add_child(name)?;
-//!     // `part` can go to a thread, and its row goes when it is dropped
+//!     // `part` can move to a thread, and its row disappears when it is dropped
 //!     part.done("is done")?;
 //!     job.inc();
 //! }

@@ -1,9 +1,9 @@
-//! The tree of tasks, which threads share, sessions of events on one, and whole runs.
+//! Trees of tasks that threads share, sessions that apply events to a tree, and whole runs.
+mod counter_slots;
 pub mod item;
 mod locked;
 pub mod recorded;
 pub mod root;
-mod slots;
 mod steps;
 mod traits;
 pub(crate) mod turns;

@@ -79,7 +79,7 @@ impl Scene {
     }
 
     /// Adds the tasks, and draws that many frames to a sink.
-    pub(crate) fn draw<R: Wait + Clone + Drop>(
+    pub(crate) fn draw_frames<R: Wait + Clone + Drop>(
         self,
         rt: R,
         alloc: Global,
@@ -100,14 +100,14 @@ impl Scene {
         };
         let mut state = draw::State::new(alloc, options, self.throughput);
         for n in 0..count {
-            self.change(&items, alloc, n)?;
+            self.change_tasks(&items, alloc, n)?;
             draw_frame(&root, alloc, &mut state, n)?;
         }
         Ok(())
     }
 
     /// Does what the tasks do before a frame.
-    fn change<R: Wait + Clone + Drop>(
+    fn change_tasks<R: Wait + Clone + Drop>(
         self,
         items: &[Item<R>],
         alloc: Global,

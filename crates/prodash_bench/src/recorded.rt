@@ -28,7 +28,7 @@ struct Counts {
 /// memory. The journal must have just the accepted calls: as many as the item counts, with the same
 /// sum and replies. It must agree with the receipt of each.
 pub(crate) fn run<R: Wait + Print>(rt: &R, alloc: Global) -> Result<(), Fault> {
-    let counts = record::<Brand, Brand, R>(rt, alloc, Ledgers::new())?;
+    let counts = make_calls_on_tree::<Brand, Brand, R>(rt, alloc, Ledgers::new())?;
     match println!(rt; "{} refused", counts.refused) {
         Ok(()) => Ok(()),
         Err(_) => Err(Fault::Output),
@@ -36,7 +36,7 @@ pub(crate) fn run<R: Wait + Print>(rt: &R, alloc: Global) -> Result<(), Fault> {
 }
 
 /// Makes the calls, and returns how they ended.
-fn record<C: TreeLedger, S: Ledger, R: Wait>(
+fn make_calls_on_tree<C: TreeLedger, S: Ledger, R: Wait>(
     rt: &R,
     alloc: Global,
     ledgers: Ledgers,
@@ -58,8 +58,8 @@ fn record<C: TreeLedger, S: Ledger, R: Wait>(
         return Err(Fault::Journal);
     };
     let is_whole = journal.entries().len() as u64 == counts.accepted;
-    let is_received = receipts.len() as u64 == counts.accepted && agrees(&journal, &receipts);
-    if is_counted && is_whole && is_received && replays(alloc, &journal)? {
+    let is_received = receipts.len() as u64 == counts.accepted && all_agree(&journal, &receipts);
+    if is_counted && is_whole && is_received && replays_journal(alloc, &journal)? {
         Ok(counts)
     } else {
         Err(Fault::Journal)
@@ -81,7 +81,7 @@ fn make_calls<C: TreeLedger, S: Ledger>(
     };
     for call in 0..CALLS {
         let kind = call % 10;
-        let Ok(event) = event(alloc, kind, call / 10 + 1) else {
+        let Ok(event) = event_of_kind(alloc, kind, call / 10 + 1) else {
             continue;
         };
         if event.is_frame() {
@@ -115,7 +115,7 @@ fn make_call<C: TreeLedger, S: Ledger>(
 }
 
 /// Returns an event of one of ten kinds.
-fn event(alloc: Global, kind: u64, item: Handle) -> Result<Event, Refusal> {
+fn event_of_kind(alloc: Global, kind: u64, item: Handle) -> Result<Event, Refusal> {
     match kind {
         0 => add_child(alloc),
         1 => set_name(alloc, item),
@@ -162,12 +162,12 @@ fn event_without_text(kind: u64, item: Handle) -> Event {
 }
 
 /// Returns whether a journal agrees with these receipts.
-fn agrees<C: TreeLedger>(journal: &Journal<C>, receipts: &[Receipt<C>]) -> bool {
+fn all_agree<C: TreeLedger>(journal: &Journal<C>, receipts: &[Receipt<C>]) -> bool {
     receipts.iter().all(|it| journal.agrees(it))
 }
 
 /// Returns whether a new tree gives the events of a journal its replies.
-fn replays<C: TreeLedger>(alloc: Global, journal: &Journal<C>) -> Result<bool, Refusal> {
+fn replays_journal<C: TreeLedger>(alloc: Global, journal: &Journal<C>) -> Result<bool, Refusal> {
     let mut tree = TreeState::new(alloc, &RootOptions::default())?;
     for (event, reply) in journal.entries() {
         if event.is_frame() || tree.apply(alloc, event)? != *reply {

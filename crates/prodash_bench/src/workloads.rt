@@ -23,7 +23,7 @@ pub(crate) fn run<R: Wait + Clone + Drop>(
     count: u64,
 ) -> Result<(), Fault> {
     if let Some(scene) = Scene::named(name) {
-        return Ok(scene.draw(rt, alloc, tasks, count)?);
+        return Ok(scene.draw_frames(rt, alloc, tasks, count)?);
     }
     let root = Root::new(rt, alloc)?;
     let items = match name {

@@ -76,7 +76,7 @@ fn run_workers<
     let mut workers = Vec::new(alloc);
     for name in &WORKERS {
         let item = root.add_child(alloc, name)?;
-        workers.push(start(rt, alloc, item, Arc::try_clone(&clock)?, request.seconds)?)?;
+        workers.push(start_worker(rt, alloc, item, Arc::try_clone(&clock)?, request.seconds)?)?;
     }
     for worker in workers {
         worker.join(rt);
@@ -86,7 +86,7 @@ fn run_workers<
 }
 
 /// Starts a worker on an item.
-fn start<R: Wait + Threads + rt::Clock + Clone + Drop + Send + Sync + 'static>(
+fn start_worker<R: Wait + Threads + rt::Clock + Clone + Drop + Send + Sync + 'static>(
     rt: &R,
     alloc: Global,
     item: Item<R>,

@@ -20,7 +20,7 @@ const TASKS: usize = 100;
 const RENDERERS: usize = 1000;
 
 /// Adds tasks, sends the message `done!` of each, lets the ticker go on, and drops the task.
-fn work<R: Host>(rt: &R, alloc: Global, root: &TreeRoot<R>, clock: &SteppedClock<R>) {
+fn add_and_drop_tasks<R: Host>(rt: &R, alloc: Global, root: &TreeRoot<R>, clock: &SteppedClock<R>) {
     for _ in 0..TASKS {
         let mut task = root.add_child(alloc, "task").expect(rt, "no refusal");
         task.init(Some(1), None);
@@ -41,7 +41,7 @@ fn start_crowd<R: Host>(
     for _ in 0..THREADS {
         let (rt, clock) = (*rt, share(rt, clock));
         let root = root.clone().expect(&rt, "no refusal");
-        let worker = thread::spawn(&rt, move || work(&rt, alloc, &root, &clock));
+        let worker = thread::spawn(&rt, move || add_and_drop_tasks(&rt, alloc, &root, &clock));
         let worker = worker.expect(&rt, "a thread");
         running.push(worker).expect(&rt, "memory");
     }

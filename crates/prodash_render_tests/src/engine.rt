@@ -3,7 +3,7 @@ use crate::fixtures::{
     FakeScreen, Host, TASK_FRAME, TERMINAL, arc, assert_same, downgrade, make_tree, share,
 };
 use crate::waiting::{
-    Awaited, Collected, Collector, Holds, Reaches, SoleOwner, SteppedClock, assert_soon, is_so_soon,
+    Awaited, Collected, Collector, Holds, Reaches, SoleOwner, SteppedClock, assert_soon, holds_soon,
 };
 use prodash::render::line::draw::Answer;
 use prodash::render::line::engine::{Engine, EngineEvent};
@@ -45,7 +45,7 @@ impl Orders {
         arc(rt, alloc, orders)
     }
 
-    fn give(&self, next: u64) {
+    fn set_next(&self, next: u64) {
         self.next.store(next, Ordering::SeqCst);
     }
 }
@@ -146,7 +146,7 @@ where
     let mut engine = Engine::new(alloc, screen, weak, TERMINAL, false).expect(rt, "no refusal");
     let mut before = 0;
     for (next, event, result, bytes) in steps {
-        orders.give(*next);
+        orders.set_next(*next);
         assert_same(rt, engine.step(*event), *result, *bytes);
         let taken = engine.screen().bytes.as_slice();
         assert_same(rt, taken.get(before..), Some(bytes.as_bytes()), *bytes);
@@ -276,13 +276,13 @@ fn make_drawn<R: Host>(rt: &R, alloc: Global, is_open: bool) -> Drawn<R> {
 
 /// Asserts that these frames are written.
 pub(crate) fn assert_frames<R: Host>(rt: &R, collected: &Collected, frames: &[&str]) {
-    let is_drawn = Holds(rt, collected, frames).is_so();
+    let is_drawn = Holds(rt, collected, frames).holds();
     assert_same(rt, is_drawn, true, collected.bytes.lock(rt).as_slice());
 }
 
 /// Asserts that these frames are written soon.
 pub(crate) fn assert_drawn<R: Host>(rt: &R, collected: &Collected, frames: &[&str]) {
-    let is_drawn = is_so_soon(rt, &Holds(rt, collected, frames));
+    let is_drawn = holds_soon(rt, &Holds(rt, collected, frames));
     assert_same(rt, is_drawn, true, collected.bytes.lock(rt).as_slice());
 }
 
@@ -394,7 +394,7 @@ fn draw_and_end<R: Host>(
     thread::sleep(rt, Duration::from_millis(100));
     item.set(4);
     clock.end(1);
-    let is_drawn = is_so_soon(rt, &Holds(rt, collected, &[TASK_FRAME, NEXT_FRAME]));
+    let is_drawn = holds_soon(rt, &Holds(rt, collected, &[TASK_FRAME, NEXT_FRAME]));
     drop(root);
     clock.end_all();
     is_drawn
@@ -431,10 +431,10 @@ fn refused_ticks_are_skipped(rt: HostRuntime) {
     let orders = Orders::new(&rt, alloc, HAS_NO_MEMORY);
     let it = make_collecting(&rt, alloc, Told::new(&rt, &root, &orders), true, None);
     assert_asked(&rt, &orders, 1);
-    orders.give(IS_FULL);
+    orders.set_next(IS_FULL);
     it.clock.end(1);
     assert_asked(&rt, &orders, 2);
-    orders.give(FINDS);
+    orders.set_next(FINDS);
     it.clock.end(2);
     assert_drawn(&rt, &it.collected, &[TASK_FRAME]);
     it.handle.shutdown_and_wait();
@@ -454,7 +454,7 @@ fn the_last_frame_is_tried_again(rt: HostRuntime) {
     it.handle.shutdown();
     // the event loop sleeps once its last frame is refused
     it.clock.assert_begun(2);
-    orders.give(FINDS);
+    orders.set_next(FINDS);
     it.clock.end_all_but_first();
     assert_drawn(&rt, &it.collected, &[TASK_FRAME, CLOSING_WIDE]);
     it.clock.end_first();

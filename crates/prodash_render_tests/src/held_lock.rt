@@ -1,6 +1,6 @@
 //! The step of an item while another thread holds the lock of its tree.
 use crate::fixtures::{arc, assert_same, share};
-use crate::waiting::{assert_soon, is_so_soon};
+use crate::waiting::{assert_soon, holds_soon};
 use prodash::tree::Root;
 use std::alloc::{AllocError, Global};
 use std::sync::Arc;
@@ -26,12 +26,12 @@ struct Gate {
 }
 
 impl Gate {
-    fn pass(&self) {
+    fn wait_until_open(&self) {
         if self.flags.open.load(Ordering::SeqCst) {
             return;
         }
         self.flags.waits.store(true, Ordering::SeqCst);
-        if !is_so_soon(&self.rt, &self.flags.open) {
+        if !holds_soon(&self.rt, &self.flags.open) {
             self.flags.gave_up.store(true, Ordering::SeqCst);
         }
     }
@@ -39,7 +39,7 @@ impl Gate {
 
 impl Clone for Gate {
     fn clone(&self) -> Result<Gate, AllocError> {
-        self.pass();
+        self.wait_until_open();
         let flags = Arc::try_clone(&self.flags)?;
         Ok(Gate { rt: self.rt, flags })
     }

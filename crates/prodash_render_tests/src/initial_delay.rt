@@ -18,7 +18,7 @@ const TWO_MESSAGES: &str = " task one\n task two\n";
 struct ShowsRows<'a, R: Host>(&'a R, &'a Collecting<R>);
 
 impl<R: Host> Awaited for ShowsRows<'_, R> {
-    fn is_so(&self) -> bool {
+    fn holds(&self) -> bool {
         self.1.handle.resize(40, 20);
         self.1.collected.bytes.lock(self.0).len() > TWO_MESSAGES.len()
     }

@@ -135,7 +135,7 @@ fn levels_that_are_logged(rt: HostRuntime) {
 }
 
 /// Reports progress on a child, by the traits alone.
-fn report<P: NestedProgress>(rt: &impl Abort, alloc: Global, progress: &mut P) -> Step
+fn report_steps<P: NestedProgress>(rt: &impl Abort, alloc: Global, progress: &mut P) -> Step
 where
     P::SubProgress: Progress + Drop,
 {
@@ -153,7 +153,7 @@ where
 #[test]
 fn logs_are_progress(rt: HostRuntime) {
     let mut bench = make_bench(&rt, rt.alloc(), "main", None);
-    let step = report(&rt, rt.alloc(), &mut bench.log);
+    let step = report_steps(&rt, rt.alloc(), &mut bench.log);
     assert_same(&rt, step, 3, "step");
     let want = "INFO main::work → 3 / 10\nERROR 𐄂main::work → no\n\
 INFO ℹmain::work → done 3 items in 2.50s (1 items/s)\n";
@@ -165,7 +165,7 @@ INFO ℹmain::work → done 3 items in 2.50s (1 items/s)\n";
 type Any<R> = AnyProgress<R, Collector<R>, SteppedClock<R>>;
 
 /// Makes each call that changes a progress or sends a message.
-fn drive<P: Progress>(rt: &impl Abort, alloc: Global, progress: &mut P) {
+fn call_each<P: Progress>(rt: &impl Abort, alloc: Global, progress: &mut P) {
     progress.init(Some(10), Some(unit::label("items")));
     progress.set(3);
     progress.set(u64::MAX);
@@ -181,16 +181,16 @@ fn drive<P: Progress>(rt: &impl Abort, alloc: Global, progress: &mut P) {
     shown.expect(rt, "no refusal");
 }
 
-/// What the logger gets of two that are driven.
-const DRIVEN: &str = "INFO main::work → 3/10 items\n\
+/// What the logger gets of two on which each call is made.
+const EACH_CALL: &str = "INFO main::work → 3/10 items\n\
 ERROR 𐄂main::other → sent\n\
 ERROR 𐄂main::other → done 10 parts in 2.50s (4 parts/s)\n\
 ERROR 𐄂main::other → sent\n\
 ERROR 𐄂main::other → done 10 parts in 2.50s (4 parts/s)\n";
 
-/// Drives a progress, and asserts that it is where that leaves it.
-fn assert_driven<P: Progress>(rt: &impl Abort, alloc: Global, progress: &mut P) {
-    drive(rt, alloc, progress);
+/// Makes each call on a progress, and asserts that it is where that leaves it.
+fn assert_each_call<P: Progress>(rt: &impl Abort, alloc: Global, progress: &mut P) {
+    call_each(rt, alloc, progress);
     let counter = progress.counter(alloc).expect(rt, "no refusal");
     assert_same(rt, progress.step(), 4, "step");
     counter.store(8, Ordering::SeqCst);
@@ -208,10 +208,10 @@ fn calls_reach_the_log(rt: HostRuntime) {
     let alloc: Global = rt.alloc();
     let bench = make_bench(&rt, alloc, "main", None);
     let mut work = add_work(&rt, alloc, &bench.log);
-    assert_driven(&rt, alloc, &mut work);
+    assert_each_call(&rt, alloc, &mut work);
     let mut any: Any<HostRuntime> = AnyProgress::Log(add_work(&rt, alloc, &bench.log));
-    assert_driven(&rt, alloc, &mut any);
-    assert_logged(&rt, &bench, DRIVEN);
+    assert_each_call(&rt, alloc, &mut any);
+    assert_logged(&rt, &bench, EACH_CALL);
     drop(any);
     drop(work);
     drop(bench);

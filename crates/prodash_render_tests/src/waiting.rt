@@ -16,27 +16,27 @@ use std::{rt, thread};
 
 /// What a test waits for. A closure in its place would be four functions to prove.
 pub(crate) trait Awaited {
-    fn is_so(&self) -> bool;
+    fn holds(&self) -> bool;
 }
 
 /// Waits until this is so, at most 10000 turns of a millisecond. Returns whether it is.
-pub(crate) fn is_so_soon<R: rt::Clock, A: Awaited>(rt: &R, awaited: &A) -> bool {
+pub(crate) fn holds_soon<R: rt::Clock, A: Awaited>(rt: &R, awaited: &A) -> bool {
     for _ in 0..10000u32 {
-        if awaited.is_so() {
+        if awaited.holds() {
             return true;
         }
         thread::sleep(rt, Duration::from_millis(1));
     }
-    awaited.is_so()
+    awaited.holds()
 }
 
 /// Asserts that this is so soon; `of` says what is awaited.
 pub(crate) fn assert_soon<R: rt::Clock + Abort, A: Awaited>(rt: &R, awaited: &A, of: &str) {
-    assert_same(rt, is_so_soon(rt, awaited), true, of);
+    assert_same(rt, holds_soon(rt, awaited), true, of);
 }
 
 impl Awaited for AtomicBool {
-    fn is_so(&self) -> bool {
+    fn holds(&self) -> bool {
         self.load(Ordering::SeqCst)
     }
 }
@@ -46,7 +46,7 @@ impl Awaited for AtomicBool {
 pub(crate) struct Reaches<'a>(pub &'a AtomicU64, pub u64);
 
 impl Awaited for Reaches<'_> {
-    fn is_so(&self) -> bool {
+    fn holds(&self) -> bool {
         self.0.load(Ordering::SeqCst) >= self.1
     }
 }
@@ -56,7 +56,7 @@ impl Awaited for Reaches<'_> {
 pub(crate) struct SoleOwner<'a, T>(pub &'a Arc<T>);
 
 impl<T> Awaited for SoleOwner<'_, T> {
-    fn is_so(&self) -> bool {
+    fn holds(&self) -> bool {
         Arc::strong_count(self.0) == 1
     }
 }
@@ -128,8 +128,8 @@ impl<R: rt::Clock + Drop> SteppedClock<R> {
     /// Waits until this many sleeps may end, at most twenty seconds.
     fn wait_for(&self, count: u64) {
         let may_end = MayEnd(self, count);
-        if !is_so_soon(&self.rt, &may_end) {
-            is_so_soon(&self.rt, &may_end);
+        if !holds_soon(&self.rt, &may_end) {
+            holds_soon(&self.rt, &may_end);
         }
     }
 }
@@ -155,7 +155,7 @@ impl<R: rt::Clock + Drop> Clock for SteppedClock<R> {
 struct MayEnd<'a, R: rt::Clock + Drop>(&'a SteppedClock<R>, u64);
 
 impl<R: rt::Clock + Drop> Awaited for MayEnd<'_, R> {
-    fn is_so(&self) -> bool {
+    fn holds(&self) -> bool {
         let goes_on = self.1 == 1 && self.0.first_goes_on.load(Ordering::SeqCst);
         !goes_on && self.0.ending.load(Ordering::SeqCst) >= self.1
     }
@@ -192,7 +192,7 @@ impl Collected {
 pub(crate) struct Holds<'a, R: Wait>(pub &'a R, pub &'a Collected, pub &'a [&'a str]);
 
 impl<R: Wait> Awaited for Holds<'_, R> {
-    fn is_so(&self) -> bool {
+    fn holds(&self) -> bool {
         are_texts(self.1.bytes.lock(self.0).as_slice(), self.2)
     }
 }
@@ -231,7 +231,7 @@ impl<R: Host> Collector<R> {
 impl<R: Wait + rt::Clock + Drop> Write for Collector<R> {
     fn write(&mut self, bytes: &[u8]) -> io::Result<usize> {
         self.collected.has_begun.store(true, Ordering::SeqCst);
-        if !is_so_soon(&self.rt, &self.collected.is_open) {
+        if !holds_soon(&self.rt, &self.collected.is_open) {
             return Err(Error::from(ErrorKind::TimedOut));
         }
         self.collected

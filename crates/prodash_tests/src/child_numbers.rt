@@ -1,6 +1,6 @@
 //! More children of the root of a recorded tree than 16 bits count.
 use crate::fixtures::{assert_same, key_at};
-use crate::recorded::{Replay, Round, Work, add, call, on_new_tree};
+use crate::recorded::{Replay, Round, Work, add_task, make_call, run_on_new_tree};
 use prodash::progress::Rows;
 use prodash::tree::Event;
 use prodash::tree::recorded::{Receipt, RecordedItem, TreeLedger};
@@ -18,7 +18,7 @@ const CHILDREN: &[Round] = &[Round {
 
 #[test]
 fn the_child_after_65536_has_a_place_of_its_own(rt: HostRuntime) {
-    on_new_tree(rt, rt.alloc(), CHILDREN, 65539, Replay::Children);
+    run_on_new_tree(rt, rt.alloc(), CHILDREN, 65539, Replay::Children);
 }
 
 /// Adds 65537 tasks, drops the first, and begins the progress of the last.
@@ -29,12 +29,12 @@ pub(crate) fn call_children<C: TreeLedger, S: Ledger, R: Wait + Abort>(
     receipts: &mut Vec<Receipt<C>>,
 ) {
     for _ in 0..65536u32 {
-        add(rt, alloc, item, receipts, "more");
+        add_task(rt, alloc, item, receipts, "more");
     }
-    let last = add(rt, alloc, item, receipts, "Z");
-    call(rt, alloc, item, receipts, Event::Drop { item: 1 });
+    let last = add_task(rt, alloc, item, receipts, "Z");
+    make_call(rt, alloc, item, receipts, Event::Drop { item: 1 });
     let (max, unit) = (Some(1), None);
-    call(
+    make_call(
         rt,
         alloc,
         item,

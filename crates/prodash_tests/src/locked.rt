@@ -117,7 +117,7 @@ fn assert_keeps<R: Wait + Clone + Drop>(
 }
 
 /// Sends a message of severity `Info` at the first moment.
-fn say<R: Wait + Clone + Drop>(rt: &impl Abort, alloc: Global, item: &Item<R>, text: &str) {
+fn send_info<R: Wait + Clone + Drop>(rt: &impl Abort, alloc: Global, item: &Item<R>, text: &str) {
     item.message(alloc, 0, MessageLevel::Info, text)
         .expect(rt, "no refusal");
 }
@@ -133,7 +133,7 @@ fn assert_gone<R: Wait + Clone + Drop + Send + Sync>(
     item.set(5);
     item.init(Some(10), None);
     assert_same(rt, item.step(), Some(5), "step");
-    say(rt, alloc, item, "said");
+    send_info(rt, alloc, item, "said");
     assert_keeps(rt, alloc, root, &[("", "said")]);
 }
 
@@ -256,7 +256,7 @@ fn deep_clones_take_messages(rt: HostRuntime) {
     let copy = root.deep_clone(alloc).expect(&rt, "no refusal");
     assert_same(&rt, copy.messages_capacity(), 20, "capacity");
     let item = child(&rt, alloc, &copy, "task");
-    say(&rt, alloc, &item, "one");
+    send_info(&rt, alloc, &item, "one");
     assert_keeps(&rt, alloc, &copy, &[("task", "one")]);
 }
 
@@ -284,10 +284,10 @@ fn deep_clones_are_apart(rt: HostRuntime) {
     let (root, item) = root_with_task(rt, alloc);
     item.init(Some(10), None);
     item.set(3);
-    say(&rt, alloc, &item, "one");
+    send_info(&rt, alloc, &item, "one");
     let copy = root.deep_clone(alloc).expect(&rt, "no refusal");
     item.set(4);
-    say(&rt, alloc, &item, "two");
+    send_info(&rt, alloc, &item, "two");
     drop(item);
     drop(root);
     assert_looks(&rt, alloc, &copy);
@@ -304,15 +304,15 @@ fn add_and_drop<R: Wait + Clone + Drop>(rt: &impl Abort, alloc: Global, root: &R
         let mut item = child(rt, alloc, root, "task");
         item.init(Some(100), None);
         item.set(n);
-        say(rt, alloc, &item, "begun");
+        send_info(rt, alloc, &item, "begun");
         let part = item.add_child(alloc, "part").expect(rt, "no refusal");
         part.inc();
-        say(rt, alloc, &part, "done");
+        send_info(rt, alloc, &part, "done");
     }
 }
 
 /// Adds 3 to a counter, in a function that has no leave to wait.
-fn advance(steps: &Steps) {
+fn add_three(steps: &Steps) {
     steps.inc_by(2);
     steps.inc();
 }
@@ -322,7 +322,7 @@ fn count_up<R: Wait + Clone + Drop>(item: &Item<R>) {
     for _ in 0..50_000u32 {
         item.inc();
         item.inc_by(2);
-        advance(item.steps());
+        add_three(item.steps());
     }
 }
 
@@ -347,7 +347,7 @@ fn do_job<R: Wait + Clone + Drop>(
 }
 
 /// Does a job in four threads.
-fn in_four_threads<R: Threads + Wait + Abort + Copy + Drop + Send + Sync>(
+fn run_in_four_threads<R: Threads + Wait + Abort + Copy + Drop + Send + Sync>(
     rt: R,
     alloc: Global,
     root: &Root<R>,
@@ -370,7 +370,7 @@ fn in_four_threads<R: Threads + Wait + Abort + Copy + Drop + Send + Sync>(
 #[test]
 fn four_threads_share_a_root(rt: HostRuntime) {
     let (root, item) = root_with_task(rt, rt.alloc());
-    in_four_threads(rt, rt.alloc(), &root, &item, Job::AddAndDrop);
+    run_in_four_threads(rt, rt.alloc(), &root, &item, Job::AddAndDrop);
     drop(item);
     assert_same(&rt, root.num_tasks(), 0, "tasks");
     let mut kept = Vec::new(rt.alloc());
@@ -385,6 +385,6 @@ fn four_threads_share_a_root(rt: HostRuntime) {
 fn four_threads_share_a_counter(rt: HostRuntime) {
     let (root, item) = root_with_task(rt, rt.alloc());
     item.set(u64::MAX);
-    in_four_threads(rt, rt.alloc(), &root, &item, Job::CountUp);
+    run_in_four_threads(rt, rt.alloc(), &root, &item, Job::CountUp);
     assert_same(&rt, item.step(), Some(1_199_999), "step");
 }

@@ -13,18 +13,18 @@ use std::sync::Wait;
 /// A locked tree whose items are named by handles, as those of a session. No item has the handle 0,
 /// and a dropped item's place is empty.
 #[derive(Drop)]
-struct LockedTree<R: Wait + Clone + Drop> {
+struct MirrorTree<R: Wait + Clone + Drop> {
     root: Root<R>,
     items: Vec<Option<Item<R>>>,
     /// The names of the events that it got, and of the calls where an event has several.
     calls: Vec<&'static str>,
 }
 
-impl<R: Wait + Clone + Drop> LockedTree<R> {
-    fn new(rt: &impl Abort, alloc: Global, root: Root<R>) -> LockedTree<R> {
+impl<R: Wait + Clone + Drop> MirrorTree<R> {
+    fn new(rt: &impl Abort, alloc: Global, root: Root<R>) -> MirrorTree<R> {
         let mut items = Vec::new(alloc);
         items.push(None).expect(rt, "memory");
-        LockedTree {
+        MirrorTree {
             root,
             items,
             calls: Vec::new(alloc),
@@ -99,7 +99,7 @@ impl<R: Wait + Clone + Drop> LockedTree<R> {
     }
 
     /// Sends a message by `message` at an even moment, and else by the call for its level.
-    fn say(
+    fn send_message(
         &mut self,
         rt: &impl Abort,
         alloc: Global,
@@ -121,7 +121,7 @@ impl<R: Wait + Clone + Drop> LockedTree<R> {
     }
 
     /// Applies an event to items.
-    fn change(&mut self, rt: &impl Abort, alloc: Global, event: &Event) -> Reply {
+    fn apply_change(&mut self, rt: &impl Abort, alloc: Global, event: &Event) -> Reply {
         self.calls.push(name_of(event)).expect(rt, "memory");
         match event {
             Event::AddChild { parent, name, id } => {
@@ -133,7 +133,7 @@ impl<R: Wait + Clone + Drop> LockedTree<R> {
                 at,
                 level,
                 text,
-            } => return self.say(rt, alloc, *item, *at, *level, text.as_str()),
+            } => return self.send_message(rt, alloc, *item, *at, *level, text.as_str()),
             Event::SetMax { item, max } => {
                 return Reply::Bound(self.item(rt, *item).set_max(*max));
             }
@@ -148,13 +148,13 @@ impl<R: Wait + Clone + Drop> LockedTree<R> {
             Event::Blocked { item, reason, eta } => self.item(rt, *item).blocked(reason, *eta),
             Event::Halted { item, reason, eta } => self.item(rt, *item).halted(reason, *eta),
             Event::Running { item } => self.item(rt, *item).running(),
-            _ => return self.look(rt, alloc, event),
+            _ => return self.apply_read(rt, alloc, event),
         }
         Reply::Done
     }
 
     /// Applies an event that only reads.
-    fn look(&mut self, rt: &impl Abort, alloc: Global, event: &Event) -> Reply {
+    fn apply_read(&mut self, rt: &impl Abort, alloc: Global, event: &Event) -> Reply {
         match event {
             Event::Name { item } => {
                 let name = self.item(rt, *item).name(alloc);
@@ -186,7 +186,7 @@ impl<R: Wait + Clone + Drop> LockedTree<R> {
                 let state = looked.expect(rt, "no refusal");
                 Reply::New(Messages::new(messages), state)
             }
-            _ => panic!(rt; "not a look"),
+            _ => panic!(rt; "no event that reads"),
         }
     }
 }
@@ -255,25 +255,25 @@ fn number_after(n: u64) -> u64 {
 
 const TEXTS: [&str; 4] = ["task", "", "long name", "ü"];
 
-fn text(alloc: Global, n: u64) -> Result<Text, AllocError> {
+fn text_at(alloc: Global, n: u64) -> Result<Text, AllocError> {
     Text::from_str(alloc, TEXTS[(n % 4) as usize])
 }
 
-fn bound(n: u64) -> Option<u64> {
+fn bound_at(n: u64) -> Option<u64> {
     if n % 3 == 0 { None } else { Some(n % 50) }
 }
 
 /// Adds a child of the root or of an item, with or without an identifier.
-fn added(alloc: Global, item: Handle, n: u64) -> Result<Event, AllocError> {
+fn add_child_event(alloc: Global, item: Handle, n: u64) -> Result<Event, AllocError> {
     Ok(Event::AddChild {
         parent: if n % 3 == 0 { 0 } else { item },
-        name: text(alloc, n >> 3)?,
+        name: text_at(alloc, n >> 3)?,
         id: if n >> 7 & 1 == 0 { UNKNOWN } else { *b"TASK" },
     })
 }
 
 /// Sends a message of one of the levels.
-fn said(alloc: Global, item: Handle, n: u64) -> Result<Event, AllocError> {
+fn message_event(alloc: Global, item: Handle, n: u64) -> Result<Event, AllocError> {
     Ok(Event::Message {
         item,
         at: n >> 8,
@@ -282,7 +282,7 @@ fn said(alloc: Global, item: Handle, n: u64) -> Result<Event, AllocError> {
             1 => MessageLevel::Success,
             _ => MessageLevel::Failure,
         },
-        text: text(alloc, n >> 3)?,
+        text: text_at(alloc, n >> 3)?,
     })
 }
 
@@ -294,12 +294,12 @@ pub(crate) fn event_of_kind(
     n: u64,
 ) -> Result<Event, AllocError> {
     match kind {
-        0 => added(alloc, item, n),
+        0 => add_child_event(alloc, item, n),
         3 => Ok(Event::SetName {
             item,
-            name: text(alloc, n)?,
+            name: text_at(alloc, n)?,
         }),
-        10 => said(alloc, item, n),
+        10 => message_event(alloc, item, n),
         _ => Ok(plain_event(kind, item, n)),
     }
 }
@@ -307,7 +307,7 @@ pub(crate) fn event_of_kind(
 /// An event without a text.
 #[rattlefmt::skip]
 fn plain_event(kind: u64, item: Handle, n: u64) -> Event {
-    let max = bound(n);
+    let max = bound_at(n);
     match kind {
         1 => Event::CopyNew { previous: max.map(MessageCopyState::new) },
         2 => Event::Init { item, max, unit: if n % 3 == 0 { Some(label("items")) } else { None } },
@@ -345,7 +345,7 @@ fn kind_of(place: u64) -> u64 {
 struct Mirror<R: Wait + Clone + Drop> {
     session: Session,
     screen: MemoryScreen,
-    tree: LockedTree<R>,
+    tree: MirrorTree<R>,
 }
 
 impl<R: Wait + Clone + Drop> Mirror<R> {
@@ -358,7 +358,7 @@ impl<R: Wait + Clone + Drop> Mirror<R> {
         Mirror {
             session: Session::new(alloc, &options).expect(rt, "no refusal"),
             screen: MemoryScreen::new(alloc, 0).expect(rt, "no refusal"),
-            tree: LockedTree::new(rt, alloc, root),
+            tree: MirrorTree::new(rt, alloc, root),
         }
     }
 
@@ -398,7 +398,7 @@ impl<R: Wait + Clone + Drop> Mirror<R> {
     /// Asserts that both reply the same to the event at a place, and look the same after it.
     fn assert_place(&mut self, rt: &impl Abort, alloc: Global, place: u64, n: u64) {
         let event = self.event_at(alloc, place, n).expect(rt, "memory");
-        let got = self.tree.change(rt, alloc, &event);
+        let got = self.tree.apply_change(rt, alloc, &event);
         let at = (place, &event);
         self.assert_reply(rt, alloc, &event, got, at);
         self.assert_looks(rt, alloc, &Event::Snapshot, at);

@@ -1,6 +1,6 @@
 //! Receipts: callers find their own calls in the journal.
 use crate::fixtures::{assert_reply, assert_same};
-use crate::recorded::{Replay, Round, Work, add, call, on_new_tree};
+use crate::recorded::{Replay, Round, Work, add_task, make_call, run_on_new_tree};
 use prodash::tree::recorded::{Journal, Receipt, RecordedItem, TreeLedger};
 use prodash::tree::{Event, Reply};
 use std::alloc::Global;
@@ -17,7 +17,7 @@ const ONE_ITEM: &[Round] = &[Round {
 
 #[test]
 fn receipts_of_one_item_are_in_order(rt: HostRuntime) {
-    on_new_tree(rt, rt.alloc(), ONE_ITEM, 4, Replay::Step(7));
+    run_on_new_tree(rt, rt.alloc(), ONE_ITEM, 4, Replay::Step(7));
 }
 
 /// Adds a task, sets its step to 3, adds 4, and asks for the step.
@@ -27,10 +27,10 @@ pub(crate) fn call_in_order<C: TreeLedger, S: Ledger, R: Wait + Abort>(
     item: &mut RecordedItem<C, S>,
     receipts: &mut Vec<Receipt<C>>,
 ) {
-    add(rt, alloc, item, receipts, "task");
-    call(rt, alloc, item, receipts, Event::Set { item: 1, step: 3 });
-    call(rt, alloc, item, receipts, Event::IncBy { item: 1, step: 4 });
-    let step = call(rt, alloc, item, receipts, Event::Step { item: 1 });
+    add_task(rt, alloc, item, receipts, "task");
+    make_call(rt, alloc, item, receipts, Event::Set { item: 1, step: 3 });
+    make_call(rt, alloc, item, receipts, Event::IncBy { item: 1, step: 4 });
+    let step = make_call(rt, alloc, item, receipts, Event::Step { item: 1 });
     assert_reply(rt, &step, &Reply::Step(7), "step");
 }
 

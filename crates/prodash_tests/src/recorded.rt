@@ -136,42 +136,42 @@ const DROPPED: &[Round] = &[
 
 #[test]
 fn two_workers_have_one_journal(rt: HostRuntime) {
-    on_new_tree(rt, rt.alloc(), TWO, 2001, Replay::Step(6000));
+    run_on_new_tree(rt, rt.alloc(), TWO, 2001, Replay::Step(6000));
 }
 
 #[test]
 fn eight_workers_have_one_journal(rt: HostRuntime) {
-    on_new_tree(rt, rt.alloc(), EIGHT, 2001, Replay::Step(6000));
+    run_on_new_tree(rt, rt.alloc(), EIGHT, 2001, Replay::Step(6000));
 }
 
 #[test]
 fn mixed_calls_have_one_journal(rt: HostRuntime) {
-    on_new_tree(rt, rt.alloc(), MIXED, 3281, Replay::Rows(240));
+    run_on_new_tree(rt, rt.alloc(), MIXED, 3281, Replay::Rows(240));
 }
 
 #[test]
 fn a_crowd_has_one_journal(rt: HostRuntime) {
-    on_new_tree(rt, rt.alloc(), CROWD, 5249, Replay::Rows(384));
+    run_on_new_tree(rt, rt.alloc(), CROWD, 5249, Replay::Rows(384));
 }
 
 #[test]
 fn a_refused_call_does_not_count(rt: HostRuntime) {
-    on_new_tree(rt, rt.alloc(), DROPPED, 2, Replay::Replies);
+    run_on_new_tree(rt, rt.alloc(), DROPPED, 2, Replay::Replies);
 }
 
 /// Makes the calls of these rounds on a new tree, whose ledgers have types of their own, and
 /// asserts that its journal has so many entries, and what its replay ends with.
-pub(crate) fn on_new_tree<R: Threads + Wait + Abort + Copy + Send + Sync + 'static>(
+pub(crate) fn run_on_new_tree<R: Threads + Wait + Abort + Copy + Send + Sync + 'static>(
     rt: R,
     alloc: Global,
     rounds: &[Round],
     entries: usize,
     replay: Replay,
 ) {
-    done::<Brand, Brand, R>(rt, alloc, Ledgers::new(), rounds, entries, replay);
+    run_on_tree::<Brand, Brand, R>(rt, alloc, Ledgers::new(), rounds, entries, replay);
 }
 
-fn done<
+fn run_on_tree<
     C: TreeLedger + Send + Sync + 'static,
     S: Ledger + Send + Sync + 'static,
     R: Threads + Wait + Abort + Copy + Send + Sync + 'static,
@@ -185,13 +185,13 @@ fn done<
     let root = root.expect(&rt, "no refusal");
     let (mut shares, mut receipts) = (Vec::new(alloc), Vec::new(alloc));
     work_in_rounds(rt, alloc, &root, rounds, &mut shares, &mut receipts);
-    let journal = closed(&rt, root, shares);
+    let journal = close_tree(&rt, root, shares);
     assert_receipts(&rt, alloc, &journal, &receipts, entries);
     assert_replay(&rt, alloc, &journal, &receipts, replay);
 }
 
 /// Makes a call, keeps its receipt, and returns the reply.
-pub(crate) fn call<C: TreeLedger, S: Ledger, R: Wait + Abort>(
+pub(crate) fn make_call<C: TreeLedger, S: Ledger, R: Wait + Abort>(
     rt: &R,
     alloc: Global,
     item: &mut RecordedItem<C, S>,
@@ -206,7 +206,7 @@ pub(crate) fn call<C: TreeLedger, S: Ledger, R: Wait + Abort>(
 }
 
 /// Adds a task below the root, and returns its handle.
-pub(crate) fn add<C: TreeLedger, S: Ledger, R: Wait + Abort>(
+pub(crate) fn add_task<C: TreeLedger, S: Ledger, R: Wait + Abort>(
     rt: &R,
     alloc: Global,
     item: &mut RecordedItem<C, S>,
@@ -216,7 +216,7 @@ pub(crate) fn add<C: TreeLedger, S: Ledger, R: Wait + Abort>(
     let name = Text::from_str(alloc, name).expect(rt, "memory");
     let (parent, id) = (0, UNKNOWN);
     let event = Event::AddChild { parent, name, id };
-    match call(rt, alloc, item, receipts, event) {
+    match make_call(rt, alloc, item, receipts, event) {
         Reply::Made(handle) => handle,
         _ => panic!(rt; "no handle"),
     }
@@ -229,7 +229,7 @@ fn add_first<C: TreeLedger, S: Ledger, R: Wait + Abort>(
     item: &mut RecordedItem<C, S>,
     receipts: &mut Vec<Receipt<C>>,
 ) {
-    assert_same(rt, add(rt, alloc, item, receipts, "task"), 1, "handle");
+    assert_same(rt, add_task(rt, alloc, item, receipts, "task"), 1, "handle");
     let first = receipts.as_slice().last().expect(rt, "a receipt");
     assert_same(rt, first.number(), 0, "the first number");
 }
@@ -243,7 +243,7 @@ fn call_steps<C: TreeLedger, S: Ledger, R: Wait + Abort>(
     each: u32,
 ) {
     for _ in 0..each {
-        call(rt, alloc, item, receipts, Event::IncBy { item: 1, step: 3 });
+        make_call(rt, alloc, item, receipts, Event::IncBy { item: 1, step: 3 });
     }
 }
 
@@ -258,7 +258,7 @@ fn call_each_kind<C: TreeLedger, S: Ledger, R: Wait + Abort>(
     for kind in 0..KINDS - 1 {
         let event = event_of_kind(alloc, kind, task, 2).expect(rt, "memory");
         assert!(rt; !event.is_frame(), "a frame");
-        call(rt, alloc, item, receipts, event);
+        make_call(rt, alloc, item, receipts, event);
     }
 }
 
@@ -271,10 +271,10 @@ fn call_mixed<C: TreeLedger, S: Ledger, R: Wait + Abort>(
     tasks: u32,
 ) {
     for number in 0..tasks {
-        let task = add(rt, alloc, item, receipts, "task");
+        let task = add_task(rt, alloc, item, receipts, "task");
         call_each_kind(rt, alloc, item, receipts, task);
         if number % 2 == 0 {
-            call(rt, alloc, item, receipts, Event::Drop { item: task });
+            make_call(rt, alloc, item, receipts, Event::Drop { item: task });
         }
     }
 }
@@ -303,8 +303,8 @@ fn do_work<C: TreeLedger, S: Ledger, R: Wait + Abort>(
         Work::AddFirst => add_first(rt, alloc, item, receipts),
         Work::Steps(each) => call_steps(rt, alloc, item, receipts, each),
         Work::Mixed(times) => call_mixed(rt, alloc, item, receipts, times),
-        Work::Snapshot => drop(call(rt, alloc, item, receipts, Event::Snapshot)),
-        Work::DropFirst => drop(call(rt, alloc, item, receipts, Event::Drop { item: 1 })),
+        Work::Snapshot => drop(make_call(rt, alloc, item, receipts, Event::Snapshot)),
+        Work::DropFirst => drop(make_call(rt, alloc, item, receipts, Event::Drop { item: 1 })),
         Work::CallDropped => assert_gone(rt, alloc, item),
         Work::Children => call_children(rt, alloc, item, receipts),
         Work::OneItem => call_in_order(rt, alloc, item, receipts),
@@ -312,34 +312,34 @@ fn do_work<C: TreeLedger, S: Ledger, R: Wait + Abort>(
 }
 
 /// A worker's share and its receipts.
-type Worked<C, S> = (Share<C, S>, Vec<Receipt<C>>);
+type WorkerResult<C, S> = (Share<C, S>, Vec<Receipt<C>>);
 
 /// What workers hand back.
-type Running<C, S> = Vec<JoinHandle<Worked<C, S>>>;
+type RunningWorkers<C, S> = Vec<JoinHandle<WorkerResult<C, S>>>;
 
 /// A worker in a thread of its own.
-fn worked<C: TreeLedger, S: Ledger, R: Wait + Abort>(
+fn run_worker<C: TreeLedger, S: Ledger, R: Wait + Abort>(
     rt: &R,
     alloc: Global,
     mut item: RecordedItem<C, S>,
     work: Work,
-) -> Worked<C, S> {
+) -> WorkerResult<C, S> {
     let mut receipts = Vec::new(alloc);
     do_work(rt, alloc, &mut item, &mut receipts, work);
     (item.give_back(), receipts)
 }
 
 /// Begins the workers of a round.
-fn begin<
+fn start_round<
     C: TreeLedger + Send + Sync + 'static,
     S: Ledger + Send + Sync + 'static,
     R: Threads + Wait + Abort + Copy + Send + Sync + 'static,
->(rt: R, alloc: Global, root: &RecordedRoot<C, S>, round: &Round) -> Running<C, S> {
+>(rt: R, alloc: Global, root: &RecordedRoot<C, S>, round: &Round) -> RunningWorkers<C, S> {
     let mut running = Vec::new(alloc);
     let work = round.work;
     for _ in 0..round.workers {
         let item = root.share(&rt).expect(&rt, "no refusal");
-        let worker = thread::spawn(&rt, move || worked(&rt, alloc, item, work));
+        let worker = thread::spawn(&rt, move || run_worker(&rt, alloc, item, work));
         running
             .push(worker.expect(&rt, "a thread"))
             .expect(&rt, "memory");
@@ -349,14 +349,14 @@ fn begin<
 
 /// Takes a worker's share and its receipts, and asserts that these are in order, and that the share
 /// has the calls and the sum of the round.
-fn take<C: TreeLedger, S: Ledger>(
+fn collect_result<C: TreeLedger, S: Ledger>(
     rt: &impl Abort,
     round: &Round,
-    worked: Worked<C, S>,
+    result: WorkerResult<C, S>,
     shares: &mut Vec<Share<C, S>>,
     receipts: &mut Vec<Receipt<C>>,
 ) {
-    let (share, mut given) = worked;
+    let (share, mut given) = result;
     assert_same(rt, share.calls(), round.calls, "calls");
     assert_same(rt, share.sum(), round.sum, "sum");
     assert_rising(rt, &given);
@@ -365,15 +365,15 @@ fn take<C: TreeLedger, S: Ledger>(
 }
 
 /// Waits for the workers of a round, and takes what they hand back.
-fn join_all<C: TreeLedger, S: Ledger, R: Threads + Wait + Abort>(
+fn join_round<C: TreeLedger, S: Ledger, R: Threads + Wait + Abort>(
     rt: &R,
     round: &Round,
-    running: Running<C, S>,
+    running: RunningWorkers<C, S>,
     shares: &mut Vec<Share<C, S>>,
     receipts: &mut Vec<Receipt<C>>,
 ) {
     for worker in running {
-        take(rt, round, worker.join(rt), shares, receipts);
+        collect_result(rt, round, worker.join(rt), shares, receipts);
     }
 }
 
@@ -391,13 +391,13 @@ fn work_in_rounds<
     receipts: &mut Vec<Receipt<C>>,
 ) {
     for round in rounds {
-        let running = begin(rt, alloc, root, round);
-        join_all(&rt, round, running, shares, receipts);
+        let running = start_round(rt, alloc, root, round);
+        join_round(&rt, round, running, shares, receipts);
     }
 }
 
 /// Asserts that a tree can't be closed with these shares, and that they are handed back.
-fn refused<C: TreeLedger, S: Ledger>(
+fn assert_unclosed<C: TreeLedger, S: Ledger>(
     rt: &(impl Wait + Abort),
     root: RecordedRoot<C, S>,
     shares: Vec<Share<C, S>>,
@@ -409,14 +409,14 @@ fn refused<C: TreeLedger, S: Ledger>(
 }
 
 /// Closes a tree with all its shares, after it was refused without the last.
-fn closed<C: TreeLedger, S: Ledger>(
+fn close_tree<C: TreeLedger, S: Ledger>(
     rt: &(impl Wait + Abort),
     root: RecordedRoot<C, S>,
     shares: Vec<Share<C, S>>,
 ) -> Journal<C> {
     let mut shares = shares;
     let last = shares.pop().expect(rt, "a share");
-    let unclosed = refused(rt, root, shares);
+    let unclosed = assert_unclosed(rt, root, shares);
     let mut shares = unclosed.shares;
     shares.push(last).expect(rt, "memory");
     let closed = unclosed.root.close(rt, shares).ok();
@@ -437,7 +437,11 @@ fn assert_replayed(
 }
 
 /// A new tree that gets the events of a journal has its replies.
-fn replayed<C: TreeLedger>(rt: &impl Abort, alloc: Global, journal: &Journal<C>) -> TreeState {
+fn replay_journal<C: TreeLedger>(
+    rt: &impl Abort,
+    alloc: Global,
+    journal: &Journal<C>,
+) -> TreeState {
     let mut tree = TreeState::new(alloc, &RootOptions::default()).expect(rt, "no refusal");
     for (event, reply) in journal.entries() {
         assert_replayed(rt, alloc, &mut tree, event, reply);
@@ -468,7 +472,7 @@ fn assert_replay<C: TreeLedger>(
     receipts: &[Receipt<C>],
     replay: Replay,
 ) {
-    let mut tree = replayed(rt, alloc, journal);
+    let mut tree = replay_journal(rt, alloc, journal);
     match replay {
         Replay::Replies => {}
         Replay::Step(want) => assert_step(rt, alloc, &mut tree, want),

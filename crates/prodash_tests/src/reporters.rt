@@ -13,7 +13,7 @@ use std::sync::atomic::Ordering;
 type Tallied = Reporter<Tally, Stopped>;
 
 /// Makes each call that changes the progress.
-fn change(rt: &impl Abort, reporter: &mut Tallied) {
+fn change_each(rt: &impl Abort, reporter: &mut Tallied) {
     reporter.init(Some(10), Some(label("items")));
     reporter.set_max(Some(20));
     reporter.set_name("other").expect(rt, "no refusal");
@@ -53,7 +53,7 @@ fn reporters_hand_all_on(rt: HostRuntime) {
     let clock = Stopped::at(&rt, alloc, NOW);
     let mut reporter = Reporter::new(alloc, Tally::new(&rt, alloc), clock);
     assert_same(&rt, reporter.now(), NOW, "moment");
-    change(&rt, &mut reporter);
+    change_each(&rt, &mut reporter);
     send_each(&rt, &reporter);
     assert_all_called(&rt, &reporter);
     assert_same(&rt, reporter.into_progress().id(), *b"TALL", "progress");
@@ -78,7 +78,7 @@ const SENT: &[Sent] = &[
 ];
 
 /// Sends what the default bodies send, each message one nanosecond after the one before.
-fn send<P: Progress>(rt: &impl Abort, reporter: &mut Reporter<P, Stopped>) {
+fn send_defaults<P: Progress>(rt: &impl Abort, reporter: &mut Reporter<P, Stopped>) {
     reporter.init(None, Some(label("steps")));
     reporter.sleep(1);
     reporter.info("one").expect(rt, "no refusal");
@@ -114,7 +114,7 @@ fn reporters_send_at_the_moment_of_the_clock(rt: HostRuntime) {
     let alloc = rt.alloc();
     let (root, item) = root_with_task(rt, rt.alloc());
     let mut reporter = Reporter::new(alloc, item, Stopped::at(&rt, alloc, 0));
-    send(&rt, &mut reporter);
+    send_defaults(&rt, &mut reporter);
     send_below(&rt, &mut reporter);
     assert_sent(&rt, alloc, &root, SENT);
 }

@@ -17,14 +17,14 @@ pub(crate) const START: Moment = 1_000_000_000;
 pub(crate) const NOW: Moment = 3_500_000_000;
 
 /// Makes each call of a counter that changes it.
-fn count<C: Count>(progress: &C) {
+fn count_each<C: Count>(progress: &C) {
     progress.set(7);
     progress.inc_by(2);
     progress.inc();
 }
 
 /// Makes each call that sends.
-fn send<P: Progress>(rt: &impl Abort, alloc: Global, progress: &P) {
+fn send_each<P: Progress>(rt: &impl Abort, alloc: Global, progress: &P) {
     progress
         .message(alloc, NOW, MessageLevel::Failure, "sent")
         .expect(rt, "no refusal");
@@ -45,8 +45,8 @@ pub(crate) fn call_each<P: Progress>(rt: &impl Abort, alloc: Global, progress: &
     progress.init(Some(10), Some(label("items")));
     progress.set_max(Some(20));
     progress.set_name(alloc, "other").expect(rt, "no refusal");
-    count(progress);
-    send(rt, alloc, progress);
+    count_each(progress);
+    send_each(rt, alloc, progress);
 }
 
 /// A message in short: its moment, level and text.
@@ -125,7 +125,7 @@ impl Tally {
     }
 
     /// Counts a call, if its arguments are those of the tests.
-    fn count(&self, place: u64, counts: bool) {
+    fn count_each(&self, place: u64, counts: bool) {
         if counts {
             self.calls.fetch_add(place, Ordering::SeqCst);
         }
@@ -251,7 +251,7 @@ fn assert_hands_all_on<P: Progress>(rt: &impl Abort, alloc: Global, progress: &m
 fn references_hand_all_on(rt: HostRuntime) {
     let alloc: Global = rt.alloc();
     let tally = Tally::new(&rt, alloc);
-    count(&&tally);
+    count_each(&&tally);
     assert_step(&rt, alloc, &&tally, COUNTED);
     let mut tally = Tally::new(&rt, alloc);
     assert_hands_all_on(&rt, alloc, &mut &mut tally);

@@ -67,9 +67,9 @@ impl<L: Logger + Drop, K: Clock + Drop> Model for Log<L, K> {
 }
 
 impl<L: Logger + Drop, K: Clock + Drop + Send + Sync + 'static> Log<L, K> {
-    /// Returns a log of this name, which logs the steps of itself and of the logs below it down to
-    /// `max_level`, or of all if it is `None`. It starts a thread, which ends after the last of
-    /// them is dropped.
+    /// Returns a log with this name. Its steps and those of the logs below it are logged down to
+    /// `max_level`, or at all levels if that is `None`. It starts a thread, which ends after the last
+    /// of these logs is dropped.
     ///
     /// # Errors
     ///
@@ -88,7 +88,7 @@ impl<L: Logger + Drop, K: Clock + Drop + Send + Sync + 'static> Log<L, K> {
         Log::with_stack_size(rt, alloc, name, max_level, logger, clock, STACK_SIZE)
     }
 
-    /// Does what `new` does, with a stack of this size for the thread, in bytes.
+    /// Does what `new` does. The stack of the thread has `stack_size` bytes.
     ///
     /// # Errors
     ///
@@ -118,13 +118,13 @@ impl<L: Logger + Drop, K: Clock + Drop + Send + Sync + 'static> Log<L, K> {
             logger: Arc::new(alloc, logger)?,
             clock: PhantomData,
         };
-        ticker::start(rt, Arc::try_clone(&log.trigger)?, clock, stack_size)?;
+        ticker::start_ticker(rt, Arc::try_clone(&log.trigger)?, clock, stack_size)?;
         Ok(log)
     }
 }
 
 impl<L: Logger + Drop, K: Clock + Drop> Log<L, K> {
-    /// Returns the line that would be logged now, as `main::work → 3 / 10`.
+    /// Returns the line that would be logged now, such as `main::work → 3 / 10`.
     ///
     /// # Errors
     ///
@@ -133,10 +133,10 @@ impl<L: Logger + Drop, K: Clock + Drop> Log<L, K> {
         ensures ok { IfOk result (λ line. IsLineOf self.now (string_bytes line)) }
         ensures reason { IsOkUnless result Refusal.Memory }
     {
-        texts::line(alloc, self.name.as_str(), self.max, self.unit, self.step())
+        texts::step_line(alloc, self.name.as_str(), self.max, self.unit, self.step())
     }
 
-    /// Returns the line of a message, as `✓main::work → done`.
+    /// Returns the line of a message, such as `✓main::work → done`.
     ///
     /// # Errors
     ///
@@ -147,8 +147,8 @@ impl<L: Logger + Drop, K: Clock + Drop> Log<L, K> {
         level: MessageLevel,
         message: &str,
     ) -> Result<String, Refusal>
-        ensures ok { IfOk result (λ line. string_bytes line
-            ≡ message_text self.now.name level message.now) }
+        ensures ok { IfOk result (λ it.
+            string_bytes it ≡ message_text self.now.name level message.now) }
         ensures reason { IsOkUnless result Refusal.Memory }
     {
         texts::message_line(alloc, self.name.as_str(), level, message)
@@ -167,7 +167,7 @@ impl<L: Logger + Drop, K: Clock + Drop> Log<L, K> {
         self.log_step();
     }
 
-    /// Adds 1 to the step, as `inc_by`.
+    /// Adds 1 to the counter, as `inc_by` does.
     pub fn inc(&self) {
         self.inc_by(1);
     }
@@ -210,7 +210,7 @@ impl<L: Logger + Drop, K: Clock + Drop> Log<L, K> {
         self.max
     }
 
-    /// Sets the bound, and returns the bound before.
+    /// Sets the bound, and returns the previous one.
     pub fn set_max(&mut self, max: Option<Step>) -> Option<Step>
         ensures previous { result ≡ self.old.max }
         ensures set { self.new ≡ record self.old { max = max } }
@@ -225,8 +225,8 @@ impl<L: Logger + Drop, K: Clock + Drop> Log<L, K> {
         self.id
     }
 
-    /// Replaces all of the joined name but its first part: `main::work`, set to `rest`, is
-    /// `main::rest`, and `main` is too.
+    /// Replaces everything after the first part of the joined name: both `main` and `main::work`,
+    /// set to `rest`, become `main::rest`.
     ///
     /// # Errors
     ///
@@ -241,8 +241,8 @@ impl<L: Logger + Drop, K: Clock + Drop> Log<L, K> {
         Ok(())
     }
 
-    /// Returns a copy of the second part of the joined name, or `None` if it has only one: of
-    /// `main::work::part` it is `work`.
+    /// Returns a copy of the second part of the joined name, or `None` if it has only one part. For
+    /// `main::work::part` that is `work`.
     ///
     /// # Errors
     ///
@@ -281,8 +281,8 @@ impl<L: Logger + Drop, K: Clock + Drop> Log<L, K> {
         Ok(())
     }
 
-    /// Returns a log below this one, without a bound and a unit, at step 0. Together they log at
-    /// most one step per half second.
+    /// Returns a log below this one, at step 0, without a bound or a unit. Together they log at most
+    /// one step per half second.
     ///
     /// # Errors
     ///
@@ -294,7 +294,7 @@ impl<L: Logger + Drop, K: Clock + Drop> Log<L, K> {
         self.add_child_with_id(alloc, name, UNKNOWN)
     }
 
-    /// Returns a log with an identifier below this one, as `add_child`.
+    /// Does what `add_child` does, and gives the log an identifier.
     ///
     /// # Errors
     ///
@@ -319,7 +319,7 @@ impl<L: Logger + Drop, K: Clock + Drop> Log<L, K> {
     }
 
     /// Logs the current line and clears the trigger, if steps of this level are logged and the
-    /// trigger is set. A line that runs out of memory is skipped.
+    /// trigger is set. If there is no memory for the line, it is skipped.
     fn log_step(&self) {
         if self.max_level.is_some_and(|most| self.level > most) {
             return;

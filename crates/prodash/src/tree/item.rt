@@ -4,12 +4,12 @@ ghost use Rattle.prodash_base.specs.Refusals.{RefusesMessage};
 ghost use Rattle.prodash_base.specs.declared.messages.MessageLevel.TheVariants.{Info, Failure, Success};
 ghost use Rattle.prodash_base.specs.Rows.{Blocked, Halted, Running, phase_of, unknown_id};
 ghost use Rattle.prodash.specs.Items.{new_place, next_path, with_child};
-ghost use Rattle.prodash.specs.Turns.{Finds, Changes, HasName, HasId, HasBound, HasUnit, Stays, Begins, SetsName, SetsBound, SetsPhase, Sends, Adds};
+ghost use Rattle.prodash.specs.Turns.{Finds, Changes, HasName, HasId, HasBound, HasUnit, Stays, Begins, SetsName, SetsBound, SetsPhase, Sends, AddsBelow};
 
 use crate::messages::MessageLevel;
 use crate::progress::{Id, Key, State, Step, StepShared, UNKNOWN, key};
 use crate::time::Moment;
-use crate::tree::locked::Locked;
+use crate::tree::locked::LockedTree;
 use crate::tree::steps::Steps;
 use crate::tree::turns::TakesTurns;
 use crate::unit::Unit;
@@ -19,9 +19,9 @@ use std::fmt;
 use std::marker::Model;
 use std::sync::{Arc, Mutex, Wait};
 
-/// An item of the tree. Dropping it removes its task, but not the tasks below it. All calls but
-/// those on its step may wait for the lock of the tree, and so may its drop. Contracts see its path
-/// and the number of its next child.
+/// An item of the tree. Dropping it removes its task, but not the tasks below it. Its drop and all
+/// calls except those on its step may wait for the lock of the tree. Contracts see its path and the
+/// number of its next child.
 ///
 /// ```rust
 /// let mut task = root.add_child(alloc, "task")?;
@@ -33,7 +33,7 @@ use std::sync::{Arc, Mutex, Wait};
 /// ```
 pub struct Item<R: Wait + Clone + Drop> {
     rt: R,
-    shared: Arc<Mutex<Locked>>,
+    shared: Arc<Mutex<LockedTree>>,
     key: Key,
     next_child: u32,
     slot: usize,
@@ -49,10 +49,10 @@ impl<R: Wait + Clone + Drop> Model for Item<R> {
 }
 
 impl<R: TakesTurns> Item<R> {
-    /// Returns the item at a key that has a slot.
+    /// Returns the item at a key, with its slot and its steps.
     pub(crate) fn new(
         rt: R,
-        shared: Arc<Mutex<Locked>>,
+        shared: Arc<Mutex<LockedTree>>,
         key: Key,
         slot: usize,
         steps: Steps,
@@ -103,8 +103,8 @@ impl<R: TakesTurns> Item<R> {
     ///
     /// `Memory`, if there is no memory for the copy.
     pub fn name(&self, alloc: Global) -> Result<Option<String>, Refusal>
-        ensures ok { IfOk result (λ name.
-            Finds R.found (HasName self.now.path (option_map string_bytes name))) }
+        ensures ok { IfOk result (λ n.
+            Finds R.found (HasName self.now.path (option_map string_bytes n))) }
         ensures reason { IsOkUnless result Refusal.Memory }
     {
         let (tree, _turn) = self.rt.begin_turn(&self.shared);
@@ -135,7 +135,7 @@ impl<R: TakesTurns> Item<R> {
         tree.table.unit(self.key)
     }
 
-    /// Sets the bound of the item's progress, if it has progress, and returns the bound before.
+    /// Sets the bound of the item's progress, if it has progress, and returns the previous one.
     pub fn set_max(&self, max: Option<Step>) -> Option<Step>
         ensures { Changes R.found R.left (SetsBound self.now.path max result) }
     {
@@ -224,15 +224,14 @@ impl<R: TakesTurns> Item<R> {
         ensures child { IfOk result (λ child. child ≡ new_place (next_path self.old)) }
         ensures ok { OnOk result (self.new ≡ with_child self.old) }
         ensures added { OnOk result
-            (Changes R.found R.left (Adds (next_path self.old) name.now unknown_id)) }
+            (Changes R.found R.left (AddsBelow self.old name.now unknown_id)) }
         ensures err { OnErr result (self.new ≡ self.old) }
         ensures reason { IsOkUnless result Refusal.Memory }
     {
         self.add_child_with_id(alloc, name, UNKNOWN)
     }
 
-    /// Adds an item with an identifier below this one. A child of an item at the sixth level gets
-    /// that item's path with the last number replaced, and replaces the entry that is there.
+    /// Does what `add_child` does, and gives the item an identifier.
     ///
     /// # Errors
     ///
@@ -246,7 +245,7 @@ impl<R: TakesTurns> Item<R> {
         ensures child { IfOk result (λ child. child ≡ new_place (next_path self.old)) }
         ensures ok { OnOk result (self.new ≡ with_child self.old) }
         ensures added { OnOk result
-            (Changes R.found R.left (Adds (next_path self.old) name.now id)) }
+            (Changes R.found R.left (AddsBelow self.old name.now id)) }
         ensures err { OnErr result (self.new ≡ self.old) }
         ensures reason { IsOkUnless result Refusal.Memory }
     {
@@ -254,7 +253,7 @@ impl<R: TakesTurns> Item<R> {
         let shared = Arc::try_clone(&self.shared)?;
         let key = self.key.add_child(self.next_child);
         let (mut tree, turn) = self.rt.begin_turn(&self.shared);
-        let added = tree.insert(alloc, key, name, id);
+        let added = tree.insert_task(alloc, key, name, id);
         self.rt.end_turn(tree, turn);
         let (slot, steps) = added?;
         self.next_child = key::next_id(self.next_child);
@@ -342,7 +341,7 @@ impl<R: Wait + Clone + Drop> fmt::Debug for Item<R> {
 impl<R: Wait + Clone + Drop> Drop for Item<R> {
     /// Removes the item's task.
     fn drop(self) {
-        self.shared.lock(&self.rt).remove(self.key, self.slot);
+        self.shared.lock(&self.rt).remove_task(self.key, self.slot);
         let Item {
             rt: _,
             shared: _,

@@ -8,11 +8,12 @@
 mod history;
 mod journal;
 mod ledgers;
-mod locked;
+mod locked_recording;
 mod receipt;
 mod root;
 mod share;
 mod state;
+mod unshared_parts;
 
 pub use history::History;
 pub use journal::Journal;

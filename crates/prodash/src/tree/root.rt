@@ -7,12 +7,12 @@ ghost use Rattle.prodash_base.specs.Path.{child, child_limit};
 ghost use Rattle.prodash.specs.Items.{new_place};
 ghost use Rattle.prodash_base.specs.Rows.{rows_of, unknown_id};
 ghost use Rattle.prodash.specs.Locks.{with_owner};
-ghost use Rattle.prodash.specs.Turns.{Finds, Changes, HasTasks, KeepsAtMost, HasRows, HasMessages, HasNews, HasRowsAndNews, AddsChild, GetsOwner, Upgrades};
+ghost use Rattle.prodash.specs.Turns.{Finds, Changes, HasTasks, KeepsAtMost, HasRows, HasMessages, HasNews, HasRowsAndNews, CopiesRowsAndNews, AddsChild, GetsOwner, Upgrades};
 
 use crate::messages::{Message, MessageCopyState, Messages};
 use crate::progress::{Id, Row, Rows, UNKNOWN};
 use crate::tree::item::Item;
-use crate::tree::locked::Locked;
+use crate::tree::locked::LockedTree;
 use crate::tree::turns::TakesTurns;
 use prodash_base::Refusal;
 use std::alloc::Global;
@@ -48,13 +48,13 @@ impl Options {
     pub fn create<R: Wait + Clone + Drop>(self, rt: R, alloc: Global) -> Result<Root<R>, Refusal>
         ensures { IsOkUnless result Refusal.Memory }
     {
-        let locked = Locked::new(alloc, self.message_buffer_capacity)?;
+        let locked = LockedTree::new(alloc, self.message_buffer_capacity)?;
         let shared = Arc::new(alloc, Mutex::new(locked))?;
         Ok(Root { rt, shared })
     }
 }
 
-/// An owner of a tree that threads share. The tree is behind one lock: all calls but those on
+/// An owner of a tree that threads share. The tree is behind one lock: all calls except those on
 /// counters may wait for it.
 ///
 /// ```rust
@@ -68,7 +68,7 @@ impl Options {
 /// ```
 pub struct Root<R: Wait + Clone + Drop> {
     rt: R,
-    shared: Arc<Mutex<Locked>>,
+    shared: Arc<Mutex<LockedTree>>,
 }
 
 impl<R: TakesTurns> Root<R> {
@@ -91,14 +91,14 @@ impl<R: TakesTurns> Root<R> {
     pub fn add_child(&self, alloc: Global, name: &str) -> Result<Item<R>, Refusal>
         ensures ok { IfOk result (λ item. (n : ℕ) × (n < child_limit)
             × (item ≡ new_place (child [] n))) }
-        ensures added { IfOk result (λ item.
-            Changes R.found R.left (AddsChild item.path name.now unknown_id)) }
+        ensures added { IfOk result (λ it.
+            Changes R.found R.left (AddsChild it.path name.now unknown_id)) }
         ensures reason { IsOkUnless result Refusal.Memory }
     {
         self.add_child_with_id(alloc, name, UNKNOWN)
     }
 
-    /// Adds an item with an identifier below the root.
+    /// Does what `add_child` does, and gives the item an identifier.
     ///
     /// # Errors
     ///
@@ -106,8 +106,8 @@ impl<R: TakesTurns> Root<R> {
     pub fn add_child_with_id(&self, alloc: Global, name: &str, id: Id) -> Result<Item<R>, Refusal>
         ensures ok { IfOk result (λ item. (n : ℕ) × (n < child_limit)
             × (item ≡ new_place (child [] n))) }
-        ensures added { IfOk result (λ item.
-            Changes R.found R.left (AddsChild item.path name.now id)) }
+        ensures added { IfOk result (λ it.
+            Changes R.found R.left (AddsChild it.path name.now id)) }
         ensures reason { IsOkUnless result Refusal.Memory }
     {
         let rt = self.rt.clone()?;
@@ -136,8 +136,8 @@ impl<R: TakesTurns> Root<R> {
     }
 
     /// Replaces the contents of `out` with the rows, in ascending order of their keys, each key
-    /// once. A name is copied only if `out` has another one at its place: if it has the rows of an
-    /// earlier snapshot, and the tasks are still the same, nothing is allocated.
+    /// once. A name is copied only if `out` has a different one at that index: if it has the rows of
+    /// an earlier snapshot, and the tasks are still the same, nothing is allocated.
     ///
     /// # Errors
     ///
@@ -149,7 +149,7 @@ impl<R: TakesTurns> Root<R> {
         ensures reason { IsOkUnless result Refusal.Memory }
     {
         let (tree, _turn) = self.rt.begin_turn(&self.shared);
-        tree.rows(alloc, out)
+        tree.copy_rows(alloc, out)
     }
 
     /// Replaces the contents of `out` with the kept messages, the oldest first.
@@ -188,7 +188,7 @@ impl<R: TakesTurns> Root<R> {
         tree.ring.copy_new(alloc, out, previous)
     }
 
-    /// Does what `sorted_snapshot` and `copy_new_messages` do, under one lock.
+    /// Does what `sorted_snapshot` and `copy_new_messages` do, and takes the lock once for both.
     ///
     /// # Errors
     ///
@@ -201,41 +201,41 @@ impl<R: TakesTurns> Root<R> {
         messages: &mut Vec<Message>,
         previous: Option<MessageCopyState>,
     ) -> Result<MessageCopyState, Refusal>
-        ensures ok { IfOk result (λ state. Finds R.found
-            (HasRowsAndNews previous (rows_of rows.new.items) messages.new.items state)) }
+        ensures ok { IfOk result
+            (CopiesRowsAndNews R.found previous rows.new.items messages.new.items) }
         ensures ascending { OnOk result (IsAscending (paths_of rows.new.items)) }
         ensures err_rows { OnErr result (rows.new.items ≡ rows.old.items) }
         ensures err_messages { OnErr result (messages.new.items ≡ messages.old.items) }
         ensures reason { IsOkUnless result Refusal.Memory }
     {
-        let (news, state) = self.rows_and_news(alloc, rows, previous)?;
+        let (news, state) = self.copy_rows_and_new_messages(alloc, rows, previous)?;
         *messages = news.into_vec();
         Ok(state)
     }
 
     /// Replaces the contents of `rows` with the rows, and returns the new messages and the state
     /// for the next copy.
-    fn rows_and_news(
+    fn copy_rows_and_new_messages(
         &self,
         alloc: Global,
         rows: &mut Vec<Row>,
         previous: Option<MessageCopyState>,
     ) -> Result<(Messages, MessageCopyState), Refusal>
-        ensures ok { IfOk result (λ news. Finds R.found
-            (HasRowsAndNews previous (rows_of rows.new.items) news.0 news.1)) }
+        ensures ok { IfOk result (λ news.
+            CopiesRowsAndNews R.found previous rows.new.items news.0 news.1) }
         ensures ascending { OnOk result (IsAscending (paths_of rows.new.items)) }
         ensures err { OnErr result (rows.new.items ≡ rows.old.items) }
         ensures reason { IsOkUnless result Refusal.Memory }
     {
         let (tree, _turn) = self.rt.begin_turn(&self.shared);
-        tree.rows_and_news(alloc, rows, previous)
+        tree.copy_rows_and_new_messages(alloc, rows, previous)
     }
 
-    /// Returns the rows, the new messages and the state that `snapshot_and_new_messages` gives. Rows
-    /// and messages are in the memory of `spare`, whose contents don't matter. A name is copied only
-    /// if `spare` has another one at its place: if those are rows of an earlier look, and the tasks
-    /// are still the same, nothing is allocated for them. Nor is it for a message if `spare` has one
-    /// at its place whose texts are as long.
+    /// Returns the rows, the new messages and the state that `snapshot_and_new_messages` gives. It
+    /// reuses the memory of `spare`, whatever it contains. A name is copied only if `spare` has a
+    /// different one at that index: if it has the rows of an earlier look, and the tasks are still
+    /// the same, nothing is allocated for them. Nor is anything allocated for a message if `spare`
+    /// has one at that index whose texts are as long.
     ///
     /// # Errors
     ///
@@ -294,7 +294,7 @@ impl<R: TakesTurns> Root<R> {
         ensures reason { IfErr result RefusesHandle }
     {
         let (mut tree, turn) = self.rt.begin_turn(&self.shared);
-        let root = one_more_owner(&self.rt, &self.shared, &mut tree);
+        let root = add_owner(&self.rt, &self.shared, &mut tree);
         self.rt.end_turn(tree, turn);
         root
     }
@@ -305,7 +305,7 @@ impl<R: TakesTurns> Root<R> {
 #[derive(Drop)]
 pub struct WeakHandle<R: Wait + Clone + Drop> {
     rt: R,
-    shared: Arc<Mutex<Locked>>,
+    shared: Arc<Mutex<LockedTree>>,
 }
 
 impl<R: TakesTurns> WeakHandle<R> {
@@ -320,17 +320,17 @@ impl<R: TakesTurns> WeakHandle<R> {
         ensures reason { IfErr result RefusesHandle }
     {
         let (mut tree, turn) = self.rt.begin_turn(&self.shared);
-        let root = upgraded(&self.rt, &self.shared, &mut tree);
+        let root = upgrade_owner(&self.rt, &self.shared, &mut tree);
         self.rt.end_turn(tree, turn);
         root
     }
 }
 
-/// Returns another owner of a tree, and counts it.
-fn one_more_owner<R: Wait + Clone + Drop>(
+/// Adds an owner to a tree, and returns it.
+fn add_owner<R: Wait + Clone + Drop>(
     rt: &R,
-    shared: &Arc<Mutex<Locked>>,
-    locked: &mut Locked,
+    shared: &Arc<Mutex<LockedTree>>,
+    locked: &mut LockedTree,
 ) -> Result<Root<R>, Refusal>
     ensures ok { OnOk result (locked.new ≡ with_owner locked.old) }
     ensures err { OnErr result (locked.new ≡ locked.old) }
@@ -346,11 +346,11 @@ fn one_more_owner<R: Wait + Clone + Drop>(
     Ok(Root { rt, shared })
 }
 
-/// Returns another owner of a tree, and counts it, or `None` if the tree has no owner left.
-fn upgraded<R: Wait + Clone + Drop>(
+/// Adds an owner to a tree that has one, and returns it. Returns `None` if the tree has none left.
+fn upgrade_owner<R: Wait + Clone + Drop>(
     rt: &R,
-    shared: &Arc<Mutex<Locked>>,
-    locked: &mut Locked,
+    shared: &Arc<Mutex<LockedTree>>,
+    locked: &mut LockedTree,
 ) -> Result<Option<Root<R>>, Refusal>
     ensures ok { IfOk result (λ root. Upgrades (is_some root) locked.old locked.new) }
     ensures err { OnErr result (locked.new ≡ locked.old) }
@@ -360,11 +360,11 @@ fn upgraded<R: Wait + Clone + Drop>(
     if locked.owners == 0 {
         return Ok(None);
     }
-    Ok(Some(one_more_owner(rt, shared, locked)?))
+    Ok(Some(add_owner(rt, shared, locked)?))
 }
 
 impl<R: Wait + Clone + Drop> Drop for Root<R> {
-    /// Counts one owner of the tree fewer.
+    /// Removes an owner of the tree.
     fn drop(self) {
         self.shared.lock(&self.rt).remove_owner();
         let Root { rt: _, shared: _ } = self;

@@ -6,8 +6,8 @@ use prodash_base::Refusal;
 use std::sync::Arc;
 use std::sync::atomic::Ordering;
 
-/// The counter of an item or a log. Each call but `counter` is one atomic operation, and none waits
-/// for the lock of a tree, so that code that must not wait can report its steps.
+/// The counter of an item or a log. Each call except `counter` is one atomic operation, and none
+/// waits for the lock of a tree, so that code that must not wait can report its steps.
 ///
 /// ```rust
 /// let steps = item.steps();
@@ -21,7 +21,7 @@ pub struct Steps {
 }
 
 impl Steps {
-    /// Returns the steps that a counter counts.
+    /// Returns steps that are counted by this counter.
     pub(crate) fn new(counter: StepShared) -> Steps {
         Steps { counter }
     }

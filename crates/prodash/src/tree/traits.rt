@@ -2,7 +2,7 @@
 //! in one turn at the lock of the tree.
 ghost use Rattle.std.specs.Prelude.{◌≡◌, is_some};
 ghost use Rattle.prodash.specs.Items.{new_place, next_path, with_child};
-ghost use Rattle.prodash.specs.Turns.{Finds, Changes, HasTasks, KeepsAtMost, HasRows, HasMessages, HasNews, HasRowsAndNews, HasName, HasId, HasBound, HasUnit, Begins, SetsName, SetsBound, Sends, Adds, Upgrades};
+ghost use Rattle.prodash.specs.Turns.{Finds, Changes, HasTasks, KeepsAtMost, HasRows, HasMessages, HasNews, HasRowsAndNews, HasName, HasId, HasBound, HasUnit, Begins, SetsName, SetsBound, Sends, AddsBelow, Upgrades};
 
 use crate::messages::{Message, MessageCopyState, MessageLevel, Messages};
 use crate::progress::{Id, Row, Rows, Step, StepShared};
@@ -116,7 +116,7 @@ impl<R: TakesTurns + Send + Sync> NestedProgress for Item<R> {
 
     ghost gets_child = { λ item name id after child. (after ≡ with_child item)
         × (child ≡ new_place (next_path item))
-        × Changes R.found R.left (Adds (next_path item) name id) };
+        × Changes R.found R.left (AddsBelow item name id) };
 
     fn add_child(&mut self, alloc: Global, name: &str) -> Result<Item<R>, Refusal> {
         Item::add_child(self, alloc, name)

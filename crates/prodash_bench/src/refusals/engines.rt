@@ -27,9 +27,9 @@ type Drawing = Engine<MemoryScreen, WeakScene>;
 /// Draws the same frames by two engines. At least one of them is refused no memory, and the other
 /// one must write what it does.
 pub(crate) fn run(alloc: Global, calls: &mut Calls) -> Result<(), Fault> {
-    let turn = Arc::new(alloc, AtomicU64::new(0))?;
-    let mut first = new(alloc, &turn, calls)?;
-    let mut second = new(alloc, &turn, calls)?;
+    let turn = Arc::new_engine(alloc, AtomicU64::new_engine(0))?;
+    let mut first = new_engine(alloc, &turn, calls)?;
+    let mut second = new_engine(alloc, &turn, calls)?;
     draw_all(&turn, &mut first, &mut second, calls)
 }
 
@@ -42,13 +42,13 @@ fn draw_all(
 ) -> Result<(), Fault> {
     for frame in 0..FRAMES {
         turn.store(frame.min(TURNS - 1), Ordering::SeqCst);
-        draw(first, second, event(frame), calls)?;
+        draw_by_both(first, second, event_of_frame(frame), calls)?;
     }
     Ok(())
 }
 
 /// Returns the event of a frame.
-fn event(frame: u64) -> EngineEvent {
+fn event_of_frame(frame: u64) -> EngineEvent {
     let at = frame.wrapping_mul(TURN);
     match frame {
         5 => EngineEvent::Resize {
@@ -63,28 +63,35 @@ fn event(frame: u64) -> EngineEvent {
 }
 
 /// Makes an engine that measures throughput.
-fn new(alloc: Global, turn: &Arc<AtomicU64>, calls: &mut Calls) -> Result<Drawing, Fault> {
+fn new_engine(alloc: Global, turn: &Arc<AtomicU64>, calls: &mut Calls) -> Result<Drawing, Fault> {
     calls.begin("Engine::new");
-    let screen = MemoryScreen::new(alloc, ROOM)?;
-    let weak = WeakScene::new(Arc::try_clone(turn)?);
-    Ok(Engine::new(alloc, screen, weak, draw::Options::default(), true)?)
+    let screen = MemoryScreen::new_engine(alloc, ROOM)?;
+    let weak = WeakScene::new_engine(Arc::try_clone(turn)?);
+    Ok(Engine::new_engine(alloc, screen, weak, draw::Options::default(), true)?)
 }
 
 /// Has both engines draw the frame of an event.
-fn draw(
+fn draw_by_both(
     first: &mut Drawing,
     second: &mut Drawing,
     event: EngineEvent,
     calls: &mut Calls,
 ) -> Result<(), Fault> {
-    let answers = (step(first, event, calls)?, step(second, event, calls)?);
+    let answers = (
+        step_engine(first, event, calls)?,
+        step_engine(second, event, calls)?,
+    );
     let bytes = first.screen().bytes();
     calls.expect(answers.0 == answers.1 && bytes == second.screen().bytes() && !bytes.is_empty());
     Ok(())
 }
 
 /// Has an engine draw the frame of an event.
-fn step(engine: &mut Drawing, event: EngineEvent, calls: &mut Calls) -> Result<Answer, Refusal> {
+fn step_engine(
+    engine: &mut Drawing,
+    event: EngineEvent,
+    calls: &mut Calls,
+) -> Result<Answer, Refusal> {
     calls.begin("Engine::step");
     let written = engine.screen().bytes().len();
     match engine.step(event) {

@@ -27,7 +27,7 @@ pub(crate) fn run(alloc: Global, calls: &mut Calls) -> Result<(), Fault> {
     let mut at = 0;
     tracker.update_elapsed(at);
     for (step, rate) in STEPS {
-        tracker = copy(alloc, &tracker, calls)?;
+        tracker = copy_tracker(alloc, &tracker, calls)?;
         at = at.wrapping_add(FRAME);
         tracker.update_elapsed(at);
         observe(alloc, &mut tracker, &first, *step, *rate, calls)?;
@@ -63,7 +63,11 @@ fn observe(
 }
 
 /// Returns a copy of the tracker.
-fn copy(alloc: Global, tracker: &Throughput, calls: &mut Calls) -> Result<Throughput, Fault> {
+fn copy_tracker(
+    alloc: Global,
+    tracker: &Throughput,
+    calls: &mut Calls,
+) -> Result<Throughput, Fault> {
     calls.begin("Throughput::copy");
     match tracker.copy(alloc, &[]) {
         Ok(copy) => Ok(copy),

@@ -29,7 +29,7 @@ struct Drawn {
 
 /// Applies all events to two sessions.
 pub(crate) fn run(alloc: Global, calls: &mut Calls) -> Result<(), Fault> {
-    let mut first = new(alloc, calls)?;
+    let mut first = new_session(alloc, calls)?;
     let applied = apply_to_another(alloc, &mut first, calls);
     drop(first);
     applied
@@ -37,7 +37,7 @@ pub(crate) fn run(alloc: Global, calls: &mut Calls) -> Result<(), Fault> {
 
 /// Makes a second session, and applies all events to both.
 fn apply_to_another(alloc: Global, first: &mut Drawn, calls: &mut Calls) -> Result<(), Fault> {
-    let mut second = new(alloc, calls)?;
+    let mut second = new_session(alloc, calls)?;
     let applied = apply_all(alloc, first, &mut second, calls);
     drop(second);
     applied
@@ -51,10 +51,10 @@ fn apply_all(
     calls: &mut Calls,
 ) -> Result<(), Fault> {
     for place in 0..EVENTS {
-        let event = event(alloc, place)?;
+        let event = event_at(alloc, place)?;
         apply_to_both(alloc, &event, first, second, calls);
         drop(event);
-        replace(alloc, &mut first.session, calls)?;
+        replace_by_copy(alloc, &mut first.session, calls)?;
     }
     calls.expect(!first.screen.bytes().is_empty());
     Ok(())
@@ -69,8 +69,8 @@ fn apply_to_both(
     second: &mut Drawn,
     calls: &mut Calls,
 ) {
-    let reply = apply(alloc, first, event, calls);
-    let other = apply(alloc, second, event, calls);
+    let reply = apply_event(alloc, first, event, calls);
+    let other = apply_event(alloc, second, event, calls);
     calls.expect(reply == other && !is_refused(&reply));
     calls.expect(first.screen.bytes() == second.screen.bytes());
     drop(other);
@@ -78,7 +78,7 @@ fn apply_to_both(
 }
 
 /// Makes a session that keeps two messages, shows times, and measures throughput.
-fn new(alloc: Global, calls: &mut Calls) -> Result<Drawn, Fault> {
+fn new_session(alloc: Global, calls: &mut Calls) -> Result<Drawn, Fault> {
     calls.begin("Session::new");
     let options = SessionOptions {
         root: RootOptions {
@@ -91,11 +91,11 @@ fn new(alloc: Global, calls: &mut Calls) -> Result<Drawn, Fault> {
         },
         throughput: true,
     };
-    let screen = MemoryScreen::new(alloc, ROOM)?;
-    let session = match Session::new(alloc, &options) {
+    let screen = MemoryScreen::new_session(alloc, ROOM)?;
+    let session = match Session::new_session(alloc, &options) {
         Ok(session) => session,
         Err(refusal) => {
-            let again = Session::new(alloc, &options);
+            let again = Session::new_session(alloc, &options);
             calls.refuse(refusal, again.is_ok());
             again?
         }
@@ -104,7 +104,7 @@ fn new(alloc: Global, calls: &mut Calls) -> Result<Drawn, Fault> {
 }
 
 /// Applies an event.
-fn apply(alloc: Global, drawn: &mut Drawn, event: &Event, calls: &mut Calls) -> Reply {
+fn apply_event(alloc: Global, drawn: &mut Drawn, event: &Event, calls: &mut Calls) -> Reply {
     calls.begin("Session::apply");
     let written = drawn.screen.bytes().len();
     let reply = drawn.session.apply(alloc, event, &mut drawn.screen);
@@ -123,13 +123,13 @@ fn is_refused(reply: &Reply) -> bool {
 }
 
 /// Replaces a session by a copy.
-fn replace(alloc: Global, session: &mut Session, calls: &mut Calls) -> Result<(), Fault> {
-    *session = copy(alloc, session, calls)?;
+fn replace_by_copy(alloc: Global, session: &mut Session, calls: &mut Calls) -> Result<(), Fault> {
+    *session = copy_session(alloc, session, calls)?;
     Ok(())
 }
 
 /// Copies a session.
-fn copy(alloc: Global, session: &Session, calls: &mut Calls) -> Result<Session, Fault> {
+fn copy_session(alloc: Global, session: &Session, calls: &mut Calls) -> Result<Session, Fault> {
     calls.begin("Session::deep_clone");
     let refusal = match session.deep_clone(alloc) {
         Ok(copy) => return Ok(copy),
@@ -141,16 +141,16 @@ fn copy(alloc: Global, session: &Session, calls: &mut Calls) -> Result<Session, 
 }
 
 /// Returns the event at a place: a frame, a look at the tree, or a change of it.
-fn event(alloc: Global, place: u64) -> Result<Event, Refusal> {
+fn event_at(alloc: Global, place: u64) -> Result<Event, Refusal> {
     let at = place.wrapping_mul(TURN);
-    match frame(place, at).or(look(place)) {
+    match frame_at(place, at).or(read_at(place)) {
         Some(event) => Ok(event),
-        None => change(alloc, place, at),
+        None => change_at(alloc, place, at),
     }
 }
 
 /// Returns the frame that the event at a place draws: each third does, and some others.
-fn frame(place: u64, at: Moment) -> Option<Event> {
+fn frame_at(place: u64, at: Moment) -> Option<Event> {
     match place {
         20 => Some(Event::Resize {
             at,
@@ -165,7 +165,7 @@ fn frame(place: u64, at: Moment) -> Option<Event> {
 }
 
 /// Returns what the event at a place copies, if it only looks at the tree.
-fn look(place: u64) -> Option<Event> {
+fn read_at(place: u64) -> Option<Event> {
     match place {
         9 => Some(Event::Snapshot),
         10 => Some(Event::CopyMessages),
@@ -176,7 +176,7 @@ fn look(place: u64) -> Option<Event> {
 }
 
 /// Returns how the event at a place changes the tree.
-fn change(alloc: Global, place: u64, at: Moment) -> Result<Event, Refusal> {
+fn change_at(alloc: Global, place: u64, at: Moment) -> Result<Event, Refusal> {
     let unit = label_and_mode("items", Mode::with_throughput());
     Ok(match place {
         0 | 4 => Event::AddChild {

@@ -25,8 +25,8 @@ pub(crate) fn run<R: Wait + Clone + Drop>(
     alloc: Global,
     calls: &mut Calls,
 ) -> Result<(), Fault> {
-    create(rt, alloc, ("Root::new", 20), calls)?;
-    let root = create(rt, alloc, ("Options::create", 3), calls)?;
+    make_empty_tree(rt, alloc, ("Root::new", 20), calls)?;
+    let root = make_empty_tree(rt, alloc, ("Options::create", 3), calls)?;
     let mut item = children::add_child(&root, alloc, calls)?;
     make_calls(&root, alloc, &mut item, calls)
 }
@@ -44,17 +44,17 @@ fn make_calls<R: Wait + Clone + Drop>(
 }
 
 /// Makes a tree, which must keep so many messages.
-fn create<R: Wait + Clone + Drop>(
+fn make_empty_tree<R: Wait + Clone + Drop>(
     rt: &R,
     alloc: Global,
     (call, messages): (&'static str, usize),
     calls: &mut Calls,
 ) -> Result<Root<R>, Fault> {
     calls.begin(call);
-    let root = match make(rt, alloc, call) {
+    let root = match make_tree(rt, alloc, call) {
         Ok(root) => root,
         Err(refusal) => {
-            let again = make(rt, alloc, call);
+            let again = make_tree(rt, alloc, call);
             calls.refuse(refusal, again.is_ok());
             again?
         }
@@ -64,7 +64,11 @@ fn create<R: Wait + Clone + Drop>(
 }
 
 /// Makes a tree by a call.
-fn make<R: Wait + Clone + Drop>(rt: &R, alloc: Global, call: &str) -> Result<Root<R>, Refusal> {
+fn make_tree<R: Wait + Clone + Drop>(
+    rt: &R,
+    alloc: Global,
+    call: &str,
+) -> Result<Root<R>, Refusal> {
     let rt = rt.clone()?;
     if call == "Root::new" {
         Root::new(rt, alloc)
@@ -81,7 +85,7 @@ struct Shown {
 }
 
 /// Returns what a tree shows.
-fn look<R: Wait + Clone + Drop>(root: &Root<R>, alloc: Global) -> Result<Shown, Refusal> {
+fn shown_by<R: Wait + Clone + Drop>(root: &Root<R>, alloc: Global) -> Result<Shown, Refusal> {
     let (mut rows, mut messages) = (Vec::new(alloc), Vec::new(alloc));
     root.sorted_snapshot(alloc, &mut rows)?;
     root.copy_messages(alloc, &mut messages)?;
@@ -89,11 +93,11 @@ fn look<R: Wait + Clone + Drop>(root: &Root<R>, alloc: Global) -> Result<Shown, 
 }
 
 /// Returns whether a tree shows what it showed before.
-fn shows<R: Wait + Clone + Drop>(
+fn still_shows<R: Wait + Clone + Drop>(
     root: &Root<R>,
     alloc: Global,
     before: &Shown,
 ) -> Result<bool, Refusal> {
-    let now = look(root, alloc)?;
+    let now = shown_by(root, alloc)?;
     Ok(now.rows == before.rows && now.messages == before.messages)
 }

@@ -1,7 +1,7 @@
 //! The run of the workers on a new tree, and the check of their receipts.
 ghost use Rattle.std.specs.Prelude.{◌≡◌, true, IfOk, length};
 
-use crate::audit::workers::{Worked, run_workers};
+use crate::audit::workers::{WorkerResult, run_workers};
 use prodash::tree::recorded::{Journal, Ledgers, Receipt, RecordedRoot, TreeLedger};
 use prodash::tree::root::Options;
 use prodash_programs::Fault;
@@ -30,11 +30,11 @@ pub(super) fn run_audit<R: Threads + Wait + Copy + Send + Sync + 'static>(
     rt: R,
     alloc: Global,
 ) -> Result<Audit, Fault> {
-    on_tree::<Brand, Brand, R>(rt, alloc, Ledgers::new())
+    run_on_tree::<Brand, Brand, R>(rt, alloc, Ledgers::new())
 }
 
-/// Does so on a tree that has these ledgers.
-fn on_tree<
+/// Does the same on a tree with these ledgers.
+fn run_on_tree<
     C: TreeLedger + Send + Sync + 'static,
     S: Ledger + Send + Sync + 'static,
     R: Threads + Wait + Copy + Send + Sync + 'static,
@@ -46,15 +46,15 @@ fn on_tree<
 {
     let root = RecordedRoot::<C, S>::new(alloc, ledgers, &Options::default())?;
     let workers = run_workers(rt, alloc, &root)?;
-    close(&rt, alloc, root, workers)
+    close_tree(&rt, alloc, root, workers)
 }
 
 /// Closes the tree against the shares of all workers, and checks their receipts.
-fn close<C: TreeLedger, S: Ledger>(
+fn close_tree<C: TreeLedger, S: Ledger>(
     rt: &impl Wait,
     alloc: Global,
     root: RecordedRoot<C, S>,
-    workers: Vec<Worked<C, S>>,
+    workers: Vec<WorkerResult<C, S>>,
 ) -> Result<Audit, Fault> {
     let (mut shares, mut receipts) = (Vec::new(alloc), Vec::new(alloc));
     for worker in workers {
@@ -63,7 +63,7 @@ fn close<C: TreeLedger, S: Ledger>(
     }
     let journal = root.close(rt, shares).ok().ok_or(Fault::Journal)?;
     let receipts = count_agreed(&journal, &receipts)?;
-    let lines = lines(alloc, &journal)?;
+    let lines = event_lines(alloc, &journal)?;
     Ok(Audit { lines, receipts })
 }
 
@@ -71,7 +71,7 @@ fn close<C: TreeLedger, S: Ledger>(
 ///
 /// # Errors
 ///
-/// `Journal`, if those of a worker don't rise, if one doesn't agree, or if an entry has none.
+/// `Journal`, if the numbers of a worker's receipts don't ascend, if one doesn't agree, or if an entry has none.
 fn count_agreed<C: TreeLedger>(
     journal: &Journal<C>,
     workers: &[Vec<Receipt<C>>],
@@ -80,7 +80,7 @@ fn count_agreed<C: TreeLedger>(
 {
     let mut count: usize = 0;
     for receipts in workers {
-        if !rise(receipts) || !agree(journal, receipts) {
+        if !numbers_ascend(receipts) || !all_agree(journal, receipts) {
             return Err(Fault::Journal);
         }
         count = count.wrapping_add(receipts.len());
@@ -91,8 +91,8 @@ fn count_agreed<C: TreeLedger>(
     Ok(count)
 }
 
-/// Returns whether the numbers of a worker's receipts rise.
-fn rise<C: TreeLedger>(receipts: &[Receipt<C>]) -> bool {
+/// Returns whether the numbers of a worker's receipts strictly ascend.
+fn numbers_ascend<C: TreeLedger>(receipts: &[Receipt<C>]) -> bool {
     let mut last = None;
     for receipt in receipts {
         let number = Some(receipt.number());
@@ -105,7 +105,7 @@ fn rise<C: TreeLedger>(receipts: &[Receipt<C>]) -> bool {
 }
 
 /// Returns whether all receipts agree with the journal, which they always do.
-fn agree<C: TreeLedger>(journal: &Journal<C>, receipts: &[Receipt<C>]) -> bool
+fn all_agree<C: TreeLedger>(journal: &Journal<C>, receipts: &[Receipt<C>]) -> bool
     ensures { result ≡ true }
 {
     for receipt in receipts {
@@ -118,7 +118,7 @@ fn agree<C: TreeLedger>(journal: &Journal<C>, receipts: &[Receipt<C>]) -> bool
 
 /// Returns the lines of the journal's events, each with a line feed. Every event of a worker has
 /// one.
-fn lines<C: TreeLedger>(alloc: Global, journal: &Journal<C>) -> Result<String, Fault> {
+fn event_lines<C: TreeLedger>(alloc: Global, journal: &Journal<C>) -> Result<String, Fault> {
     let mut text = String::new(alloc);
     for (event, _) in journal.entries() {
         let line = to_line(alloc, event)?.ok_or(Fault::Journal)?;

@@ -23,7 +23,7 @@ const STEPS: u64 = 15;
 
 /// What a worker hands back: its share of the tree, and the receipts of its calls, in order.
 #[derive(Drop)]
-pub(super) struct Worked<C: TreeLedger, S: Ledger> {
+pub(super) struct WorkerResult<C: TreeLedger, S: Ledger> {
     pub(super) share: Share<C, S>,
     pub(super) receipts: Vec<Receipt<C>>,
 }
@@ -33,10 +33,10 @@ pub(super) fn run_workers<
     C: TreeLedger + Send + Sync + 'static,
     S: Ledger + Send + Sync + 'static,
     R: Threads + Wait + Copy + Send + Sync + 'static,
->(rt: R, alloc: Global, root: &RecordedRoot<C, S>) -> Result<Vec<Worked<C, S>>, Fault> {
+>(rt: R, alloc: Global, root: &RecordedRoot<C, S>) -> Result<Vec<WorkerResult<C, S>>, Fault> {
     let mut running = Vec::new(alloc);
     for name in JOBS {
-        running.push(start(rt, alloc, root.share(&rt)?, name)?)?;
+        running.push(start_worker(rt, alloc, root.share(&rt)?, name)?)?;
     }
     let mut ended = Vec::new(alloc);
     for worker in running {
@@ -46,7 +46,7 @@ pub(super) fn run_workers<
 }
 
 /// Starts a worker.
-fn start<
+fn start_worker<
     C: TreeLedger + Send + Sync + 'static,
     S: Ledger + Send + Sync + 'static,
     R: Threads + Wait + Copy + Send + Sync + 'static,
@@ -55,25 +55,25 @@ fn start<
     alloc: Global,
     item: RecordedItem<C, S>,
     name: &'static str,
-) -> Result<JoinHandle<Result<Worked<C, S>, Fault>>, Fault> {
-    thread::spawn(&rt, move || work(&rt, alloc, item, name)).or(Err(Fault::Thread))
+) -> Result<JoinHandle<Result<WorkerResult<C, S>, Fault>>, Fault> {
+    thread::spawn(&rt, move || do_job(&rt, alloc, item, name)).or(Err(Fault::Thread))
 }
 
 /// Does a job and one part of it. Makes 20 calls.
-fn work<C: TreeLedger, S: Ledger>(
+fn do_job<C: TreeLedger, S: Ledger>(
     rt: &impl Wait,
     alloc: Global,
     item: RecordedItem<C, S>,
     name: &str,
-) -> Result<Worked<C, S>, Fault> {
+) -> Result<WorkerResult<C, S>, Fault> {
     let receipts = Vec::new(alloc);
     let mut worker = Worker { item, receipts };
-    let job = worker.add(rt, alloc, 0, name)?;
+    let job = worker.add_task(rt, alloc, 0, name)?;
     worker.take_steps(rt, alloc, job)?;
     worker.do_part(rt, alloc, job)?;
     let Worker { item, receipts } = worker;
     let share = item.give_back();
-    Ok(Worked { share, receipts })
+    Ok(WorkerResult { share, receipts })
 }
 
 /// A worker at its work: its item of the tree, and the receipts of its calls.
@@ -94,7 +94,7 @@ impl<C: TreeLedger, S: Ledger> Worker<C, S> {
     }
 
     /// Adds a task below another, and returns its handle.
-    fn add(
+    fn add_task(
         &mut self,
         rt: &impl Wait,
         alloc: Global,
@@ -120,7 +120,7 @@ impl<C: TreeLedger, S: Ledger> Worker<C, S> {
 
     /// Adds a part of a job, sends a message from it, and drops it.
     fn do_part(&mut self, rt: &impl Wait, alloc: Global, job: Handle) -> Result<(), Fault> {
-        let item = self.add(rt, alloc, job, "part")?;
+        let item = self.add_task(rt, alloc, job, "part")?;
         let (level, text) = (MessageLevel::Success, Text::from_str(alloc, "is done")?);
         self.call(
             rt,

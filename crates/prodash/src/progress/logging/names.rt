@@ -7,7 +7,7 @@ use std::alloc::Global;
 
 const SEPARATOR: &str = "::";
 
-/// Returns a name and one below it, joined.
+/// Joins a name with the name below it.
 pub(super) fn joined(alloc: Global, name: &str, below: &str) -> Result<Text, Refusal>
     ensures ok { IfOk result (λ text. text ≡ joined name.now below.now) }
     ensures reason { IsOkUnless result Refusal.Memory }

@@ -8,8 +8,8 @@ use crate::unit::Unit;
 use prodash_base::Refusal;
 use std::alloc::Global;
 
-/// Returns the line of a step, as `main::work → 3 / 10`.
-pub(super) fn line(
+/// Returns the line of a step, such as `main::work → 3 / 10`.
+pub(super) fn step_line(
     alloc: Global,
     name: &str,
     max: Option<Step>,
@@ -20,14 +20,14 @@ pub(super) fn line(
     ensures reason { IsOkUnless result Refusal.Memory }
 {
     match (max, unit) {
-        (max, Some(unit)) => line_in_unit(alloc, name, max, unit, step),
+        (max, Some(unit)) => step_line_in_unit(alloc, name, max, unit, step),
         (Some(max), None) => Ok(format!(in alloc; "{name} → {step} / {max}")?),
         (None, None) => Ok(format!(in alloc; "{name} → {step}")?),
     }
 }
 
-/// Returns the line of a step in a unit, as `main::work → 3/10 items`.
-fn line_in_unit(
+/// Returns the line of a step in a unit, such as `main::work → 3/10 items`.
+fn step_line_in_unit(
     alloc: Global,
     name: &str,
     max: Option<Step>,
@@ -43,7 +43,7 @@ fn line_in_unit(
     Ok(format!(in alloc; "{name} → {value}")?)
 }
 
-/// Returns the line of a message, as `✓main::work → done`.
+/// Returns the line of a message, such as `✓main::work → done`.
 pub(super) fn message_line(
     alloc: Global,
     name: &str,

@@ -8,17 +8,17 @@ use std::sync::atomic::{AtomicBool, Ordering};
 use std::sync::{Arc, Wait};
 use std::thread::{Builder, Threads};
 
-/// The time between two lines, in nanoseconds.
+/// The shortest time between two lines, in nanoseconds.
 const INTERVAL: u64 = 500_000_000;
 
-/// Starts a thread that sets a trigger after each interval of the clock, until nobody else has the
-/// trigger.
+/// Starts a thread that sets a trigger after each interval of the clock, until it is the trigger's
+/// last owner.
 ///
 /// # Errors
 ///
 /// `NoThread`, if the thread can't be started. `Memory`, if the reference count of the runtime is
 /// at its limit.
-pub(super) fn start<R, K>(
+pub(super) fn start_ticker<R, K>(
     rt: &R,
     trigger: Arc<AtomicBool>,
     clock: Arc<K>,
@@ -31,14 +31,14 @@ where
 {
     let their_rt = rt.clone()?;
     let builder = Builder::new().stack_size(stack_size);
-    match builder.spawn(rt, move || tick(their_rt, trigger, clock)) {
+    match builder.spawn(rt, move || run_ticker(their_rt, trigger, clock)) {
         Ok(_) => Ok(()),
         Err(_) => Err(Refusal::NoThread),
     }
 }
 
-/// Sleeps, and then sets the trigger, until nobody else has it.
-fn tick<R: Wait + Drop, K: Clock + Drop>(rt: R, trigger: Arc<AtomicBool>, clock: Arc<K>) {
+/// Sleeps and then sets the trigger, in turn, until this thread is its last owner.
+fn run_ticker<R: Wait + Drop, K: Clock + Drop>(rt: R, trigger: Arc<AtomicBool>, clock: Arc<K>) {
     for _ in rt.forever() {
         clock.sleep(INTERVAL);
         if Arc::strong_count(&trigger) == 1 {

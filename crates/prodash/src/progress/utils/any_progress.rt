@@ -3,7 +3,7 @@ ghost use Rattle.std.specs.Prelude.{◌≡◌, None, List, ℕ};
 ghost use Rattle.prodash_base.specs.Rows.{unknown_id};
 ghost use Rattle.prodash.specs.Items.{new_place, next_path, with_child};
 ghost use Rattle.prodash.specs.Logs.{child_log, joined, IsFirstPart, IsSecondPart};
-ghost use Rattle.prodash.specs.Turns.{Finds, Changes, HasName, HasId, HasBound, HasUnit, Begins, SetsName, SetsBound, Sends, Adds};
+ghost use Rattle.prodash.specs.Turns.{Finds, Changes, HasName, HasId, HasBound, HasUnit, Begins, SetsName, SetsBound, Sends, AddsBelow};
 ghost use Rattle.prodash.specs.declared.progress.utils.any_progress.AnyProgress.TheVariants as any;
 
 use super::discard::Discard;
@@ -239,7 +239,7 @@ where
     ghost gets_child = { elim [
       | any.Item item ↦ (λ name id after child.
           (after ≡ any.Item (with_child item)) × (child ≡ any.Item (new_place (next_path item)))
-          × Changes R.found R.left (Adds (next_path item) name id))
+          × Changes R.found R.left (AddsBelow item name id))
       | any.Log log ↦ (λ name id after child.
           (after ≡ any.Log log) × (child ≡ any.Log (child_log log name id)))
       | any.Discard none ↦ (λ name id after child.

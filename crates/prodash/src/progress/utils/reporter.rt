@@ -3,8 +3,7 @@ ghost use Rattle.std.specs.Prelude.{◌≡◌, OnOk, OnErr, IfOk, IfErr, option_
 ghost use Rattle.prodash_base.specs.Refusals.{RefusesMessage};
 ghost use Rattle.prodash_base.specs.Rows.{unknown_id};
 ghost use Rattle.prodash_base.specs.declared.messages.MessageLevel.TheVariants.{Info, Failure, Success};
-ghost use Rattle.prodash_core.specs.Traits.{throughput_text, SendsThroughput};
-ghost use Rattle.prodash.specs.Wrappers.{AtSomeMoment};
+ghost use Rattle.prodash.specs.Reporters.{SendsAtSomeMoment, ReportsThroughput, ReportsSteps, GetsReporter};
 
 use crate::messages::MessageLevel;
 use crate::progress::{Id, Step, StepShared};
@@ -15,7 +14,7 @@ use prodash_core::traits::{Count, NestedProgress, Progress};
 use std::alloc::Global;
 use std::sync::Arc;
 
-/// Progress with an allocator and a clock, so that its calls take what those of the Rust crate take.
+/// Progress with an allocator and a clock, so that its calls take the arguments of the Rust crate's.
 /// Messages are sent at the current moment of the clock. A child is a reporter with the same
 /// allocator and the same clock.
 ///
@@ -38,7 +37,7 @@ pub struct Reporter<P, K> {
 }
 
 impl<P, K> Reporter<P, K> {
-    /// Returns a reporter of a progress.
+    /// Returns a reporter that forwards its calls to `progress`.
     pub fn new(alloc: Global, progress: P, clock: Arc<K>) -> Reporter<P, K>
         ensures { result.progress ≡ progress }
     {
@@ -64,7 +63,7 @@ impl<P, K: Clock + Drop> Reporter<P, K> {
         self.clock.now()
     }
 
-    /// Waits for a time by the clock, in nanoseconds.
+    /// Sleeps by the clock, for a time in nanoseconds.
     pub fn sleep(&self, nanoseconds: u64) {
         self.clock.sleep(nanoseconds);
     }
@@ -161,7 +160,7 @@ impl<P: Progress, K: Clock + Drop> Reporter<P, K> {
     /// `Memory`, if there is no memory for the copy.
     pub fn name(&self) -> Result<Option<String>, Refusal>
         ensures ok { IfOk result (λ name.
-            P.has_name self.now.progress (option_map (λ text. string_bytes text) name)) }
+            P.has_name self.now.progress (option_map string_bytes name)) }
         ensures reason { IsOkUnless result Refusal.Memory }
     {
         self.progress.name(self.alloc)
@@ -182,7 +181,7 @@ impl<P: Progress, K: Clock + Drop> Reporter<P, K> {
     /// for it.
     pub fn message(&self, level: MessageLevel, message: &str) -> Result<(), Refusal>
         ensures ok { OnOk result
-            (AtSomeMoment (λ at. P.was_sent self.now.progress at level message.now)) }
+            (SendsAtSomeMoment P.was_sent self.now.progress level message.now) }
         ensures reason { IfErr result RefusesMessage }
     {
         let at = self.clock.now();
@@ -196,7 +195,7 @@ impl<P: Progress, K: Clock + Drop> Reporter<P, K> {
     /// As `message`.
     pub fn info(&self, message: &str) -> Result<(), Refusal>
         ensures ok { OnOk result
-            (AtSomeMoment (λ at. P.was_sent self.now.progress at Info message.now)) }
+            (SendsAtSomeMoment P.was_sent self.now.progress Info message.now) }
         ensures reason { IfErr result RefusesMessage }
     {
         let at = self.clock.now();
@@ -210,7 +209,7 @@ impl<P: Progress, K: Clock + Drop> Reporter<P, K> {
     /// As `message`.
     pub fn done(&self, message: &str) -> Result<(), Refusal>
         ensures ok { OnOk result
-            (AtSomeMoment (λ at. P.was_sent self.now.progress at Success message.now)) }
+            (SendsAtSomeMoment P.was_sent self.now.progress Success message.now) }
         ensures reason { IfErr result RefusesMessage }
     {
         let at = self.clock.now();
@@ -224,7 +223,7 @@ impl<P: Progress, K: Clock + Drop> Reporter<P, K> {
     /// As `message`.
     pub fn fail(&self, message: &str) -> Result<(), Refusal>
         ensures ok { OnOk result
-            (AtSomeMoment (λ at. P.was_sent self.now.progress at Failure message.now)) }
+            (SendsAtSomeMoment P.was_sent self.now.progress Failure message.now) }
         ensures reason { IfErr result RefusesMessage }
     {
         let at = self.clock.now();
@@ -232,15 +231,14 @@ impl<P: Progress, K: Clock + Drop> Reporter<P, K> {
     }
 
     /// Sends a message that says how fast the task's steps were done from `start` to now, with the
-    /// severity `Info`, as `done 10 items in 2.50s (4 items/s)`.
+    /// severity `Info`, such as `done 10 items in 2.50s (4 items/s)`.
     ///
     /// # Errors
     ///
     /// As `message`. If there is no memory for the text, nothing is sent.
     pub fn show_throughput(&self, start: Moment) -> Result<(), Refusal>
-        ensures ok { OnOk result (AtSomeMoment (λ at. SendsThroughput
-            (P.shows self.now.progress) (P.has_unit self.now.progress)
-            (P.was_sent self.now.progress at Info) start at)) }
+        ensures ok { OnOk result
+            (ReportsThroughput P.shows P.has_unit P.was_sent self.now.progress start) }
         ensures reason { IfErr result RefusesMessage }
     {
         let now = self.clock.now();
@@ -260,8 +258,8 @@ impl<P: Progress, K: Clock + Drop> Reporter<P, K> {
         unit: Option<Unit>,
         level: MessageLevel,
     ) -> Result<(), Refusal>
-        ensures ok { OnOk result (AtSomeMoment (λ at.
-            P.was_sent self.now.progress at level (throughput_text unit step start at))) }
+        ensures ok { OnOk result
+            (ReportsSteps P.was_sent self.now.progress level unit step start) }
         ensures reason { IfErr result RefusesMessage }
     {
         let now = self.clock.now();
@@ -277,8 +275,8 @@ impl<P: NestedProgress, K: Clock + Drop> Reporter<P, K> {
     ///
     /// `Memory`, if there is no memory for it; then nothing changes.
     pub fn add_child(&mut self, name: &str) -> Result<Reporter<P::SubProgress, K>, Refusal>
-        ensures ok { IfOk result (λ child. P.gets_child
-            self.old.progress name.now unknown_id self.new.progress child.progress) }
+        ensures ok { IfOk result
+            (GetsReporter P.gets_child self.old name.now unknown_id self.new) }
         ensures err { OnErr result (self.new ≡ self.old) }
         ensures reason { IsOkUnless result Refusal.Memory }
     {
@@ -301,8 +299,7 @@ impl<P: NestedProgress, K: Clock + Drop> Reporter<P, K> {
         name: &str,
         id: Id,
     ) -> Result<Reporter<P::SubProgress, K>, Refusal>
-        ensures ok { IfOk result (λ child. P.gets_child
-            self.old.progress name.now id self.new.progress child.progress) }
+        ensures ok { IfOk result (GetsReporter P.gets_child self.old name.now id self.new) }
         ensures err { OnErr result (self.new ≡ self.old) }
         ensures reason { IsOkUnless result Refusal.Memory }
     {

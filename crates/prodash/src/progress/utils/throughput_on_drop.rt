@@ -10,9 +10,9 @@ use prodash_core::traits::{Count, NestedProgress, Progress};
 use std::alloc::Global;
 use std::sync::Arc;
 
-/// Progress that sends a message about its throughput when it is dropped, as
-/// `done 10 items in 2.50s (4 items/s)`. The time counts from its creation. A message that is
-/// refused is skipped.
+/// Progress that sends a message about its throughput when it is dropped, such as
+/// `done 10 items in 2.50s (4 items/s)`. The time is measured from its creation. If the message is
+/// refused, it is skipped.
 ///
 /// ```rust
 /// let mut timed = ThroughputOnDrop::new(alloc, item, clock);
@@ -27,8 +27,8 @@ pub struct ThroughputOnDrop<T: Progress + Drop, K: Clock + Drop> {
 }
 
 impl<T: Progress + Drop, K: Clock + Drop> ThroughputOnDrop<T, K> {
-    /// Returns progress that forwards its calls to `inner`. Its time counts from the current moment
-    /// of `clock`. Its message is allocated with `alloc`.
+    /// Returns progress that forwards its calls to `inner`. Its time is measured from the current
+    /// moment of `clock`, and its message is allocated with `alloc`.
     pub fn new(alloc: Global, inner: T, clock: Arc<K>) -> ThroughputOnDrop<T, K>
         ensures { result.inner ≡ inner }
     {

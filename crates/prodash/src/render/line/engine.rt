@@ -1,5 +1,5 @@
-//! Draws a tree from threads of its own: one frame per interval, until its root is gone or the
-//! handle of the renderer ends it.
+//! Draws a tree from threads of its own: one frame per interval, until the root is gone or the
+//! renderer's handle ends it.
 mod event;
 mod handle;
 mod mailbox;

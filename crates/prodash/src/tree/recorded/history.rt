@@ -1,8 +1,8 @@
-//! The history of a recorded tree: a list of its accepted calls that only grows. It exists in
-//! proofs alone, but for its length.
-ghost use Rattle.std.specs.Prelude.{◌≡◌, ◌<◌, ◌^◌, ◌++◌, ◌∷◌, [], length, MatchBool};
+//! The history of a recorded tree: a list of its accepted calls that only grows. Apart from its
+//! length it exists only in proofs.
+ghost use Rattle.std.specs.Prelude.{◌≡◌, ◌<◌, ◌^◌, ◌++◌, ◌∷◌, [], length, None};
 ghost use mathlib.Core.List.{IsPrefix};
-ghost use Rattle.prodash.specs.Histories.{IsLonger, IsOpen, IsOrderly, ended, length_word};
+ghost use Rattle.prodash.specs.plumbing.Histories.{AppendsOrIsLonger, IsOpen, IsOrderly, ended, length_word};
 ghost use Rattle.prodash.specs.declared.tree.recorded.history.HistoryEntry.TheVariants.{Call, End};
 
 use crate::tree::recorded::ledgers::TreeLedger;
@@ -12,9 +12,9 @@ use std::convert::Infallible;
 use std::marker::{Model, PhantomData};
 use std::sync::Wait;
 
-/// An entry of a history: an accepted call with its reply, or the mark that no further call comes.
-/// No value of it is ever made.
-pub enum HistoryEntry {
+/// An entry of a history: an accepted call with its reply, or the mark that no further call follows.
+/// No value of this type is ever made.
+pub(crate) enum HistoryEntry {
     /// A call that was accepted.
     Call((Event, Reply)),
     /// The end.
@@ -22,12 +22,12 @@ pub enum HistoryEntry {
 }
 
 /// The rule of a history: one word has its length, and nothing follows its end.
-pub struct HistoryRule;
+pub(crate) struct HistoryRule;
 
 impl Rule<HistoryEntry, u64> for HistoryRule {
     ghost use Rattle.std.specs.Prelude.{[]};
     ghost use base.Fml.{ftrue};
-    ghost use Rattle.prodash.specs.Histories.{IsKept};
+    ghost use Rattle.prodash.specs.plumbing.Histories.{IsKept};
 
     ghost holds = { λ cells log. IsKept cells log };
 
@@ -42,7 +42,7 @@ impl Rule<HistoryEntry, u64> for HistoryRule {
     ghost moves = { λ ask before after answer. Unit {0} };
 }
 
-/// Who appends gains nothing but what it has seen.
+/// What an append gains: nothing beyond what it has seen.
 struct NoGain;
 
 impl Gain<HistoryEntry, u64> for NoGain {
@@ -55,7 +55,7 @@ impl Gain<HistoryEntry, u64> for NoGain {
 struct Append;
 
 impl Play<HistoryEntry, u64> for Append {
-    ghost use Rattle.prodash.specs.Histories.{Appends};
+    ghost use Rattle.prodash.specs.plumbing.Histories.{Appends};
 
     ghost then = { Appends };
 }
@@ -84,11 +84,12 @@ pub struct History {
     word: Word<HistoryEntry, u64, HistoryRule>,
     seen: Seen<HistoryEntry, u64, HistoryRule>,
     ghost empty: { seen.log ≡ [] },
+    ghost alone: { seen.names ≡ [] },
     ghost counted: { word ≡ length_word seen.book },
 }
 
 impl History {
-    /// Returns an empty history, which differs from every other.
+    /// Returns an empty history, different from every other.
     pub fn new() -> History {
         let (seen, mut first, _second) = Seen::open(Start::alone(), 0, 0);
         History {
@@ -98,16 +99,16 @@ impl History {
     }
 
     /// Returns the length of the history of this tree, and its empty prefix.
-    pub(crate) fn of_tree<C: TreeLedger>(self) -> (Length<C>, Prefix<C>)
+    pub(crate) fn of_tree<C: TreeLedger>(self) -> (HistoryLength<C>, HistoryPrefix<C>)
         requires { self.seen.book ≡ C.history }
         ensures { result.1 ≡ [] }
     {
         let History { word, seen } = self;
-        let word = Length {
+        let word = HistoryLength {
             word,
             tree: PhantomData,
         };
-        let prefix = Prefix {
+        let prefix = HistoryPrefix {
             len: 0,
             seen,
             tree: PhantomData,
@@ -118,7 +119,7 @@ impl History {
 
 /// The length of the history of a tree.
 #[derive(Drop)]
-pub(crate) struct Length<C: TreeLedger> {
+pub(crate) struct HistoryLength<C: TreeLedger> {
     word: Word<HistoryEntry, u64, HistoryRule>,
     tree: PhantomData<C>,
     ghost counted: { word ≡ length_word C.history },
@@ -126,31 +127,31 @@ pub(crate) struct Length<C: TreeLedger> {
 
 /// A prefix of the history of a tree. Contracts see its entries.
 #[derive(Drop)]
-pub(crate) struct Prefix<C: TreeLedger> {
+pub(crate) struct HistoryPrefix<C: TreeLedger> {
     len: u64,
     seen: Seen<HistoryEntry, u64, HistoryRule>,
     tree: PhantomData<C>,
 }
 
-impl<C: TreeLedger> Model for Prefix<C> {
-    ghost use Rattle.std.specs.Prelude.{◌≡◌, List, length};
+impl<C: TreeLedger> Model for HistoryPrefix<C> {
+    ghost use Rattle.std.specs.Prelude.{◌≡◌, List, [], length};
     ghost use Rattle.prodash.specs.declared.tree.recorded.history.HistoryEntry.{HistoryEntry};
-    ghost use Rattle.prodash.specs.Histories.{IsOrderly};
+    ghost use Rattle.prodash.specs.plumbing.Histories.{IsOrderly};
 
     ghost Value = { List HistoryEntry };
 
     ghost view = { λ p. p.seen.log };
 
-    ghost invariant = { λ p. (p.len ≡ length p.seen.log)
-        × (p.seen.book ≡ C.history) × IsOrderly p.seen.log };
+    ghost invariant = { λ p. (p.len ≡ length p.seen.log) × (p.seen.book ≡ C.history)
+        × (p.seen.names ≡ []) × IsOrderly p.seen.log };
 }
 
-impl<C: TreeLedger> Prefix<C> {
-    /// Returns the same prefix.
-    pub(crate) fn again(&self) -> Prefix<C>
+impl<C: TreeLedger> HistoryPrefix<C> {
+    /// Returns another copy of this prefix.
+    pub(crate) fn duplicate(&self) -> HistoryPrefix<C>
         ensures { result ≡ self.now }
     {
-        Prefix {
+        HistoryPrefix {
             len: self.len,
             seen: self.seen.again(),
             tree: PhantomData,
@@ -158,7 +159,7 @@ impl<C: TreeLedger> Prefix<C> {
     }
 
     /// Proof only: every prefix of the history is one of the whole history.
-    pub(crate) fn covers(&self, other: &Prefix<C>)
+    pub(crate) fn covers(&self, other: &HistoryPrefix<C>)
         ensures { (entries : _) → self.now ≡ ended entries → IsPrefix other.now self.now }
     {
         let mut both = self.seen.again();
@@ -167,62 +168,46 @@ impl<C: TreeLedger> Prefix<C> {
 
     /// Appends a call to the whole history, which is this prefix. If the history is longer, which
     /// the lock of its tree rules out, this call never returns.
-    pub(crate) fn push<R: Wait>(&mut self, rt: &R, word: &Length<C>, entry: &(Event, Reply))
+    pub(crate) fn append_call<R: Wait>(
+        &mut self,
+        rt: &R,
+        word: &HistoryLength<C>,
+        entry: &(Event, Reply),
+    )
         requires room { length self.old < 2 ^ 62 }
         requires open { IsOpen self.old }
         ensures { self.new ≡ self.old ++ Call entry.now ∷ [] }
     {
-        if !self.try_push(word, entry) {
-            match stuck(rt) {}
+        let offer = self.seen.plain::<NoGain, (Event, Reply), Append>(entry);
+        if !self.try_append(word, offer) {
+            match block_forever(rt) {}
         }
     }
 
-    /// Appends the end to the whole history, as `push` a call.
-    pub(crate) fn end<R: Wait>(&mut self, rt: &R, word: &Length<C>)
+    /// Appends the end to the whole history, as `append_call` a call.
+    pub(crate) fn append_end<R: Wait>(&mut self, rt: &R, word: &HistoryLength<C>)
         requires room { length self.old < 2 ^ 62 }
         requires open { IsOpen self.old }
         ensures { self.new ≡ self.old ++ End ∷ [] }
     {
-        if !self.try_end(word) {
-            match stuck(rt) {}
+        let offer = self.seen.plain::<NoGain, (), Append>(&());
+        if !self.try_append(word, offer) {
+            match block_forever(rt) {}
         }
     }
 
-    /// Appends a call if this prefix is the whole history, and returns whether it is.
-    fn try_push(&mut self, word: &Length<C>, entry: &(Event, Reply)) -> bool
+    /// Appends the entry that is offered if this prefix is the whole history, and returns whether it
+    /// is.
+    fn try_append(
+        &mut self,
+        word: &HistoryLength<C>,
+        mut offer: Offer<HistoryEntry, u64, HistoryRule, NoGain>,
+    ) -> bool
         requires room { length self.old < 2 ^ 62 }
         requires open { IsOpen self.old }
-        ensures { MatchBool result (self.new ≡ self.old ++ Call entry.now ∷ [])
-            (IsLonger self.old self.new) }
+        requires offered { (offer.names ≡ []) × (offer.state ≡ None) }
+        ensures { AppendsOrIsLonger result self.old offer.ask self.new }
     {
-        let mut offer: Offer<HistoryEntry, u64, HistoryRule, NoGain> = self
-            .seen
-            .plain::<NoGain, (Event, Reply), Append>(entry);
-        let mut pen = self.seen.no_pen();
-        let before = self.len;
-        let found = word
-            .word
-            .compare_exchange::<Append, NoGain>(
-                before,
-                before + 1,
-                &mut self.seen,
-                &mut offer,
-                &mut pen,
-            );
-        self.len = if found == before { before + 1 } else { found };
-        found == before
-    }
-
-    /// Appends the end if this prefix is the whole history, and returns whether it is.
-    fn try_end(&mut self, word: &Length<C>) -> bool
-        requires room { length self.old < 2 ^ 62 }
-        requires open { IsOpen self.old }
-        ensures { MatchBool result (self.new ≡ self.old ++ End ∷ [])
-            (IsLonger self.old self.new) }
-    {
-        let mut offer: Offer<HistoryEntry, u64, HistoryRule, NoGain> = self
-            .seen
-            .plain::<NoGain, (), Append>(&());
         let mut pen = self.seen.no_pen();
         let before = self.len;
         let found = word
@@ -240,7 +225,7 @@ impl<C: TreeLedger> Prefix<C> {
 }
 
 /// Never returns.
-pub(crate) fn stuck<R: Wait>(rt: &R) -> Infallible {
+pub(crate) fn block_forever<R: Wait>(rt: &R) -> Infallible {
     for _ in rt.forever() {}
     unreachable!()
 }

@@ -1,9 +1,9 @@
 //! Journals of recorded trees.
-ghost use Rattle.std.specs.Prelude.{◌≡◌, Some, true, slice_get};
-ghost use Rattle.prodash.specs.Histories.{ended};
-ghost use Rattle.prodash.specs.Journals.{IsJournal};
+ghost use Rattle.std.specs.Prelude.{◌≡◌, true};
+ghost use Rattle.prodash.specs.plumbing.Histories.{ended};
+ghost use Rattle.prodash.specs.Journals.{IsJournal, HasEntryOf};
 
-use crate::tree::recorded::history::Prefix;
+use crate::tree::recorded::history::HistoryPrefix;
 use crate::tree::recorded::ledgers::TreeLedger;
 use crate::tree::recorded::receipt::Receipt;
 use crate::tree::recorded::state::RecordedState;
@@ -16,14 +16,14 @@ use std::marker::Model;
 #[derive(Drop)]
 pub struct Journal<C: TreeLedger> {
     entries: Vec<(Event, Reply)>,
-    history: Prefix<C>,
+    history: HistoryPrefix<C>,
 }
 
 impl<C: TreeLedger> Model for Journal<C> {
     ghost use Rattle.std.specs.Prelude.{◌≡◌, List};
     ghost use Rattle.prodash_core.specs.declared.tree.event.Event.{Event};
     ghost use Rattle.prodash_core.specs.declared.tree.event.Reply.{Reply};
-    ghost use Rattle.prodash.specs.Histories.{ended};
+    ghost use Rattle.prodash.specs.plumbing.Histories.{ended};
     ghost use Rattle.prodash.specs.Journals.{IsJournal};
 
     ghost Value = { List (Event × Reply) };
@@ -36,7 +36,7 @@ impl<C: TreeLedger> Model for Journal<C> {
 
 impl<C: TreeLedger> Journal<C> {
     /// Returns the journal of a tree, whose history has ended.
-    pub(crate) fn new(state: RecordedState, history: Prefix<C>) -> Journal<C>
+    pub(crate) fn new(state: RecordedState, history: HistoryPrefix<C>) -> Journal<C>
         requires capacity { state.capacity ≡ C.message_buffer_capacity }
         requires history { history ≡ ended state.entries }
         ensures { result ≡ state.entries }
@@ -59,8 +59,7 @@ impl<C: TreeLedger> Journal<C> {
     /// receipt's event and reply: a receipt of another tree has another type.
     pub fn agrees(&self, receipt: &Receipt<C>) -> bool
         ensures value { result ≡ true }
-        ensures entry { slice_get self.now receipt.now.number
-            ≡ Some (receipt.now.event, receipt.now.reply) }
+        ensures entry { HasEntryOf self.now receipt.now }
     {
         self.history.covers(receipt.prefix());
         receipt.number() < self.entries.len() as u64

@@ -53,22 +53,22 @@ impl Ledgers {
 
 /// A proof that a ledger has `PARTS` parts.
 #[derive(Drop)]
-pub(crate) struct Cut<L: Ledger> {
+pub(crate) struct PartCount<L: Ledger> {
     ledger: PhantomData<L>,
     ghost parts: { L.parts ≡ PARTS },
 }
 
-impl<L: Ledger> Cut<L> {
-    pub(crate) fn new() -> Cut<L>
+impl<L: Ledger> PartCount<L> {
+    pub(crate) fn new() -> PartCount<L>
         requires { L.parts ≡ PARTS }
     {
-        Cut {
+        PartCount {
             ledger: PhantomData,
         }
     }
 
     /// Proof only: the ledger has `PARTS` parts.
-    pub(crate) fn show(&self)
+    pub(crate) fn show_parts(&self)
         ensures { L.parts ≡ PARTS }
     {
         let _ = &self.ledger;

@@ -1,8 +1,8 @@
 //! Receipts of calls on recorded trees.
-ghost use Rattle.std.specs.Prelude.{◌≡◌, Some, slice_get};
-ghost use Rattle.prodash.specs.declared.tree.recorded.history.HistoryEntry.TheVariants.{Call};
+ghost use Rattle.std.specs.Prelude.{◌≡◌};
+ghost use Rattle.prodash.specs.plumbing.Histories.{HasCallAt};
 
-use crate::tree::recorded::history::Prefix;
+use crate::tree::recorded::history::HistoryPrefix;
 use crate::tree::recorded::ledgers::TreeLedger;
 use prodash_core::tree::{Event, Reply};
 use std::marker::Model;
@@ -14,25 +14,24 @@ use std::marker::Model;
 pub struct Receipt<C: TreeLedger> {
     number: u64,
     entry: (Event, Reply),
-    prefix: Prefix<C>,
+    prefix: HistoryPrefix<C>,
 }
 
 impl<C: TreeLedger> Model for Receipt<C> {
-    ghost use Rattle.std.specs.Prelude.{◌≡◌, Some, slice_get};
     ghost use Rattle.prodash.specs.Journals.{Received};
-    ghost use Rattle.prodash.specs.declared.tree.recorded.history.HistoryEntry.TheVariants.{Call};
+    ghost use Rattle.prodash.specs.plumbing.Histories.{HasCallAt};
 
     ghost Value = { Received };
 
     ghost view = { λ r. record { number = r.number; event = r.entry.0; reply = r.entry.1 } };
 
-    ghost invariant = { λ r. slice_get r.prefix r.number ≡ Some (Call r.entry) };
+    ghost invariant = { λ r. HasCallAt r.prefix r.number r.entry };
 }
 
 impl<C: TreeLedger> Receipt<C> {
     /// Returns the receipt of the call that has this number in a prefix of the history.
-    pub(crate) fn new(number: u64, entry: (Event, Reply), prefix: Prefix<C>) -> Receipt<C>
-        requires { slice_get prefix number ≡ Some (Call entry) }
+    pub(crate) fn new(number: u64, entry: (Event, Reply), prefix: HistoryPrefix<C>) -> Receipt<C>
+        requires { HasCallAt prefix number entry }
         ensures { result ≡ record { number = number; event = entry.0; reply = entry.1 } }
     {
         Receipt {
@@ -63,10 +62,9 @@ impl<C: TreeLedger> Receipt<C> {
         &self.entry.1
     }
 
-    /// Returns a prefix of the history, which has the call at the number.
-    pub(crate) fn prefix(&self) -> &Prefix<C>
-        ensures { slice_get result.now self.now.number
-            ≡ Some (Call (self.now.event, self.now.reply)) }
+    /// Returns a prefix of the history that has the call at the receipt's number.
+    pub(crate) fn prefix(&self) -> &HistoryPrefix<C>
+        ensures { HasCallAt result.now self.now.number (self.now.event, self.now.reply) }
     {
         &self.prefix
     }

@@ -7,10 +7,11 @@ ghost use Rattle.prodash.specs.Journals.{IsJournal, IsAfter, RefusesCall, new_ca
 
 use crate::tree::recorded::journal::Journal;
 use crate::tree::recorded::ledgers::{Ledgers, TreeLedger};
-use crate::tree::recorded::locked::{Locked, Rest};
+use crate::tree::recorded::locked_recording::LockedRecording;
 use crate::tree::recorded::receipt::Receipt;
 use crate::tree::recorded::share::Share;
 use crate::tree::recorded::state::RecordedState;
+use crate::tree::recorded::unshared_parts::UnsharedParts;
 use crate::tree::root::Options;
 use prodash_base::Refusal;
 use prodash_core::tree::{Event, Reply};
@@ -34,15 +35,15 @@ use std::sync::{Arc, Mutex, Wait};
 /// ```
 #[derive(Drop)]
 pub struct RecordedRoot<C: TreeLedger, S: Ledger> {
-    tree: Arc<Mutex<Locked<C, S>>>,
-    rest: Mutex<Rest<C, S>>,
+    tree: Arc<Mutex<LockedRecording<C, S>>>,
+    unshared: Mutex<UnsharedParts<C, S>>,
 }
 
 /// Makes calls on a recorded tree. Contracts see how many calls were accepted, their sum, and the
 /// number of the last one.
 #[derive(Drop)]
 pub struct RecordedItem<C: TreeLedger, S: Ledger> {
-    tree: Arc<Mutex<Locked<C, S>>>,
+    tree: Arc<Mutex<LockedRecording<C, S>>>,
     share: Share<C, S>,
     last: Option<u64>,
 }
@@ -55,8 +56,8 @@ impl<C: TreeLedger, S: Ledger> Model for RecordedItem<C, S> {
     ghost view = { λ item. record { tally = item.share; last = item.last } };
 }
 
-/// What is returned if a recorded tree can't be closed, since shares are missing: its root, and the
-/// shares that were given. With the missing shares added, the root can be closed.
+/// What `close` returns if shares are missing: the root, and the shares that were given. Once the
+/// missing shares are added, the root can be closed.
 #[derive(Drop)]
 pub struct Unclosed<C: TreeLedger, S: Ledger> {
     /// The root.
@@ -90,10 +91,10 @@ impl<C: TreeLedger, S: Ledger> RecordedRoot<C, S> {
         } = ledgers;
         let (calls, mut call_part) = calls.open::<C>();
         let (sums, sum_part) = sums.open::<S>();
-        let locked = Locked::new(state, calls, sums, call_part.empty(), history.of_tree());
+        let locked = LockedRecording::new(state, calls, sums, call_part.empty(), history.of_tree());
         let tree = Arc::new(alloc, Mutex::new(locked))?;
-        let rest = Mutex::new(Rest::new(call_part, sum_part));
-        Ok(RecordedRoot { tree, rest })
+        let unshared = Mutex::new(UnsharedParts::new(call_part, sum_part));
+        Ok(RecordedRoot { tree, unshared })
     }
 
     /// Returns an item that makes calls on the tree. May wait for a lock that only `share` takes.
@@ -106,15 +107,15 @@ impl<C: TreeLedger, S: Ledger> RecordedRoot<C, S> {
         ensures ok { IfOk result (λ item. item ≡ new_caller) }
         ensures reason { IfErr result RefusesHandle }
     {
-        shared(&self.tree, &mut self.rest.lock(rt))
+        make_item(&self.tree, &mut self.unshared.lock(rt))
     }
 
-    /// Returns the journal of all calls, if `shares` has all shares that were made. May wait for
+    /// Returns the journal of all calls, if `shares` has all shares that have been made. May wait for
     /// the lock of the tree.
     ///
     /// # Errors
     ///
-    /// The root and the shares, if there are fewer shares than were made.
+    /// The root and the shares, if there are fewer shares than have been made.
     pub fn close<R: Wait>(
         self,
         rt: &R,
@@ -125,15 +126,15 @@ impl<C: TreeLedger, S: Ledger> RecordedRoot<C, S> {
         ensures amount { IfOk result (λ j. amount j ≡ sum_of shares.items) }
         ensures err { IfErr result (λ u. u.shares ≡ shares) }
     {
-        let RecordedRoot { tree, rest } = self;
-        let rest = rest.into_inner();
-        if !rest.is_all(&shares) {
-            let rest = Mutex::new(rest);
-            let root = RecordedRoot { tree, rest };
+        let RecordedRoot { tree, unshared } = self;
+        let unshared = unshared.into_inner();
+        if !unshared.is_complete_with(&shares) {
+            let unshared = Mutex::new(unshared);
+            let root = RecordedRoot { tree, unshared };
             return Err(Unclosed { root, shares });
         }
-        let (calls, sums) = rest.with_shares(shares);
-        let journal = tree.lock(rt).finish(rt, calls, sums);
+        let (calls, sums) = unshared.merge_shares(shares);
+        let journal = tree.lock(rt).take_journal(rt, calls, sums);
         // shows that it replays
         let _ = journal.entries();
         Ok(journal)
@@ -182,22 +183,22 @@ impl<C: TreeLedger, S: Ledger> RecordedItem<C, S> {
     }
 }
 
-/// Returns an item that makes calls on a tree, and counts its share.
-fn shared<C: TreeLedger, S: Ledger>(
-    tree: &Arc<Mutex<Locked<C, S>>>,
-    rest: &mut Rest<C, S>,
+/// Returns an item that makes calls on a tree, with a share that is split off.
+fn make_item<C: TreeLedger, S: Ledger>(
+    tree: &Arc<Mutex<LockedRecording<C, S>>>,
+    unshared: &mut UnsharedParts<C, S>,
 ) -> Result<RecordedItem<C, S>, Refusal>
     ensures item { IfOk result (λ item. item ≡ new_caller) }
-    ensures ok { OnOk result (rest.new.made ≡ rest.old.made + 1) }
-    ensures err { OnErr result (rest.new ≡ rest.old) }
-    ensures full { (result ≡ Err Refusal.TooManyHandles) ↔ (rest.old.made ≡ PARTS) }
+    ensures ok { OnOk result (unshared.new.made ≡ unshared.old.made + 1) }
+    ensures err { OnErr result (unshared.new ≡ unshared.old) }
+    ensures full { (result ≡ Err Refusal.TooManyHandles) ↔ (unshared.old.made ≡ PARTS) }
     ensures reason { IfErr result RefusesHandle }
 {
-    if rest.is_full() {
+    if unshared.is_exhausted() {
         return Err(Refusal::TooManyHandles);
     }
     let tree = Arc::try_clone(tree)?;
-    let share = rest.share();
+    let share = unshared.split_share();
     Ok(RecordedItem {
         tree,
         share,

@@ -61,21 +61,21 @@ impl<C: TreeLedger, S: Ledger> Share<C, S> {
     }
 
     /// Counts an accepted call.
-    pub(crate) fn count(&mut self, event: &Event, calls: &mut Book<C>, sums: &mut Book<S>)
+    pub(crate) fn count_call(&mut self, event: &Event, calls: &mut Book<C>, sums: &mut Book<S>)
         requires { self.old.calls < u64.MAX }
         ensures after { self.new ≡ with_call self.old event.now }
         ensures calls { calls.new.total ≡ calls.old.total + 1 }
         ensures sums { sums.new.total ≡ sums.old.total + amount_of event.now }
     {
-        let amount = amount(event);
+        let amount = amount_of(event);
         calls.add(&mut self.call_part, 1);
         sums.add(&mut self.sum_part, amount);
         self.calls += 1;
         self.sum += u128::from(amount);
     }
 
-    /// Shows that no other token has all parts of the ledger of calls.
-    pub(crate) fn has_a_part(&mut self, other: &mut ledger::Share<C>)
+    /// Proof only: no other token has all parts of the ledger of calls.
+    pub(crate) fn show_part(&mut self, other: &mut ledger::Share<C>)
         ensures { other.old.parts + 1 ≤ C.parts }
     {
         self.call_part.give(other, 0, 0);
@@ -97,7 +97,7 @@ impl<C: TreeLedger, S: Ledger> Share<C, S> {
 }
 
 /// Returns what an event adds to the counter of an item.
-fn amount(event: &Event) -> u64
+fn amount_of(event: &Event) -> u64
     ensures { result ≡ amount_of event.now }
 {
     match event {

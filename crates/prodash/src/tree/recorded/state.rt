@@ -86,13 +86,17 @@ impl RecordedState {
             (IsOkUnless result Refusal.Memory) }
         ensures handles { IfErr result (λ e. e ≢ Refusal.TooManyHandles) }
     {
-        let (reply, _) = self.record(alloc, event)?;
+        let (reply, _) = self.apply_and_copy(alloc, event)?;
         Ok(reply)
     }
 
     /// Applies an event as `apply`, and returns the reply and a copy of it.
     #[tactic(auto, using(crate::proofs::JournalLaws::applying))]
-    pub(crate) fn record(&mut self, alloc: Global, event: &Event) -> Result<(Reply, Reply), Refusal>
+    pub(crate) fn apply_and_copy(
+        &mut self,
+        alloc: Global,
+        event: &Event,
+    ) -> Result<(Reply, Reply), Refusal>
         requires { is_frame event.now ≡ false }
         ensures reply { IfOk result (λ r. Applies self.old.tree event.now (Ok r.0) self.new.tree) }
         ensures copy { IfOk result (λ r. r.1 ≡ r.0) }
@@ -111,7 +115,7 @@ impl RecordedState {
         }
         entries.reserve(1)?;
         let kept = event.clone()?;
-        let (reply, first, second) = applied(tree, alloc, event)?;
+        let (reply, first, second) = apply_accepted(tree, alloc, event)?;
         entries.push_reserved((kept, reply));
         Ok((first, second))
     }
@@ -141,7 +145,7 @@ impl RecordedState {
 /// Applies an event that the tree doesn't refuse, and returns the reply and two copies of it. An
 /// event that is refused leaves the tree as it was.
 #[tactic(auto, using(crate::proofs::JournalLaws::copying))]
-fn applied(
+fn apply_accepted(
     tree: &mut TreeState,
     alloc: Global,
     event: &Event,
@@ -153,11 +157,11 @@ fn applied(
     ensures err { OnErr result (tree.new ≡ tree.old) }
     ensures reason { IsOkUnless result Refusal.Memory }
 {
-    copied(tree.apply(alloc, event)?)
+    copy_reply(tree.apply(alloc, event)?)
 }
 
 /// Returns a reply and two copies of it. A reply that owns no memory can always be copied.
-fn copied(reply: Reply) -> Result<(Reply, Reply, Reply), Refusal>
+fn copy_reply(reply: Reply) -> Result<(Reply, Reply, Reply), Refusal>
     ensures reply { IfOk result (λ r. r.0 ≡ reply) }
     ensures copies { IfOk result (λ r. (r.1 ≡ reply) × (r.2 ≡ reply)) }
     ensures owned { OnErr result (owns_memory reply ≢ false) }

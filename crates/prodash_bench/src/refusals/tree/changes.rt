@@ -1,5 +1,5 @@
 //! Calls that change an item or send its messages.
-use super::{look, shows};
+use super::{shown_by, still_shows};
 use prodash::Refusal;
 use prodash::messages::MessageLevel;
 use prodash::progress::State;
@@ -54,9 +54,9 @@ fn change_once<R: Wait + Clone + Drop>(
     calls: &mut Calls,
 ) -> Result<(), Fault> {
     calls.begin(call);
-    let before = look(root, alloc)?;
+    let before = shown_by(root, alloc)?;
     if let Err(refusal) = change(alloc, item, call) {
-        let is_unchanged = shows(root, alloc, &before)?;
+        let is_unchanged = still_shows(root, alloc, &before)?;
         let again = change(alloc, item, call);
         calls.refuse(refusal, is_unchanged && again.is_ok());
         again?;
@@ -86,7 +86,7 @@ fn is_sent<R: Wait + Clone + Drop>(
     call: &str,
     level: MessageLevel,
 ) -> Result<bool, Refusal> {
-    let sent = look(root, alloc)?.messages;
+    let sent = shown_by(root, alloc)?.messages;
     Ok(
         sent.last().is_some_and(|it| {
             it.level == level && it.origin.as_str() == "job" && it.message.as_str() == call
@@ -115,7 +115,7 @@ fn name<R: Wait + Clone + Drop>(
 
 /// Returns whether the first item of a tree is blocked at the step 3.
 fn is_blocked<R: Wait + Clone + Drop>(root: &Root<R>, alloc: Global) -> Result<bool, Refusal> {
-    let rows = look(root, alloc)?.rows;
+    let rows = shown_by(root, alloc)?.rows;
     let progress = rows.first().and_then(|row| row.progress.as_ref());
     Ok(progress.is_some_and(|it| it.step == 3 && it.state == State::Blocked("disk", Some(7))))
 }

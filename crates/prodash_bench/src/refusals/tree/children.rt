@@ -1,5 +1,5 @@
 //! Calls that add items.
-use super::{look, shows};
+use super::{shown_by, still_shows};
 use prodash::Refusal;
 use prodash::progress::{Id, Key, UNKNOWN};
 use prodash::tree::{Item, Root};
@@ -72,11 +72,11 @@ pub(super) fn add_child<R: Wait + Clone + Drop>(
     calls: &mut Calls,
 ) -> Result<Item<R>, Fault> {
     calls.begin(FIRST.call);
-    let before = look(root, alloc)?;
+    let before = shown_by(root, alloc)?;
     let item = match root.add_child(alloc, FIRST.name) {
         Ok(item) => item,
         Err(refusal) => {
-            let is_unchanged = shows(root, alloc, &before)?;
+            let is_unchanged = still_shows(root, alloc, &before)?;
             let again = root.add_child(alloc, FIRST.name);
             calls.refuse(refusal, is_unchanged && again.is_ok());
             again?
@@ -95,12 +95,12 @@ fn add_once<R: Wait + Clone + Drop>(
     calls: &mut Calls,
 ) -> Result<(), Fault> {
     calls.begin(added.call);
-    let before = look(root, alloc)?;
-    let _child = match add(root, alloc, item, added) {
+    let before = shown_by(root, alloc)?;
+    let _child = match add_by_call(root, alloc, item, added) {
         Ok(child) => child,
         Err(refusal) => {
-            let is_unchanged = shows(root, alloc, &before)?;
-            let again = add(root, alloc, item, added);
+            let is_unchanged = still_shows(root, alloc, &before)?;
+            let again = add_by_call(root, alloc, item, added);
             calls.refuse(refusal, is_unchanged && again.is_ok());
             again?
         }
@@ -110,7 +110,7 @@ fn add_once<R: Wait + Clone + Drop>(
 }
 
 /// Adds an item by its call.
-fn add<R: Wait + Clone + Drop>(
+fn add_by_call<R: Wait + Clone + Drop>(
     root: &Root<R>,
     alloc: Global,
     item: &mut Item<R>,
@@ -130,7 +130,7 @@ fn has_row<R: Wait + Clone + Drop>(
     added: &Added,
 ) -> Result<bool, Refusal> {
     let key = key_of(added.numbers);
-    let rows = look(root, alloc)?.rows;
+    let rows = shown_by(root, alloc)?.rows;
     let found = rows.iter().find(|row| row.key == key);
     Ok(found.is_some_and(|row| {
         row.name.as_str() == added.name && row.id == added.id && row.progress.is_none()

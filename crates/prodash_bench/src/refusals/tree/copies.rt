@@ -1,5 +1,5 @@
 //! Calls that copy what a tree has.
-use super::{Shown, look, shows};
+use super::{Shown, shown_by, still_shows};
 use prodash::Refusal;
 use prodash::messages::{Message, MessageCopyState};
 use prodash::tree::{Item, Root};
@@ -30,7 +30,7 @@ fn sorted_snapshot<R: Wait + Clone + Drop>(
     calls: &mut Calls,
 ) -> Result<(), Fault> {
     calls.begin("Root::sorted_snapshot");
-    let (before, mut rows) = (look(root, alloc)?.rows, look(root, alloc)?.rows);
+    let (before, mut rows) = (shown_by(root, alloc)?.rows, shown_by(root, alloc)?.rows);
     item.inc();
     if let Err(refusal) = root.sorted_snapshot(alloc, &mut rows) {
         let is_unchanged = rows == before;
@@ -38,7 +38,7 @@ fn sorted_snapshot<R: Wait + Clone + Drop>(
         calls.refuse(refusal, is_unchanged && again.is_ok());
         again?;
     }
-    calls.expect(rows != before && rows == look(root, alloc)?.rows);
+    calls.expect(rows != before && rows == shown_by(root, alloc)?.rows);
     Ok(())
 }
 
@@ -49,7 +49,10 @@ fn copy_messages<R: Wait + Clone + Drop>(
     calls: &mut Calls,
 ) -> Result<(), Fault> {
     calls.begin("Root::copy_messages");
-    let (all, mut messages) = (look(root, alloc)?.messages, look(root, alloc)?.messages);
+    let (all, mut messages) = (
+        shown_by(root, alloc)?.messages,
+        shown_by(root, alloc)?.messages,
+    );
     messages.truncate(1);
     if let Err(refusal) = root.copy_messages(alloc, &mut messages) {
         let is_unchanged = all.starts_with(&messages) && messages.len() == 1;
@@ -69,7 +72,10 @@ fn copy_new_messages<R: Wait + Clone + Drop>(
     calls: &mut Calls,
 ) -> Result<(), Fault> {
     calls.begin("Root::copy_new_messages");
-    let (all, mut messages) = (look(root, alloc)?.messages, look(root, alloc)?.messages);
+    let (all, mut messages) = (
+        shown_by(root, alloc)?.messages,
+        shown_by(root, alloc)?.messages,
+    );
     messages.truncate(1);
     let state = match copy_latest(root, alloc, &mut messages) {
         Ok(state) => state,
@@ -102,7 +108,7 @@ fn snapshot_and_new_messages<R: Wait + Clone + Drop>(
     calls: &mut Calls,
 ) -> Result<(), Fault> {
     calls.begin("Root::snapshot_and_new_messages");
-    let (before, mut rows) = (look(root, alloc)?.rows, look(root, alloc)?.rows);
+    let (before, mut rows) = (shown_by(root, alloc)?.rows, shown_by(root, alloc)?.rows);
     let mut messages = Vec::new(alloc);
     item.inc();
     if let Err(refusal) = root.snapshot_and_new_messages(alloc, &mut rows, &mut messages, None) {
@@ -113,7 +119,7 @@ fn snapshot_and_new_messages<R: Wait + Clone + Drop>(
     }
     let is_new = rows != before;
     let now = Shown { rows, messages };
-    calls.expect(is_new && shows(root, alloc, &now)?);
+    calls.expect(is_new && still_shows(root, alloc, &now)?);
     Ok(())
 }
 
@@ -124,16 +130,16 @@ fn deep_clone<R: Wait + Clone + Drop>(
     calls: &mut Calls,
 ) -> Result<(), Fault> {
     calls.begin("Root::deep_clone");
-    let before = look(root, alloc)?;
+    let before = shown_by(root, alloc)?;
     let copy = match root.deep_clone(alloc) {
         Ok(copy) => copy,
         Err(refusal) => {
-            let is_unchanged = shows(root, alloc, &before)?;
+            let is_unchanged = still_shows(root, alloc, &before)?;
             let again = root.deep_clone(alloc);
             calls.refuse(refusal, is_unchanged && again.is_ok());
             again?
         }
     };
-    calls.expect(shows(&copy, alloc, &before)? && shows(root, alloc, &before)?);
+    calls.expect(still_shows(&copy, alloc, &before)? && still_shows(root, alloc, &before)?);
     Ok(())
 }

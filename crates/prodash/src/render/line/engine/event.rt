@@ -1,7 +1,7 @@
-//! What an engine draws a frame for.
+//! The events for which an engine draws a frame.
 use crate::time::Moment;
 
-/// What an engine draws a frame for.
+/// An event for which an engine draws a frame.
 #[derive(Clone, Copy, Debug)]
 pub enum EngineEvent {
     /// Looks at the root: prints its new messages, and draws its rows if they are shown and have

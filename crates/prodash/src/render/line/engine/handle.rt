@@ -7,7 +7,7 @@ use std::thread::Threads;
 /// The handle of a renderer that draws from a thread of its own. Dropping it requests a last frame
 /// and the closing frame, and waits until the event loop has ended.
 ///
-/// All calls but `disconnect` and `forget` may wait for the lock of the renderer's mailbox. `wait`,
+/// All calls except `disconnect` and `forget` may wait for the lock of the renderer's mailbox. `wait`,
 /// `shutdown_and_wait` and the drop wait until the event loop has ended, unless the handle has
 /// forgotten it.
 ///
@@ -48,13 +48,13 @@ impl<R: Wait + Threads + Clone + Drop> JoinHandle<R> {
         self.forget();
     }
 
-    /// Makes the handle request nothing more, neither a resize nor the end of the renderer. Its
-    /// drop still waits for the event loop, unless that is forgotten.
+    /// Stops the handle from requesting anything more, be it a resize or the end of the renderer.
+    /// Its drop still waits for the event loop, unless that is forgotten.
     pub fn disconnect(&mut self) {
         self.is_connected = false;
     }
 
-    /// Makes the handle no longer wait for the event loop. Its drop still requests the end of the
+    /// Stops the handle from waiting for the event loop. Its drop still requests the end of the
     /// renderer, unless it is disconnected.
     pub fn forget(&mut self) {
         self.event_loop = None;
@@ -70,7 +70,7 @@ impl<R: Wait + Threads + Clone + Drop> JoinHandle<R> {
     /// for them.
     pub fn shutdown(&mut self) {
         if self.is_connected {
-            self.mailbox.finish(&self.rt);
+            self.mailbox.request_quit(&self.rt);
         }
     }
 
@@ -82,10 +82,10 @@ impl<R: Wait + Threads + Clone + Drop> JoinHandle<R> {
     }
 
     /// Sets the size of the terminal, in columns and rows, unless the handle is disconnected.
-    /// Doesn't wait for the frame. Of several sizes that are set before a frame, the last counts.
+    /// Doesn't wait for the frame. If several sizes are set before a frame, the last one counts.
     pub fn resize(&self, columns: u16, rows: u16) {
         if self.is_connected {
-            self.mailbox.resize(&self.rt, columns, rows);
+            self.mailbox.request_resize(&self.rt, columns, rows);
         }
     }
 

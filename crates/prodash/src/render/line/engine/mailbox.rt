@@ -1,7 +1,7 @@
 //! The requests to the event loop, from the ticker and from the handle of the renderer.
 use std::sync::{Condvar, Mutex, Wait};
 
-/// What the event loop is to do next.
+/// A request to the event loop.
 #[derive(Clone, Copy, Debug)]
 pub(crate) enum Request {
     /// Set the size of the terminal to these columns and rows.
@@ -17,7 +17,7 @@ pub(crate) enum Request {
 /// Whether the threads of a renderer may run.
 #[derive(Clone, Copy, Debug, PartialEq, Eq)]
 enum Phase {
-    /// Not all of them are started yet.
+    /// Not all of them have been started yet.
     Starting,
     Running,
     /// One of them couldn't be started.
@@ -45,7 +45,7 @@ pub(crate) struct Mailbox {
 }
 
 impl Pending {
-    /// Returns whether the event loop has to wait.
+    /// Returns whether there is nothing for the event loop to do yet.
     fn is_empty(&self) -> bool {
         match self.phase {
             Phase::Starting => true,
@@ -54,9 +54,8 @@ impl Pending {
         }
     }
 
-    /// Removes the next request and returns it: a size comes before a tick, and a tick before a
-    /// quit.
-    fn take(&mut self) -> Request {
+    /// Takes the next request: a size comes before a tick, and a tick before a quit.
+    fn take_request(&mut self) -> Request {
         if self.phase != Phase::Running {
             return Request::Cancel;
         }
@@ -87,18 +86,18 @@ impl Mailbox {
         }
     }
 
-    /// Lets the threads run.
-    pub(crate) fn begin<R: Wait>(&self, rt: &R) {
+    /// Marks the threads as running, which lets them begin.
+    pub(crate) fn mark_running<R: Wait>(&self, rt: &R) {
         self.set_phase(rt, Phase::Running);
     }
 
-    /// Makes the threads that wait to run end.
-    pub(crate) fn cancel<R: Wait>(&self, rt: &R) {
+    /// Marks the start as cancelled: threads that wait for it end.
+    pub(crate) fn mark_cancelled<R: Wait>(&self, rt: &R) {
         self.set_phase(rt, Phase::Cancelled);
     }
 
-    /// Records that the event loop has ended.
-    pub(crate) fn end<R: Wait>(&self, rt: &R) {
+    /// Marks the event loop as ended.
+    pub(crate) fn mark_ended<R: Wait>(&self, rt: &R) {
         self.set_phase(rt, Phase::Ended);
     }
 
@@ -107,32 +106,32 @@ impl Mailbox {
         self.changed.notify_all();
     }
 
-    /// Requests a size of the terminal.
-    pub(crate) fn resize<R: Wait>(&self, rt: &R, columns: u16, rows: u16) {
+    /// Requests a frame for a new size of the terminal.
+    pub(crate) fn request_resize<R: Wait>(&self, rt: &R, columns: u16, rows: u16) {
         self.pending.lock(rt).size = Some((columns, rows));
         self.changed.notify_all();
     }
 
     /// Requests a frame.
-    pub(crate) fn tick<R: Wait>(&self, rt: &R) {
+    pub(crate) fn request_tick<R: Wait>(&self, rt: &R) {
         self.pending.lock(rt).tick = true;
         self.changed.notify_all();
     }
 
-    /// Requests a last frame, and then the closing frame.
-    pub(crate) fn finish<R: Wait>(&self, rt: &R) {
+    /// Requests a last frame and then the closing frame.
+    pub(crate) fn request_quit<R: Wait>(&self, rt: &R) {
         let mut pending = self.pending.lock(rt);
-        // at once, so that a last frame that is refused is known to be the last
+        // both under one lock, so that a refused last frame is known to be the last
         pending.tick = true;
         pending.quit = true;
         drop(pending);
         self.changed.notify_all();
     }
 
-    /// Requests again what was refused for now, and returns whether it did. A newer size stays. Of
-    /// frames only the last one before a quit is requested again, since the ticker requests the
-    /// others.
-    pub(crate) fn again<R: Wait>(&self, rt: &R, refused: Request) -> bool {
+    /// Requests again what was refused, and returns whether it did. A size that was requested since
+    /// then stays. Of frames only the last one before a quit is requested again, since the ticker
+    /// requests the others.
+    pub(crate) fn request_again<R: Wait>(&self, rt: &R, refused: Request) -> bool {
         let mut pending = self.pending.lock(rt);
         match refused {
             Request::Resize(columns, rows) => {
@@ -145,15 +144,16 @@ impl Mailbox {
         true
     }
 
-    /// Waits for a request, and removes and returns it.
-    pub(crate) fn next<R: Wait>(&self, rt: &R) -> Request {
+    /// Waits for the next request and takes it.
+    pub(crate) fn wait_for_request<R: Wait>(&self, rt: &R) -> Request {
         self.changed
             .wait_while(rt, self.pending.lock(rt), |pending| pending.is_empty())
-            .take()
+            .take_request()
     }
 
-    /// Waits until the threads may run. Returns false if they are to end instead.
-    pub(crate) fn has_begun<R: Wait>(&self, rt: &R) -> bool {
+    /// Waits until the threads are started. Returns false if the start was cancelled or the event
+    /// loop has ended, so that the caller should end too.
+    pub(crate) fn wait_until_started<R: Wait>(&self, rt: &R) -> bool {
         let pending = self
             .changed
             .wait_while(rt, self.pending.lock(rt), |pending| {

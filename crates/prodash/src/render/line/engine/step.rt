@@ -1,7 +1,8 @@
 //! The engine: each event draws one frame of what its root shows then.
 ghost use Rattle.std.specs.Prelude.{◌≡◌, IfOk, IfErr, IsOkUnless};
 ghost use Rattle.prodash_base.specs.Refusals.{RefusesHandle};
-ghost use Rattle.prodash.specs.Engines.{EngineSees, EngineSteps, EngineRenders, new_engine};
+ghost use Rattle.prodash.specs.Engines.{EngineSees, EngineSteps, new_engine};
+ghost use Rattle.prodash.specs.plumbing.EngineFrames.{EngineRenders};
 
 use crate::messages::{MessageCopyState, Messages};
 use crate::progress::Rows;
@@ -12,7 +13,7 @@ use prodash_core::traits::{Root, WeakRoot};
 use std::alloc::Global;
 use std::marker::Model;
 
-/// Draws frames of the tree that a weak root leads to. Contracts see its renderer, its screen and
+/// Draws frames of the tree that a weak root finds. Contracts see its renderer, its screen and
 /// the weak root. A function that steps an engine is generic over the type of the weak root.
 ///
 /// ```rust

@@ -17,14 +17,14 @@ use std::sync::atomic::{AtomicBool, Ordering};
 use std::sync::{Arc, Wait};
 use std::thread::{self, Builder, Threads};
 
-/// The sizes of the stacks of the threads that a renderer starts, in bytes: 2 MiB each by default.
+/// The stack sizes of the threads that a renderer starts, in bytes: 2 MiB each by default.
 #[derive(Clone, Copy, Debug)]
 pub struct StackSizes {
     /// The thread that draws.
     pub event_loop: usize,
     /// The thread that requests a frame after each frame interval.
     pub ticker: usize,
-    /// The thread that shows the rows after the initial delay. It isn't started without a delay.
+    /// The thread that shows the rows after the initial delay. Without a delay it isn't started.
     pub delay: usize,
 }
 
@@ -38,8 +38,8 @@ impl Default for StackSizes {
     }
 }
 
-/// Draws the tree of a weak root onto a writer, from threads of its own: one frame at once, and one
-/// more after each frame interval. It ends when the root has no owner, when the writer fails, when
+/// Draws the tree of a weak root onto a writer, from threads of its own: one frame immediately, and
+/// one more after each frame interval. It ends when the root has no owner, when the writer fails, when
 /// a frame sees no rows and the renderer isn't to keep running, or when the handle ends it.
 ///
 /// A frame is skipped if it runs out of memory, or if the root has too many owners.
@@ -47,7 +47,7 @@ impl Default for StackSizes {
 /// # Errors
 ///
 /// - `Memory`: there is no memory for the threads.
-/// - `NoThread`: a thread couldn't be started. Those that were started have ended.
+/// - `NoThread`: a thread couldn't be started. The ones already started have ended.
 ///
 /// After an error the arguments are dropped, and nothing is drawn.
 ///
@@ -78,7 +78,7 @@ pub fn render<
     render_with_stacks(rt, alloc, out, weak, clock, options, StackSizes::default())
 }
 
-/// Does what [`render`] does, with stacks of these sizes.
+/// Does what [`render`] does, in threads with these stack sizes.
 ///
 /// # Errors
 ///
@@ -107,7 +107,7 @@ pub fn render_with_stacks<
         options.draw(),
         options.throughput,
     )?;
-    start(rt, alloc, engine, clock, options, stacks)
+    start_threads(rt, alloc, engine, clock, options, stacks)
 }
 
 /// What the threads of a renderer share.
@@ -118,8 +118,8 @@ struct Shared<R: Wait + Drop, K: Clock + Drop> {
     clock: Arc<K>,
     /// Whether rows are shown.
     shown: Arc<AtomicBool>,
-    /// The nanoseconds from one frame to the next.
-    frame: u64,
+    /// The interval between frames, in nanoseconds.
+    interval: u64,
 }
 
 impl<R: Wait + Clone + Drop, K: Clock + Drop> Shared<R, K> {
@@ -132,11 +132,11 @@ impl<R: Wait + Clone + Drop, K: Clock + Drop> Shared<R, K> {
             mailbox: Arc::new(alloc, Mailbox::new())?,
             clock,
             shown: Arc::new(alloc, AtomicBool::new(delay == 0))?,
-            frame: options.nanoseconds_per_frame,
+            interval: options.nanoseconds_per_frame,
         })
     }
 
-    fn share(&self) -> Result<Shared<R, K>, Refusal>
+    fn try_clone(&self) -> Result<Shared<R, K>, Refusal>
         ensures { IsOkUnless result Refusal.Memory }
     {
         Ok(Shared {
@@ -144,13 +144,13 @@ impl<R: Wait + Clone + Drop, K: Clock + Drop> Shared<R, K> {
             mailbox: Arc::try_clone(&self.mailbox)?,
             clock: Arc::try_clone(&self.clock)?,
             shown: Arc::try_clone(&self.shown)?,
-            frame: self.frame,
+            interval: self.interval,
         })
     }
 }
 
-/// Starts the threads of a renderer. They wait until all of them are started.
-fn start<
+/// Starts the threads of a renderer, which wait until all of them have been started.
+fn start_threads<
     R: Wait + Threads + Clone + Drop + Send + Sync + 'static,
     S: Screen + Drop + Send + 'static,
     T: Root + Drop + Send + 'static,
@@ -169,11 +169,11 @@ fn start<
     let shared = Shared::new(rt, alloc, clock, &options)?;
     let event_loop = start_event_loop(&shared, engine, stacks.event_loop)?;
     if let Err(refusal) = start_timers(&shared, options.initial_delay, stacks) {
-        shared.mailbox.cancel(&shared.rt);
+        shared.mailbox.mark_cancelled(&shared.rt);
         event_loop.join(&shared.rt);
         return Err(refusal);
     }
-    shared.mailbox.begin(&shared.rt);
+    shared.mailbox.mark_running(&shared.rt);
     let Shared { rt, mailbox, .. } = shared;
     Ok(JoinHandle::new(rt, mailbox, event_loop))
 }
@@ -192,15 +192,15 @@ fn start_event_loop<
 ) -> Result<thread::JoinHandle<()>, Refusal>
     ensures { IfErr result RefusesThread }
 {
-    let for_loop = shared.share()?;
+    let for_loop = shared.try_clone()?;
     Builder::new()
         .stack_size(stack)
-        .spawn(&shared.rt, move || run(for_loop, engine))
+        .spawn(&shared.rt, move || run_event_loop(for_loop, engine))
         .or(Err(Refusal::NoThread))
 }
 
-/// Starts the ticker, and the thread that shows the rows after a delay if there is one. If the
-/// second can't be started, the first has ended.
+/// Starts the ticker and, if there is a delay, the thread that shows the rows after it. If the latter
+/// can't be started, the ticker has ended.
 fn start_timers<
     R: Wait + Threads + Clone + Drop + Send + Sync + 'static,
     K: Clock + Drop + Send + Sync + 'static,
@@ -214,7 +214,7 @@ fn start_timers<
     }
     let started = start_delay(shared, delay, stacks.delay);
     if started.is_err() {
-        shared.mailbox.cancel(&shared.rt);
+        shared.mailbox.mark_cancelled(&shared.rt);
         ticker.join(&shared.rt);
     }
     started
@@ -227,10 +227,10 @@ fn start_ticker<
 >(shared: &Shared<R, K>, stack: usize) -> Result<thread::JoinHandle<()>, Refusal>
     ensures { IfErr result RefusesThread }
 {
-    let for_ticker = shared.share()?;
+    let for_ticker = shared.try_clone()?;
     Builder::new()
         .stack_size(stack)
-        .spawn(&shared.rt, move || tick(for_ticker))
+        .spawn(&shared.rt, move || run_ticker(for_ticker))
         .or(Err(Refusal::NoThread))
 }
 
@@ -241,7 +241,7 @@ fn start_delay<
 >(shared: &Shared<R, K>, delay: u64, stack: usize) -> Result<(), Refusal>
     ensures { IfErr result RefusesThread }
 {
-    let for_delay = shared.share()?;
+    let for_delay = shared.try_clone()?;
     let started = Builder::new().stack_size(stack).spawn(&shared.rt, move || {
         for_delay.clock.sleep(delay);
         for_delay.shown.store(true, Ordering::SeqCst);
@@ -252,9 +252,9 @@ fn start_delay<
     }
 }
 
-/// The event loop: draws a frame for each request, until the renderer has ended. A size, a last
-/// frame or a quit that is refused for now is tried again after the frame interval.
-fn run<
+/// Draws a frame for each request until the renderer has ended. A size, a last frame or a quit that
+/// is refused for lack of memory or of handles is tried again after the frame interval.
+fn run_event_loop<
     R: Wait + Drop,
     K: Clock + Drop,
     S: Screen + Drop,
@@ -262,25 +262,26 @@ fn run<
     W: WeakRoot<Root = T> + Drop,
 >(shared: Shared<R, K>, mut engine: Engine<S, W>) {
     for _ in shared.rt.forever() {
-        let request = shared.mailbox.next(&shared.rt);
-        let Some(event) = event_of(&shared, request) else {
+        let request = shared.mailbox.wait_for_request(&shared.rt);
+        let Some(event) = event_for(&shared, request) else {
             break;
         };
         match engine.step(event) {
             Ok(Answer::Drawn) => {}
             Err(Refusal::Memory | Refusal::TooManyHandles) => {
-                if shared.mailbox.again(&shared.rt, request) {
-                    shared.clock.sleep(shared.frame);
+                if shared.mailbox.request_again(&shared.rt, request) {
+                    shared.clock.sleep(shared.interval);
                 }
             }
             Ok(Answer::Ended) | Err(_) => break,
         }
     }
-    shared.mailbox.end(&shared.rt);
+    shared.mailbox.mark_ended(&shared.rt);
 }
 
-/// Returns the event for a request, at the time of the clock, or `None` if the loop is to end.
-fn event_of<R: Wait + Drop, K: Clock + Drop>(
+/// Returns the event for a request, at the current moment of the clock, or `None` if the event loop
+/// is to end.
+fn event_for<R: Wait + Drop, K: Clock + Drop>(
     shared: &Shared<R, K>,
     request: Request,
 ) -> Option<EngineEvent> {
@@ -299,16 +300,16 @@ fn event_of<R: Wait + Drop, K: Clock + Drop>(
     }
 }
 
-/// The ticker: requests a frame and sleeps for the frame interval, until the event loop has ended.
-fn tick<R: Wait + Drop, K: Clock + Drop>(shared: Shared<R, K>) {
-    if !shared.mailbox.has_begun(&shared.rt) {
+/// Requests a frame and sleeps for the frame interval, in turn, until the event loop has ended.
+fn run_ticker<R: Wait + Drop, K: Clock + Drop>(shared: Shared<R, K>) {
+    if !shared.mailbox.wait_until_started(&shared.rt) {
         return;
     }
     for _ in shared.rt.forever() {
         if !shared.mailbox.is_running(&shared.rt) {
             break;
         }
-        shared.mailbox.tick(&shared.rt);
-        shared.clock.sleep(shared.frame);
+        shared.mailbox.request_tick(&shared.rt);
+        shared.clock.sleep(shared.interval);
     }
 }

@@ -1,4 +1,4 @@
-//! The options for a stream, by what the system and the environment say of it.
+//! The options for a stream, as the system and the environment describe it.
 ghost use Rattle.std.specs.Prelude.{◌≡◌, Bool};
 ghost use Rattle.prodash_line.specs.declared.render.line.terminal.Environment.{Environment as Said};
 ghost use Rattle.prodash.specs.Engines.{terminal_options};
@@ -41,8 +41,8 @@ impl Options {
         Options::for_terminal(rt.is_terminal(output), Environment::read(rt))
     }
 
-    /// Returns the options for an output: the default ones, but without colours off a terminal or
-    /// if the environment disables them, and with the columns and the rows that the environment
+    /// Returns the options for an output: the default ones, but without colours if the output isn't a
+    /// terminal or the environment disables them, and with the columns and rows that the environment
     /// names.
     pub fn for_terminal(is_terminal: bool, environment: Environment) -> Options
         ensures { result ≡ terminal_options is_terminal environment }

@@ -1,6 +1,7 @@
 //! The default options, and those of frames.
 ghost use Rattle.std.specs.Prelude.{◌≡◌};
-ghost use Rattle.prodash.specs.Engines.{default_options, draw_options};
+ghost use Rattle.prodash.specs.Engines.{default_options};
+ghost use Rattle.prodash.specs.plumbing.EngineFrames.{draw_options};
 
 use crate::render::line::draw;
 use crate::render::line::engine::options::{Options, StreamKind};
@@ -14,7 +15,7 @@ impl Options {
         self
     }
 
-    /// Returns the options of frames.
+    /// Returns the options that decide what a frame is.
     pub(crate) fn draw(&self) -> draw::Options
         ensures { result ≡ draw_options self.now }
     {
@@ -32,24 +33,35 @@ impl Options {
 }
 
 impl Default for Options {
-    /// Returns options for a coloured terminal of 80 columns and 20 rows, with six frames a second.
-    /// All levels are shown at once, without timestamps and throughput; the cursor stays visible,
-    /// frames aren't defensive, and the renderer keeps running without rows.
+    /// Returns the default options of frames ([`draw::Options::default`]), with six frames a second,
+    /// no initial delay and no throughput: a coloured terminal of 80 columns and 20 rows, all levels,
+    /// no timestamps, a visible cursor, frames that aren't defensive, and a renderer that keeps
+    /// running without rows.
     fn default() -> Options
         ensures { result ≡ default_options }
     {
+        let draw::Options {
+            level_filter,
+            terminal_dimensions,
+            keep_running_if_progress_is_empty,
+            output_is_terminal,
+            colored,
+            timestamp,
+            hide_cursor,
+            defensive,
+        } = draw::Options::default();
         Options {
-            level_filter: None,
-            terminal_dimensions: (80, 20),
-            keep_running_if_progress_is_empty: true,
-            output_is_terminal: true,
-            colored: true,
-            timestamp: false,
-            hide_cursor: false,
-            defensive: false,
+            output_is_terminal,
+            colored,
+            timestamp,
+            terminal_dimensions,
+            hide_cursor,
+            defensive,
+            throughput: false,
+            level_filter,
             initial_delay: None,
             nanoseconds_per_frame: 166_666_666,
-            throughput: false,
+            keep_running_if_progress_is_empty,
         }
     }
 }

@@ -1,5 +1,5 @@
 use Rattle.std.proofs.Common.{sym, ◌∙◌, ap}
-use Rattle.prodash.specs.Histories.{ended}
+use Rattle.prodash.specs.plumbing.Histories.{ended}
 use Rattle.prodash.proofs.JournalLaws.{is_journal}
 use Rattle.prodash.proofs.tree.recorded.journal.Journal.new.Goals as goal
 

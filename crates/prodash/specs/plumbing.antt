@@ -1,0 +1,4 @@
+pub mod LockedCalls
+pub mod EngineFrames
+pub mod Histories
+pub mod Recordings

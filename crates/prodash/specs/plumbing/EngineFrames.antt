@@ -1,0 +1,30 @@
+-- What an engine hands to its renderer: the options of frames, and an input.
+use Rattle.std.specs.Prelude.{Result}
+use Rattle.prodash_base.specs.declared.refusal.Refusal.{Refusal}
+use Rattle.prodash_line.specs.declared.render.line.draw.input.Input.{Input}
+use Rattle.prodash_line.specs.declared.render.line.draw.input.Answer.{Answer}
+use Rattle.prodash_line.specs.declared.render.line.draw.input.Options.{Options as DrawOptions}
+use Rattle.prodash_line.specs.Renderer.{Renders}
+use Rattle.prodash_line.specs.Screens.{ScreenState}
+use Rattle.prodash.specs.declared.render.line.engine.options.Options.{Options}
+use Rattle.prodash.specs.Engines.{EngineState}
+
+-- those of the options that decide what a frame is
+abbrev pub draw_options : Options → DrawOptions
+draw_options o = record {
+  level_filter = o.level_filter;
+  terminal_dimensions = o.terminal_dimensions;
+  keep_running_if_progress_is_empty = o.keep_running_if_progress_is_empty;
+  output_is_terminal = o.output_is_terminal;
+  colored = o.colored;
+  timestamp = o.timestamp;
+  hide_cursor = o.hide_cursor;
+  defensive = o.defensive;
+}
+
+module _ {S W : Type 0} where
+  -- what an engine returns for an input, and what it leaves of the renderer and the screen
+  abbrev pub EngineRenders : (S → ScreenState) → EngineState S W → Input → Result Answer Refusal
+      → EngineState S W → Type 0
+  EngineRenders state e input result e' =
+      Renders e.renderer input (state e.screen) result e'.renderer (state e'.screen)

@@ -1,0 +1,221 @@
+//! What the lock of a recorded tree protects.
+ghost use Rattle.std.specs.Prelude.{◌≡◌, ◌≢◌, ◌≤◌, ◌↔◌, [], Err, false, IfOk, IfErr, OnOk, OnErr, length};
+ghost use Rattle.std.specs.Option.{ForSome, ForNone};
+ghost use Rattle.prodash_core.specs.Trees.{is_frame};
+ghost use Rattle.prodash.specs.plumbing.Histories.{history_of, ended, HasCallAt};
+ghost use Rattle.prodash_core.specs.Refusals.{refusal_of};
+ghost use Rattle.prodash.specs.declared.tree.recorded.ledgers.TheConstants.{PARTS};
+ghost use Rattle.prodash.specs.Journals.{IsAfter, RefusesOn, RefusesCall, MayRefuse, with_call, amount};
+ghost use Rattle.prodash.specs.plumbing.Recordings.{MayRecord, MayEnd, Records, RecordsIn, IsReceiptOf};
+
+use crate::tree::recorded::history::{HistoryLength, HistoryPrefix, block_forever};
+use crate::tree::recorded::journal::Journal;
+use crate::tree::recorded::ledgers::{PARTS, PartCount, TreeLedger};
+use crate::tree::recorded::receipt::Receipt;
+use crate::tree::recorded::share::Share;
+use crate::tree::recorded::state::RecordedState;
+use prodash_base::Refusal;
+use prodash_core::tree::{Event, Reply};
+use std::alloc::Global;
+use std::sync::ledger::{Book, Ledger};
+use std::sync::{Wait, ledger};
+
+/// The most entries of a journal to which a call is appended: 2^61, more than any memory holds.
+const MOST_ENTRIES: u64 = 1 << 61;
+
+/// What the lock of a recorded tree protects: the tree with its journal, its history, and the totals
+/// of all calls. Once the journal is taken out, no share has a part of the ledgers.
+#[derive(Drop)]
+pub(crate) struct LockedRecording<C: TreeLedger, S: Ledger> {
+    state: Option<RecordedState>,
+    calls: Book<C>,
+    sums: Book<S>,
+    /// All parts of the ledger of calls, once the journal is taken out.
+    all: ledger::Share<C>,
+    word: HistoryLength<C>,
+    /// The history, until the journal is taken out.
+    history: HistoryPrefix<C>,
+    call_parts: PartCount<C>,
+    sum_parts: PartCount<S>,
+    ghost opened: { ForSome state (λ s. s.capacity ≡ C.message_buffer_capacity) },
+    ghost counted: { ForSome state (λ s. calls.total ≡ length s.entries) },
+    ghost summed: { ForSome state (λ s. sums.total ≡ amount s.entries) },
+    ghost known: { ForSome state (λ s. history ≡ history_of s.entries) },
+    ghost short: { ForSome state (λ s. MayEnd s.entries) },
+    ghost taken: { ForNone state (all.parts ≡ PARTS) },
+}
+
+impl<C: TreeLedger, S: Ledger> LockedRecording<C, S> {
+    /// Returns a tree with an empty journal.
+    pub(crate) fn new(
+        state: RecordedState,
+        calls: Book<C>,
+        sums: Book<S>,
+        none: ledger::Share<C>,
+        of_tree: (HistoryLength<C>, HistoryPrefix<C>),
+    ) -> LockedRecording<C, S>
+        requires opened { (state.capacity ≡ C.message_buffer_capacity) × (state.entries ≡ []) }
+        requires calls { (calls.total ≡ 0) × (C.parts ≡ PARTS) }
+        requires sums { (sums.total ≡ 0) × (S.parts ≡ PARTS) }
+        requires history { of_tree.1 ≡ [] }
+    {
+        let (word, history) = of_tree;
+        LockedRecording {
+            state: Some(state),
+            calls,
+            sums,
+            all: none,
+            word,
+            history,
+            call_parts: PartCount::new(),
+            sum_parts: PartCount::new(),
+        }
+    }
+
+    /// Applies an event that is no frame, for the item that has the share and whose last call has
+    /// the number `last`, and returns the reply and the receipt.
+    #[tactic(auto, using(crate::proofs::JournalLaws::counting))]
+    pub(crate) fn call<R: Wait>(
+        &mut self,
+        rt: &R,
+        alloc: Global,
+        event: Event,
+        share: &mut Share<C, S>,
+        last: Option<u64>,
+    ) -> Result<(Reply, Receipt<C>), Refusal>
+        requires { is_frame event ≡ false }
+        ensures reply { IfOk result (λ r. RecordsIn self.old.state event r.0 self.new.state) }
+        ensures receipt { IfOk result (λ r. IsReceiptOf self.old.state event r.0 r.1) }
+        ensures number { IfOk result (λ r. IsAfter last r.1.number) }
+        ensures ok { OnOk result (share.new ≡ with_call share.old event) }
+        ensures err { OnErr result ((share.new ≡ share.old) × (self.new.state ≡ self.old.state)) }
+        ensures full { (share.old.calls ≡ u64.MAX) ↔ (result ≡ Err Refusal.TooManyHandles) }
+        ensures reason { IfErr result (RefusesOn self.old.state event) }
+        ensures refused { IfErr result (RefusesCall event) }
+    {
+        if share.calls() == u64::MAX {
+            return Err(Refusal::TooManyHandles);
+        }
+        self.call_parts.show_parts();
+        let LockedRecording {
+            state,
+            calls,
+            sums,
+            all,
+            word,
+            history,
+            ..
+        } = self;
+        match state {
+            Some(state) => {
+                let number = next_number(rt, last, state);
+                let (reply, entry) = record_call(rt, alloc, event, state, word, history)?;
+                share.count_call(&entry.0, calls, sums);
+                Ok((reply, Receipt::new(number, entry, history.duplicate())))
+            }
+            None => {
+                share.show_part(all);
+                unreachable!()
+            }
+        }
+    }
+
+    /// Takes the journal out, in exchange for all parts of the ledgers.
+    pub(crate) fn take_journal<R: Wait>(
+        &mut self,
+        rt: &R,
+        mut calls: ledger::Share<C>,
+        mut sums: ledger::Share<S>,
+    ) -> Journal<C>
+        requires calls { PARTS ≤ calls.parts }
+        requires sums { PARTS ≤ sums.parts }
+        ensures count { length result ≡ calls.amount }
+        ensures sum { amount result ≡ sums.amount }
+    {
+        self.call_parts.show_parts();
+        self.sum_parts.show_parts();
+        let mut no_calls = calls.empty();
+        calls.give(&mut no_calls, 0, 0);
+        let mut no_sums = sums.empty();
+        sums.give(&mut no_sums, 0, 0);
+        match self.state.take() {
+            Some(state) => {
+                self.calls.audit(&mut calls);
+                self.sums.audit(&mut sums);
+                self.all = calls;
+                let history = ended_history(rt, &self.word, &self.history, &state);
+                Journal::new(state, history)
+            }
+            None => {
+                self.all.give(&mut calls, 0, 0);
+                unreachable!()
+            }
+        }
+    }
+}
+
+/// Returns the number of the next call, which is greater than that of the item's last call. A journal
+/// is longer than the number of each of its calls, and never too long; otherwise this call would
+/// never return.
+fn next_number<R: Wait>(rt: &R, last: Option<u64>, state: &RecordedState) -> u64
+    ensures number { result ≡ length state.now.entries }
+    ensures after { IsAfter last result }
+    ensures short { MayRecord state.now.entries }
+{
+    let number = state.entries().len() as u64;
+    let is_after = match last {
+        Some(last) => last < number,
+        None => true,
+    };
+    if !is_after || number > MOST_ENTRIES {
+        match block_forever(rt) {}
+    }
+    number
+}
+
+/// Applies an event that is no frame, and appends it to the journal and to the history. Returns the
+/// reply and a copy of the entry.
+#[tactic(auto, using(crate::proofs::HistoryLaws::appending))]
+fn record_call<C: TreeLedger, R: Wait>(
+    rt: &R,
+    alloc: Global,
+    event: Event,
+    state: &mut RecordedState,
+    word: &HistoryLength<C>,
+    history: &mut HistoryPrefix<C>,
+) -> Result<(Reply, (Event, Reply)), Refusal>
+    requires frame { is_frame event ≡ false }
+    requires known { history.old ≡ history_of state.old.entries }
+    requires short { MayRecord state.old.entries }
+    ensures reply { IfOk result (λ r. Records state.old event r.0 state.new) }
+    ensures entry { IfOk result (λ r. r.1 ≡ (event, r.0)) }
+    ensures found { IfOk result (λ r.
+        HasCallAt history.new (length state.old.entries) r.1) }
+    ensures capacity { state.new.capacity ≡ state.old.capacity }
+    ensures history { history.new ≡ history_of state.new.entries }
+    ensures err { OnErr result (state.new ≡ state.old) }
+    ensures reason { IfErr result (MayRefuse (refusal_of state.old.tree event)) }
+    ensures handles { IfErr result (λ e. e ≢ Refusal.TooManyHandles) }
+{
+    let (reply, copy) = state.apply_and_copy(alloc, &event)?;
+    let entry = (event, copy);
+    history.append_call(rt, word, &entry);
+    Ok((reply, entry))
+}
+
+/// Returns the history of a tree with its end appended.
+#[tactic(auto, using(crate::proofs::HistoryLaws::appending))]
+fn ended_history<C: TreeLedger, R: Wait>(
+    rt: &R,
+    word: &HistoryLength<C>,
+    history: &HistoryPrefix<C>,
+    state: &RecordedState,
+) -> HistoryPrefix<C>
+    requires known { history.now ≡ history_of state.now.entries }
+    requires short { MayEnd state.now.entries }
+    ensures { result ≡ ended state.now.entries }
+{
+    let mut history = history.duplicate();
+    history.append_end(rt, word);
+    history
+}
