@@ -28,10 +28,10 @@
 //! renderer.shutdown_and_wait();
 //! ```
 //!
-//! Without threads, [`tree::run`] takes what happens to the tasks as a list of [`tree::Event`]s, and
-//! a [`render::line::draw::Screen`] to write to. Each event gets a [`tree::Reply`]. Each `Tick`
-//! draws a row for each task, below the messages that the tasks sent. To apply events one at a time,
-//! make a [`tree::Session`].
+//! Without threads, [`tree::run`] takes what happens to the tasks as a list of [`tree::Event`]s,
+//! and a [`render::line::draw::Screen`] to write to. Each event gets a [`tree::Reply`]. Each `Tick`
+//! draws a row for each task, below the messages that the tasks sent. To apply events one at a
+//! time, make a [`tree::Session`].
 //!
 //! ```
 //! use prodash::Text;

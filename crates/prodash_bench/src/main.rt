@@ -1,5 +1,6 @@
 //! Calls of the libraries, many at a time: `dev/bench` counts what they cost. And calls that need
-//! memory, which `dev/fail-each` refuses them: the workload `recorded`, and the cases of `refusals`.
+//! memory, which `dev/fail-each` refuses them: the workload `recorded`, and the cases of
+//! `refusals`.
 #![tactic(auto)]
 
 mod frames;

@@ -1,5 +1,5 @@
-//! Tests of the locked tree, of the recorded tree and its journals, and of the traits of progress and
-//! what wraps it, which call them through `prodash` as a user does. Nothing uses this crate.
+//! Tests of the locked tree, of the recorded tree and its journals, and of the traits of progress
+//! and what wraps it, which call them through `prodash` as a user does. Nothing uses this crate.
 #![tactic(auto)]
 
 #[cfg(test)]

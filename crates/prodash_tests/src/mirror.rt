@@ -391,7 +391,7 @@ impl<R: Wait + Clone + Drop> Mirror<R> {
 
     /// Asserts that both reply the same to an event that only reads, after the event at a place.
     fn assert_looks(&mut self, rt: &impl Abort, alloc: Global, look: &Event, after: (u64, &Event)) {
-        let got = self.tree.look(rt, alloc, look);
+        let got = self.tree.apply_read(rt, alloc, look);
         self.assert_reply(rt, alloc, look, got, after);
     }
 

@@ -352,11 +352,11 @@ fn start_round<
 fn collect_result<C: TreeLedger, S: Ledger>(
     rt: &impl Abort,
     round: &Round,
-    result: WorkerResult<C, S>,
+    worked: WorkerResult<C, S>,
     shares: &mut Vec<Share<C, S>>,
     receipts: &mut Vec<Receipt<C>>,
 ) {
-    let (share, mut given) = result;
+    let (share, mut given) = worked;
     assert_same(rt, share.calls(), round.calls, "calls");
     assert_same(rt, share.sum(), round.sum, "sum");
     assert_rising(rt, &given);

@@ -7,7 +7,8 @@ use std::sync::atomic::{AtomicU64, Ordering};
 use std::time::Duration;
 use std::{io, rt};
 
-/// A part of a runtime: a time since 1970, if it isn't before that, and the length of the last sleep.
+/// A part of a runtime: a time since 1970, if it isn't before that, and the length of the last
+/// sleep.
 #[derive(Drop)]
 struct Fixed {
     since_1970: Option<Duration>,

@@ -125,7 +125,7 @@ impl Tally {
     }
 
     /// Counts a call, if its arguments are those of the tests.
-    fn count_each(&self, place: u64, counts: bool) {
+    fn count(&self, place: u64, counts: bool) {
         if counts {
             self.calls.fetch_add(place, Ordering::SeqCst);
         }

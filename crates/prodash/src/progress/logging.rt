@@ -68,8 +68,8 @@ impl<L: Logger + Drop, K: Clock + Drop> Model for Log<L, K> {
 
 impl<L: Logger + Drop, K: Clock + Drop + Send + Sync + 'static> Log<L, K> {
     /// Returns a log with this name. Its steps and those of the logs below it are logged down to
-    /// `max_level`, or at all levels if that is `None`. It starts a thread, which ends after the last
-    /// of these logs is dropped.
+    /// `max_level`, or at all levels if that is `None`. It starts a thread, which ends after the
+    /// last of these logs is dropped.
     ///
     /// # Errors
     ///
@@ -281,8 +281,8 @@ impl<L: Logger + Drop, K: Clock + Drop> Log<L, K> {
         Ok(())
     }
 
-    /// Returns a log below this one, at step 0, without a bound or a unit. Together they log at most
-    /// one step per half second.
+    /// Returns a log below this one, at step 0, without a bound or a unit. Together they log at
+    /// most one step per half second.
     ///
     /// # Errors
     ///

@@ -23,8 +23,8 @@ use slab::Slab;
 use std::alloc::Global;
 use std::sync::Arc;
 
-/// What the lock of a tree protects: the tasks, the slots of their items, the messages, the owners of
-/// the root, and the number of its next child.
+/// What the lock of a tree protects: the tasks, the slots of their items, the messages, the owners
+/// of the root, and the number of its next child.
 #[derive(Drop)]
 pub struct LockedTree {
     /// The number of owners of the root.

@@ -3,8 +3,8 @@
 //! Each thread has a [`RecordedItem`], and makes its calls under the lock of the tree. At the end
 //! each item gives back its [`Share`], and [`RecordedRoot::close`] takes them for the [`Journal`]:
 //! the events and their replies, as one thread could have made them, with as many entries as calls
-//! were accepted. For each accepted call there is a [`Receipt`], by which its caller finds it in the
-//! journal.
+//! were accepted. For each accepted call there is a [`Receipt`], by which its caller finds it in
+//! the journal.
 mod history;
 mod journal;
 mod ledgers;

@@ -136,8 +136,8 @@ impl<R: TakesTurns> Root<R> {
     }
 
     /// Replaces the contents of `out` with the rows, in ascending order of their keys, each key
-    /// once. A name is copied only if `out` has a different one at that index: if it has the rows of
-    /// an earlier snapshot, and the tasks are still the same, nothing is allocated.
+    /// once. A name is copied only if `out` has a different one at that index: if it has the rows
+    /// of an earlier snapshot, and the tasks are still the same, nothing is allocated.
     ///
     /// # Errors
     ///

@@ -27,7 +27,7 @@ type Drawing = Engine<MemoryScreen, WeakScene>;
 /// Draws the same frames by two engines. At least one of them is refused no memory, and the other
 /// one must write what it does.
 pub(crate) fn run(alloc: Global, calls: &mut Calls) -> Result<(), Fault> {
-    let turn = Arc::new_engine(alloc, AtomicU64::new_engine(0))?;
+    let turn = Arc::new(alloc, AtomicU64::new(0))?;
     let mut first = new_engine(alloc, &turn, calls)?;
     let mut second = new_engine(alloc, &turn, calls)?;
     draw_all(&turn, &mut first, &mut second, calls)
@@ -65,9 +65,9 @@ fn event_of_frame(frame: u64) -> EngineEvent {
 /// Makes an engine that measures throughput.
 fn new_engine(alloc: Global, turn: &Arc<AtomicU64>, calls: &mut Calls) -> Result<Drawing, Fault> {
     calls.begin("Engine::new");
-    let screen = MemoryScreen::new_engine(alloc, ROOM)?;
-    let weak = WeakScene::new_engine(Arc::try_clone(turn)?);
-    Ok(Engine::new_engine(alloc, screen, weak, draw::Options::default(), true)?)
+    let screen = MemoryScreen::new(alloc, ROOM)?;
+    let weak = WeakScene::new(Arc::try_clone(turn)?);
+    Ok(Engine::new(alloc, screen, weak, draw::Options::default(), true)?)
 }
 
 /// Has both engines draw the frame of an event.

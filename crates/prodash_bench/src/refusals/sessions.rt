@@ -91,11 +91,11 @@ fn new_session(alloc: Global, calls: &mut Calls) -> Result<Drawn, Fault> {
         },
         throughput: true,
     };
-    let screen = MemoryScreen::new_session(alloc, ROOM)?;
-    let session = match Session::new_session(alloc, &options) {
+    let screen = MemoryScreen::new(alloc, ROOM)?;
+    let session = match Session::new(alloc, &options) {
         Ok(session) => session,
         Err(refusal) => {
-            let again = Session::new_session(alloc, &options);
+            let again = Session::new(alloc, &options);
             calls.refuse(refusal, again.is_ok());
             again?
         }

@@ -71,7 +71,8 @@ fn close_tree<C: TreeLedger, S: Ledger>(
 ///
 /// # Errors
 ///
-/// `Journal`, if the numbers of a worker's receipts don't ascend, if one doesn't agree, or if an entry has none.
+/// `Journal`, if the numbers of a worker's receipts don't ascend, if one doesn't agree, or if an
+/// entry has none.
 fn count_agreed<C: TreeLedger>(
     journal: &Journal<C>,
     workers: &[Vec<Receipt<C>>],

@@ -14,9 +14,9 @@ use prodash_core::traits::{Count, NestedProgress, Progress};
 use std::alloc::Global;
 use std::sync::Arc;
 
-/// Progress with an allocator and a clock, so that its calls take the arguments of the Rust crate's.
-/// Messages are sent at the current moment of the clock. A child is a reporter with the same
-/// allocator and the same clock.
+/// Progress with an allocator and a clock, so that its calls take the arguments of the Rust
+/// crate's. Messages are sent at the current moment of the clock. A child is a reporter with the
+/// same allocator and the same clock.
 ///
 /// It isn't a [`Progress`] itself, whose calls of the same names take more. Pass its field
 /// `progress` to code that asks for one.

@@ -12,8 +12,8 @@ use std::convert::Infallible;
 use std::marker::{Model, PhantomData};
 use std::sync::Wait;
 
-/// An entry of a history: an accepted call with its reply, or the mark that no further call follows.
-/// No value of this type is ever made.
+/// An entry of a history: an accepted call with its reply, or the mark that no further call
+/// follows. No value of this type is ever made.
 pub(crate) enum HistoryEntry {
     /// A call that was accepted.
     Call((Event, Reply)),
@@ -196,8 +196,8 @@ impl<C: TreeLedger> HistoryPrefix<C> {
         }
     }
 
-    /// Appends the entry that is offered if this prefix is the whole history, and returns whether it
-    /// is.
+    /// Appends the entry that is offered if this prefix is the whole history, and returns whether
+    /// it is.
     fn try_append(
         &mut self,
         word: &HistoryLength<C>,

@@ -6,8 +6,8 @@ use crate::tree::recorded::history::History;
 use std::marker::{Brand, PhantomData};
 use std::sync::ledger::{Blank, Ledger};
 
-/// The number of parts of each ledger of a tree, one for each share. It is the number of shares that
-/// can be made.
+/// The number of parts of each ledger of a tree, one for each share. It is the number of shares
+/// that can be made.
 pub(crate) const PARTS: u64 = u64::MAX;
 
 /// The ledger of the calls on a recorded tree, which names the tree. Contracts read from it how

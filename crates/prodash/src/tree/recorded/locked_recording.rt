@@ -23,8 +23,8 @@ use std::sync::{Wait, ledger};
 /// The most entries of a journal to which a call is appended: 2^61, more than any memory holds.
 const MOST_ENTRIES: u64 = 1 << 61;
 
-/// What the lock of a recorded tree protects: the tree with its journal, its history, and the totals
-/// of all calls. Once the journal is taken out, no share has a part of the ledgers.
+/// What the lock of a recorded tree protects: the tree with its journal, its history, and the
+/// totals of all calls. Once the journal is taken out, no share has a part of the ledgers.
 #[derive(Drop)]
 pub(crate) struct LockedRecording<C: TreeLedger, S: Ledger> {
     state: Option<RecordedState>,
@@ -154,9 +154,9 @@ impl<C: TreeLedger, S: Ledger> LockedRecording<C, S> {
     }
 }
 
-/// Returns the number of the next call, which is greater than that of the item's last call. A journal
-/// is longer than the number of each of its calls, and never too long; otherwise this call would
-/// never return.
+/// Returns the number of the next call, which is greater than that of the item's last call. A
+/// journal is longer than the number of each of its calls, and never too long; otherwise this call
+/// would never return.
 fn next_number<R: Wait>(rt: &R, last: Option<u64>, state: &RecordedState) -> u64
     ensures number { result ≡ length state.now.entries }
     ensures after { IsAfter last result }

@@ -110,8 +110,8 @@ impl<C: TreeLedger, S: Ledger> RecordedRoot<C, S> {
         make_item(&self.tree, &mut self.unshared.lock(rt))
     }
 
-    /// Returns the journal of all calls, if `shares` has all shares that have been made. May wait for
-    /// the lock of the tree.
+    /// Returns the journal of all calls, if `shares` has all shares that have been made. May wait
+    /// for the lock of the tree.
     ///
     /// # Errors
     ///

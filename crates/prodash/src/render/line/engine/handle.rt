@@ -7,9 +7,9 @@ use std::thread::Threads;
 /// The handle of a renderer that draws from a thread of its own. Dropping it requests a last frame
 /// and the closing frame, and waits until the event loop has ended.
 ///
-/// All calls except `disconnect` and `forget` may wait for the lock of the renderer's mailbox. `wait`,
-/// `shutdown_and_wait` and the drop wait until the event loop has ended, unless the handle has
-/// forgotten it.
+/// All calls except `disconnect` and `forget` may wait for the lock of the renderer's mailbox.
+/// `wait`, `shutdown_and_wait` and the drop wait until the event loop has ended, unless the handle
+/// has forgotten it.
 ///
 /// ```rust
 /// let mut handle = render(rt, alloc, out, root.downgrade()?, clock, Options::default())?;

@@ -39,8 +39,8 @@ impl Default for StackSizes {
 }
 
 /// Draws the tree of a weak root onto a writer, from threads of its own: one frame immediately, and
-/// one more after each frame interval. It ends when the root has no owner, when the writer fails, when
-/// a frame sees no rows and the renderer isn't to keep running, or when the handle ends it.
+/// one more after each frame interval. It ends when the root has no owner, when the writer fails,
+/// when a frame sees no rows and the renderer isn't to keep running, or when the handle ends it.
 ///
 /// A frame is skipped if it runs out of memory, or if the root has too many owners.
 ///
@@ -199,8 +199,8 @@ fn start_event_loop<
         .or(Err(Refusal::NoThread))
 }
 
-/// Starts the ticker and, if there is a delay, the thread that shows the rows after it. If the latter
-/// can't be started, the ticker has ended.
+/// Starts the ticker and, if there is a delay, the thread that shows the rows after it. If the
+/// latter can't be started, the ticker has ended.
 fn start_timers<
     R: Wait + Threads + Clone + Drop + Send + Sync + 'static,
     K: Clock + Drop + Send + Sync + 'static,

@@ -41,9 +41,9 @@ impl Options {
         Options::for_terminal(rt.is_terminal(output), Environment::read(rt))
     }
 
-    /// Returns the options for an output: the default ones, but without colours if the output isn't a
-    /// terminal or the environment disables them, and with the columns and rows that the environment
-    /// names.
+    /// Returns the options for an output: the default ones, but without colours if the output isn't
+    /// a terminal or the environment disables them, and with the columns and rows that the
+    /// environment names.
     pub fn for_terminal(is_terminal: bool, environment: Environment) -> Options
         ensures { result ≡ terminal_options is_terminal environment }
     {

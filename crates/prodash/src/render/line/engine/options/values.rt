@@ -33,10 +33,10 @@ impl Options {
 }
 
 impl Default for Options {
-    /// Returns the default options of frames ([`draw::Options::default`]), with six frames a second,
-    /// no initial delay and no throughput: a coloured terminal of 80 columns and 20 rows, all levels,
-    /// no timestamps, a visible cursor, frames that aren't defensive, and a renderer that keeps
-    /// running without rows.
+    /// Returns the default options of frames ([`draw::Options::default`]), with six frames a
+    /// second, no initial delay and no throughput: a coloured terminal of 80 columns and 20 rows,
+    /// all levels, no timestamps, a visible cursor, frames that aren't defensive, and a renderer
+    /// that keeps running without rows.
     fn default() -> Options
         ensures { result ≡ default_options }
     {
