@@ -5,7 +5,7 @@ use Rattle.std.proofs.lemmas.Bool.{lt-ltb, le-ltb}
 use Rattle.std.proofs.lemmas.List.{get_or_at, set_at, length_push, append-nil}
 use Rattle.prodash_line.specs.declared.render.line.page.sign.Sign.{Sign}
 use Rattle.prodash_line.specs.declared.render.line.page.sign.Sign.TheVariants.{Char, LineFeed}
-use Rattle.prodash_line.specs.Page.{Canvas, blank, with_row, next_row, put, after_sign, page_after}
+use Rattle.prodash_line.specs.Page.{Canvas, blank, with_row, next_row, put_char, after_sign, page_after}
 
 -- a page by the rows above the cursor's and the others, with the cursor at column 0
 abbrev pub at : ℕ → ℕ → List (List ℕ) → List (List ℕ) → Canvas
@@ -22,7 +22,7 @@ page_after-append (x ∷ xs) ys p = page_after-append xs ys (after_sign x p)
 
 -- a character in the cursor's cell
 pub put_inside : (columns height : ℕ) (above : List (List ℕ)) (written : List ℕ) (c r : ℕ) (rest : List ℕ) (below : List (List ℕ))
-    → put c (inside columns height above written (r ∷ rest) below) ≡ inside columns height above (written ++ c ∷ []) rest below
+    → put_char c (inside columns height above written (r ∷ rest) below) ≡ inside columns height above (written ++ c ∷ []) rest below
 put_inside columns height above written c r rest below =
     let old : List ℕ = written ++ r ∷ rest in
     let e0 : set old (length written) c ≡ (written ++ c ∷ []) ++ rest = set_at written r rest c (length written) refl ∙ sym (append_assoc written (c ∷ []) rest) in
@@ -39,7 +39,7 @@ pub char_inside : (columns height : ℕ) (above : List (List ℕ)) (written : Li
     → after_sign (Char c) (inside columns height above written (r ∷ rest) below) ≡ inside columns height above (written ++ c ∷ []) rest below
 char_inside columns height above written c r rest below fits =
     let p : Canvas = inside columns height above written (r ∷ rest) below in
-    ap (λ (b : Bool). cond b (put c p) (put c (next_row p))) (lt-ltb _ _ fits) ∙ put_inside columns height above written c r rest below
+    ap (λ (b : Bool). cond b (put_char c p) (put_char c (next_row p))) (lt-ltb _ _ fits) ∙ put_inside columns height above written c r rest below
 
 -- a text, as far as the row goes
 pub text_inside : (columns height : ℕ) (above : List (List ℕ)) (written text rest : List ℕ) (below : List (List ℕ))

@@ -15,10 +15,10 @@ use Rattle.prodash_line.specs.declared.render.line.draw.line_writer.LineWriter.{
 use Rattle.prodash_line.specs.declared.render.line.draw.room.Room.TheVariants.{Columns}
 use Rattle.prodash_line.specs.declared.render.line.page.style.Style.{Style}
 use Rattle.prodash_line.specs.Lines.{Line, piece, spaces, capped, in_color}
-use Rattle.prodash_line.specs.ProgressRows.{fraction_of, fraction_values, values_by, bar, bar_with, bounded_bar, filled_cells}
+use Rattle.prodash_line.specs.ProgressRows.{fraction_of, fraction_values, values_by, values_of, bar, bar_with, bounded_bar, filled_cells}
 use Rattle.prodash_line.specs.TextStyles.{row_style}
-use Rattle.prodash_line.specs.plumbing.Padding.{end_of_values, AppendsProgress, AppendsText, DrawsProgress, OrNothing, plain_bar, plain_progress}
-use Rattle.prodash_line.specs.plumbing.Writing.{is_printable, Appends, AppendsWhole}
+use Rattle.prodash_line.specs.plumbing.RowWriting.{end_of_values, AppendsProgress, AppendsText, OrNothing, plain_bar, plain_progress}
+use Rattle.prodash_line.specs.plumbing.Writing.{is_printable, Appends, AppendsWhole, AppendsIfRoom}
 use Rattle.prodash_line.proofs.Coloring.{columns_of-in_color}
 use Rattle.prodash_line.proofs.Columns.{printable-append, printable-parts, printable-repeated, printable-spaces, width-printable, width-spaces}
 use Rattle.prodash_line.proofs.JoinedTexts.{joined, ArePrintable, printable-joined, appends_apart}
@@ -106,10 +106,10 @@ appends_plain old new width midpoint own end left columns cells filled bound tex
 
 -- ---- with the column at which values end, or without one
 
-pub drawn_if : (has_room : Bool) (own : ℕ) (old new : LineWriter) (draws : ℕ → LineWriter → LineWriter → Type 0) → (has_room ≡ true → draws own old new) → (has_room ≡ false → new ≡ old)
-    → OrNothing old new draws (then_some has_room own)
-drawn_if true own old new draws room full = room refl
-drawn_if false own old new draws room full = full refl
+pub drawn_if : (has_room : Bool) (own : ℕ) (text : List ℕ) (old new : LineWriter) (draws : ℕ → LineWriter → LineWriter → Type 0) → (AppendsWhole old text new → draws own old new)
+    → AppendsIfRoom old text new has_room → OrNothing old new draws (then_some has_room own)
+drawn_if true own text old new draws whole given = whole given
+drawn_if false own text old new draws whole given = given
 
 -- the same, told in another way
 pub drawn_as : (result : Option ℕ) (old new : LineWriter) (draws tells : ℕ → LineWriter → LineWriter → Type 0) → ((own : ℕ) → draws own old new → tells own old new)
@@ -163,7 +163,7 @@ appends_unit old new width midpoint own text first second values p h is shown gi
 pub draws_by : (options : Options) (midpoint : ℕ) (value : Value) (unit : Option Unit) (throughput : Option Throughput) (own : ℕ) (old new : LineWriter)
     → options.colored ≡ false → value.unit ≡ unit
     → AppendsProgress false options.terminal_dimensions.0 midpoint (values_by options.defensive (option_map measure_of unit) (progress_of value) throughput) (progress_of value) own old new
-    → DrawsProgress options midpoint value throughput own old new
+    → AppendsProgress options.colored options.terminal_dimensions.0 midpoint (values_of options.defensive (progress_of value) throughput) (progress_of value) own old new
 draws_by options midpoint value unit throughput own old new plain is h =
     let p = progress_of value in
     let width = options.terminal_dimensions.0 in

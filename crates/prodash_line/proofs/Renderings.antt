@@ -14,7 +14,7 @@ use Rattle.prodash_line.specs.Frames.{frame_signs, lines_after, body_lines, widt
 use Rattle.prodash_line.specs.declared.render.line.page.sign.Sign.{Sign}
 use Rattle.prodash_line.specs.declared.render.line.draw.action.Action.{Action}
 use Rattle.prodash_line.specs.declared.render.line.draw.action.Action.TheVariants.{Leave, Redraw, Erase, Close}
-use Rattle.prodash_line.specs.Renderer.{Renderer, Renders, Drawing, frame_at, frame_bytes, next, action_at, drawing_at, printed_at, ending_of, body_of, state_after}
+use Rattle.prodash_line.specs.Renderer.{Renderer, Renders, Drawing, frame_at, frame_bytes, next_renderer, action_at, drawing_at, printed_at, ending_of, body_of, state_after}
 use Rattle.prodash_line.specs.Screens.{ScreenState, WritesFrame, has_bytes}
 use Rattle.prodash_line.specs.Renderings.{Rendering, after_result, renderer_after, RendersEach, BreaksExactly, FlushesFrame, attempt_of, attempts_of, bytes_over, AllBroken, WritesAttempts}
 use Rattle.prodash_line.specs.plumbing.RenderedInputs.{RendersAll}
@@ -175,7 +175,7 @@ state_widths Erase r drawing ending lines = refl
 state_widths Close r drawing ending lines = refl
 
 -- so the lines after it are those on screen
-pub next_widths : (r : Renderer) (input : Input) (lines : List Line) → r.widths ≡ widths_of lines → (next r input).widths ≡ widths_of (lines_after lines (frame_at r input))
+pub next_widths : (r : Renderer) (input : Input) (lines : List Line) → r.widths ≡ widths_of lines → (next_renderer r input).widths ≡ widths_of (lines_after lines (frame_at r input))
 next_widths r input lines same =
     let count = length (printed_at r input) in
     ap (λ widths. (state_after (action_at r input) r (drawing_at r input) widths).widths) (ap (λ widths. drop count widths) same ∙ drop-map columns_of count lines)

@@ -8,7 +8,7 @@ use Rattle.prodash_line.specs.declared.render.line.page.style.Style.{Style}
 use Rattle.prodash_line.specs.Lines.{Line, piece, spaces, capped, columns_of, in_color}
 use Rattle.prodash_line.specs.TextStyles.{row_style}
 use Rattle.prodash_line.specs.ProgressRows.{values_of, head_of, padded, bar, midpoint_with, row_line_with}
-use Rattle.prodash_line.specs.plumbing.Padding.{end_of_values, padded_values}
+use Rattle.prodash_line.specs.plumbing.RowWriting.{end_of_values, padded_values}
 use Rattle.prodash_line.specs.plumbing.Writing.{is_printable, Appends, Begun}
 use Rattle.prodash_line.proofs.Columns.{columns_of-append, printable-append, width-printable, width-repeated}
 use Rattle.prodash_line.proofs.Coloring.{in_color-append, columns_of-in_color}

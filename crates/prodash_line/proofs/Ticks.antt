@@ -10,7 +10,7 @@ use Rattle.prodash_line.specs.declared.render.line.draw.input.Answer.TheVariants
 use Rattle.prodash_line.specs.declared.render.line.draw.input.Input.TheVariants.{Tick, Resize}
 use Rattle.prodash_line.specs.declared.render.line.draw.action.Composed.{Composed}
 use Rattle.prodash_line.specs.declared.render.line.draw.action.Drawn.{Drawn}
-use Rattle.prodash_line.specs.Renderer.{Renderer, is_cursor_hidden, ended_after, latest_rows, resized, action_at, answer_of, next}
+use Rattle.prodash_line.specs.Renderer.{Renderer, is_cursor_hidden, ended_after, latest_rows, resized, action_at, answer_of, next_renderer}
 use Rattle.prodash_line.specs.Tracking.{kept_of, tracked}
 use Rattle.prodash_line.specs.plumbing.Observing.{tracker_by}
 use Rattle.prodash_line.specs.plumbing.FrameWriting.{Leaves, LeavesTick, keeping, remembering}
@@ -18,7 +18,7 @@ use Rattle.prodash_line.specs.plumbing.FrameWriting.{Leaves, LeavesTick, keeping
 -- of a tick
 pub remembers : (p past : Renderer) (t composed kept : Option FrameTracker) (at : ℕ) (show : Bool) (seen : List PathRow × List Message × ℕ) (frame : Composed)
     → past ≡ record p { cursor_hidden = is_cursor_hidden p } → LeavesTick (tracked p t) (Tick at show (Some seen)) frame composed → kept_of kept ≡ tracker_by frame.drawn.action composed seen.0
-    → tracked (remembering frame seen.0 seen.2 past) kept ≡ next (tracked p t) (Tick at show (Some seen))
+    → tracked (remembering frame seen.0 seen.2 past) kept ≡ next_renderer (tracked p t) (Tick at show (Some seen))
 remembers p past t composed kept at show seen frame is h k =
     let options = ap (λ (x : Renderer). x.options) is in
     let widths = ap (λ s. s.widths) h.drawn.state in
@@ -56,7 +56,7 @@ drawn_at r at show columns height = answer_drawn (show && r.options.output_is_te
 pub resizes : (p past : Renderer) (t composed kept : Option FrameTracker) (at : ℕ) (show : Bool) (columns height : ℕ) (drawn : Drawn)
     → past ≡ record p { cursor_hidden = is_cursor_hidden p } → Leaves (tracked p t) (Resize at show columns height) drawn composed
     → kept_of kept ≡ tracker_by drawn.action composed (latest_rows past.last_rows)
-    → tracked (keeping drawn (resized past columns height)) kept ≡ next (tracked p t) (Resize at show columns height)
+    → tracked (keeping drawn (resized past columns height)) kept ≡ next_renderer (tracked p t) (Resize at show columns height)
 resizes p past t composed kept at show columns height drawn is h k =
     let options = ap (λ (x : Renderer). record x.options { terminal_dimensions = (columns, height) }) is in
     let widths = ap (λ s. s.widths) h.state in

@@ -16,7 +16,7 @@ use Rattle.prodash_line.specs.declared.render.line.draw.input.Input.{Input}
 use Rattle.prodash_line.specs.declared.render.line.draw.input.Input.TheVariants.{Tick, Resize, Quit}
 use Rattle.prodash_base.specs.declared.refusal.Refusal.TheVariants.{Closed}
 use Rattle.prodash_line.specs.Frames.{frame_signs}
-use Rattle.prodash_line.specs.Renderer.{Renderer, default_options, new_renderer, frame_at, next}
+use Rattle.prodash_line.specs.Renderer.{Renderer, default_options, new_renderer, frame_at, next_renderer}
 use Rattle.prodash_line.specs.Fits.{FrameFits}
 use Rattle.prodash_line.specs.Lines.{line_text}
 use Rattle.prodash_line.specs.TextStyles.{of_color, dimmed, row_style}
@@ -49,18 +49,18 @@ unfolding chars str_width step past_emoji
 drawn = refl
 
 -- a shorter name, and spaces as far as the old one reached
-pub drawn_over : signs_at (next terminal (tick 0 true (row (codes "task") ∷ []) [])) (tick 1 true (row (codes "a") ∷ []) []) ≡ map Char (codes " a   ") ++ LineFeed ∷ Up 1 ∷ []
+pub drawn_over : signs_at (next_renderer terminal (tick 0 true (row (codes "task") ∷ []) [])) (tick 1 true (row (codes "a") ∷ []) []) ≡ map Char (codes " a   ") ++ LineFeed ∷ Up 1 ∷ []
 unfolding chars str_width step past_emoji
 drawn_over = refl
 
 -- a message over the row, and another row below it
-pub message_over : signs_at (next terminal (tick 0 true (row (codes "task") ∷ []) [])) (tick 1 true (row (codes "a") ∷ []) (message_of 0 Info (codes "b") (codes "x") ∷ []))
+pub message_over : signs_at (next_renderer terminal (tick 0 true (row (codes "task") ∷ []) [])) (tick 1 true (row (codes "a") ∷ []) (message_of 0 Info (codes "b") (codes "x") ∷ []))
     ≡ map Char (codes " b x ") ++ LineFeed ∷ map Char (codes " a") ++ LineFeed ∷ Up 1 ∷ []
 unfolding chars str_width step past_emoji
 message_over = refl
 
 -- spaces over the row, up to it, and that row erased
-pub closing_over : signs_at (next terminal (tick 0 true (row (codes "task") ∷ []) [])) (Quit 1) ≡ map Char (codes "     ") ++ LineFeed ∷ Up 1 ∷ EraseLine ∷ CarriageReturn ∷ []
+pub closing_over : signs_at (next_renderer terminal (tick 0 true (row (codes "task") ∷ []) [])) (Quit 1) ≡ map Char (codes "     ") ++ LineFeed ∷ Up 1 ∷ EraseLine ∷ CarriageReturn ∷ []
 unfolding chars str_width step past_emoji
 closing_over = refl
 
@@ -68,7 +68,7 @@ closing_over = refl
 pub hidden : signs_at terminal (tick 0 false (row (codes "task") ∷ []) []) ≡ []
 hidden = refl
 
-pub unchanged : signs_at (next terminal (tick 0 false (row (codes "task") ∷ []) [])) (tick 1 true (row (codes "task") ∷ []) []) ≡ []
+pub unchanged : signs_at (next_renderer terminal (tick 0 false (row (codes "task") ∷ []) [])) (tick 1 true (row (codes "task") ∷ []) []) ≡ []
 unchanged = refl
 
 -- A tick that sees no rows, if the renderer isn't to keep running: it closes after its message; with the cursor hidden; without a terminal.
@@ -91,7 +91,7 @@ pub closing_tick_plain : signs_at (new_renderer (record idle { output_is_termina
 unfolding chars str_width step past_emoji
 closing_tick_plain = refl
 
-pub closes_after_tick : (next (new_renderer idle false) last_message).ended ≡ Some Closed
+pub closes_after_tick : (next_renderer (new_renderer idle false) last_message).ended ≡ Some Closed
 unfolding chars str_width step past_emoji
 closes_after_tick = refl
 
@@ -102,10 +102,10 @@ hiding = new_renderer (record options { hide_cursor = true }) false
 pub hidden_once : signs_at hiding (tick 0 false [] []) ≡ HideCursor ∷ []
 hidden_once = refl
 
-pub hidden_before : signs_at (next hiding (tick 0 false [] [])) (tick 1 true [] []) ≡ []
+pub hidden_before : signs_at (next_renderer hiding (tick 0 false [] [])) (tick 1 true [] []) ≡ []
 hidden_before = refl
 
-pub shown_again : signs_at (next hiding (tick 0 false [] [])) (Quit 1) ≡ ShowCursor ∷ EraseLine ∷ CarriageReturn ∷ []
+pub shown_again : signs_at (next_renderer hiding (tick 0 false [] [])) (Quit 1) ≡ ShowCursor ∷ EraseLine ∷ CarriageReturn ∷ []
 shown_again = refl
 
 pub hidden_and_shown : signs_at hiding (Quit 0) ≡ HideCursor ∷ ShowCursor ∷ EraseLine ∷ CarriageReturn ∷ []
@@ -121,27 +121,27 @@ unfolding chars str_width step past_emoji
 second_level = refl
 
 -- a resize draws the rows of the latest tick if it is shown, over those on screen; nothing before a tick, and nothing without a terminal
-pub resized_row : signs_at (next terminal (tick 0 true (row (codes "task") ∷ []) [])) (Resize 1 true 30 4) ≡ map Char (codes " task") ++ LineFeed ∷ Up 1 ∷ []
+pub resized_row : signs_at (next_renderer terminal (tick 0 true (row (codes "task") ∷ []) [])) (Resize 1 true 30 4) ≡ map Char (codes " task") ++ LineFeed ∷ Up 1 ∷ []
 unfolding chars str_width step past_emoji
 resized_row = refl
 
-pub resized_hidden : signs_at (next terminal (tick 0 true (row (codes "task") ∷ []) [])) (Resize 1 false 30 4) ≡ []
+pub resized_hidden : signs_at (next_renderer terminal (tick 0 true (row (codes "task") ∷ []) [])) (Resize 1 false 30 4) ≡ []
 unfolding chars str_width step past_emoji
 resized_hidden = refl
 
 pub resized_first : signs_at terminal (Resize 1 true 30 4) ≡ []
 resized_first = refl
 
-pub resized_plain : signs_at (next (new_renderer (record options { output_is_terminal = false }) false) (tick 0 true (row (codes "task") ∷ []) [])) (Resize 1 true 30 4) ≡ []
+pub resized_plain : signs_at (next_renderer (new_renderer (record options { output_is_terminal = false }) false) (tick 0 true (row (codes "task") ∷ []) [])) (Resize 1 true 30 4) ≡ []
 unfolding chars str_width step past_emoji
 resized_plain = refl
 
 -- it keeps as many of the latest origin widths as the terminal has rows by then
-pub resized_origins : (next (record terminal { origin_widths = 4 ∷ 1 ∷ 2 ∷ [] }) (Resize 1 true 30 2)).origin_widths ≡ 1 ∷ 2 ∷ []
+pub resized_origins : (next_renderer (record terminal { origin_widths = 4 ∷ 1 ∷ 2 ∷ [] }) (Resize 1 true 30 2)).origin_widths ≡ 1 ∷ 2 ∷ []
 resized_origins = refl
 
 -- a higher terminal brings no width back
-pub raised_origins : (next (next (record terminal { origin_widths = 4 ∷ 1 ∷ 2 ∷ [] }) (Resize 1 true 30 2)) (Resize 2 true 30 4)).origin_widths ≡ 1 ∷ 2 ∷ []
+pub raised_origins : (next_renderer (next_renderer (record terminal { origin_widths = 4 ∷ 1 ∷ 2 ∷ [] }) (Resize 1 true 30 2)) (Resize 2 true 30 4)).origin_widths ≡ 1 ∷ 2 ∷ []
 raised_origins = refl
 
 -- what a page of that size takes
@@ -182,7 +182,7 @@ unfolding chars str_width step past_emoji
 erases_row = refl
 
 -- a message, and the rows again though they haven't changed; its row is left over
-pub draws_again : signs_at (next defensive task_row) (tick 1 true (row (codes "task") ∷ []) (message_of 0 Info (codes "b") (codes "x") ∷ []))
+pub draws_again : signs_at (next_renderer defensive task_row) (tick 1 true (row (codes "task") ∷ []) (message_of 0 Info (codes "b") (codes "x") ∷ []))
     ≡ CarriageReturn ∷ EraseLine ∷ map Char (codes " b x") ++ LineFeed ∷ EraseLine ∷ map Char (codes " task") ++ LineFeed ∷ EraseBelow ∷ Up 1 ∷ []
 unfolding chars str_width step past_emoji
 draws_again = refl
@@ -191,17 +191,17 @@ draws_again = refl
 abbrev hidden_message : Input
 hidden_message = tick 1 false (row (codes "task") ∷ []) (message_of 0 Info (codes "b") (codes "x") ∷ [])
 
-pub erases_rows : signs_at (next defensive task_row) hidden_message ≡ CarriageReturn ∷ EraseLine ∷ map Char (codes " b x") ++ LineFeed ∷ EraseBelow ∷ []
+pub erases_rows : signs_at (next_renderer defensive task_row) hidden_message ≡ CarriageReturn ∷ EraseLine ∷ map Char (codes " b x") ++ LineFeed ∷ EraseBelow ∷ []
 unfolding chars str_width step past_emoji
 erases_rows = refl
 
-pub draws_erased : signs_at (next (next defensive task_row) hidden_message) (tick 2 true (row (codes "task") ∷ []) [])
+pub draws_erased : signs_at (next_renderer (next_renderer defensive task_row) hidden_message) (tick 2 true (row (codes "task") ∷ []) [])
     ≡ CarriageReturn ∷ EraseLine ∷ map Char (codes " task") ++ LineFeed ∷ EraseBelow ∷ Up 1 ∷ []
 unfolding chars str_width step past_emoji
 draws_erased = refl
 
 -- unchanged rows without a message are left
-pub leaves_unchanged : signs_at (next defensive task_row) (tick 1 true (row (codes "task") ∷ []) []) ≡ []
+pub leaves_unchanged : signs_at (next_renderer defensive task_row) (tick 1 true (row (codes "task") ∷ []) []) ≡ []
 unfolding chars str_width step past_emoji
 leaves_unchanged = refl
 
@@ -226,7 +226,7 @@ pub no_row_for_others : more_lines (record options { terminal_dimensions = (40, 
 no_row_for_others = refl
 
 -- a row that is left over is erased, and no row is erased at the end
-pub closes_erased : signs_at (next defensive task_row) (Quit 1) ≡ CarriageReturn ∷ EraseLine ∷ LineFeed ∷ EraseBelow ∷ Up 1 ∷ []
+pub closes_erased : signs_at (next_renderer defensive task_row) (Quit 1) ≡ CarriageReturn ∷ EraseLine ∷ LineFeed ∷ EraseBelow ∷ Up 1 ∷ []
 unfolding chars str_width step past_emoji
 closes_erased = refl
 

@@ -1,4 +1,4 @@
--- What the environment of a program says of the terminal.
+-- What the environment of a program says about the terminal.
 use Rattle.std.specs.Prelude.{◌≡◌, ◌↔◌, List, [], ℕ, IsTrue, SomeIff}
 use Rattle.std.specs.Str.Parse.{digits_value}
 use Rattle.prodash_line.specs.Dimensions.{IsDimension}

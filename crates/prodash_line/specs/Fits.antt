@@ -27,11 +27,12 @@ pub record HasPlainLines (f : Frame) : Type 0 where
   pub messages : AllByRecursion IsPlain f.messages
   pub drawn : AllByRecursion IsPlain (body_lines [] f.body)
 
--- a plain line, no wider than the page; of lines that are cut to its width only the first is asked
+-- a plain line, no wider than the page; a line that is cut to the page's width need only be plain
 pub record LineFits (cut : Bool) (columns : ℕ) (line : Line) : Type 0 where
   pub plain : IsPlain line
   pub within : MatchBool cut ⊤ (columns_of line ≤ columns)
 
+-- each of the lines fits
 abbrev pub LinesFit : Bool → ℕ → List Line → Type 0
 LinesFit cut columns lines = AllByRecursion (LineFits cut columns) lines
 

@@ -14,13 +14,15 @@ styled_signs None text = map Char text
 styled_signs (Some style) [] = []
 styled_signs (Some style) (c ∷ text) = Open style ∷ (map Char (c ∷ text) ++ Reset ∷ [])
 
+-- the signs of a piece
 abbrev pub piece_signs : Piece → List Sign
 piece_signs p = styled_signs p.style p.text
 
+-- the signs of a line, without a line feed
 abbrev pub line_signs : Line → List Sign
 line_signs line = flat_map piece_signs line
 
--- a line over another one of this width: the line, spaces as far as the other one reached, a line feed
+-- a line over another one of this width: the line, spaces up to where the other one ended, a line feed
 abbrev pub overwrite_line : ℕ → Line → List Sign
 overwrite_line width line = line_signs line ++ (piece_signs (spaces (width - columns_of line)) ++ LineFeed ∷ [])
 
@@ -34,7 +36,7 @@ abbrev pub row_start : Layout → List Sign
 row_start Overwriting = []
 row_start (Erasing height) = EraseLine ∷ []
 
--- the widths of the lines on screen that lines are written over, by those of all: on rows that are erased there is none
+-- the widths of the lines on screen that lines are written over: of all, or of none in rows that are erased first
 abbrev pub covered : Layout → List ℕ → List ℕ
 covered Overwriting widths = widths
 covered (Erasing height) widths = []
@@ -44,6 +46,7 @@ abbrev pub lines_over : Layout → List ℕ → List Line → List Sign
 lines_over layout widths [] = []
 lines_over layout widths (line ∷ lines) = row_start layout ++ (overwrite_line (first_width widths) line ++ lines_over layout (drop 1 widths) lines)
 
+-- lines over those on screen, in rows that aren't erased first
 abbrev pub overwrite : List ℕ → List Line → List Sign
 overwrite widths lines = lines_over Overwriting widths lines
 
@@ -57,11 +60,11 @@ abbrev pub erased_rows : ℕ → List Sign
 erased_rows zero = []
 erased_rows (suc n) = EraseLine ∷ LineFeed ∷ erased_rows n
 
--- how many rows are erased of n lines on screen that are left over below these lines: as many as there are above the window's last row
+-- how many rows are erased below these lines if n lines are on screen: one for each that is left over, but none in or below the window's last row
 abbrev pub left_over : ℕ → ℕ → ℕ → ℕ
 left_over height n lines = min (n - lines) (height - 1 - lines)
 
--- the lines over those on screen; of the lines on screen that are left over, spaces over each, or erased rows and nothing below them; and back up
+-- the lines over those on screen; then spaces over each line on screen that is left over, or its row and all below erased; then back up
 abbrev pub redraw : Layout → List ℕ → List Line → List Sign
 redraw Overwriting widths lines =
     overwrite widths (lines ++ replicate (length widths - length lines) []) ++ cursor_up (max (length lines) (length widths))
@@ -85,12 +88,13 @@ pub record Frame : Type 0 where
   pub messages : List Line
   pub body : Body
 
+-- the signs of a body, over the lines that are left on screen
 abbrev pub body_signs : Layout → List ℕ → Body → List Sign
 body_signs layout widths Unchanged = []
 body_signs layout widths (Draws lines) = redraw layout widths lines
 body_signs layout widths (Closes ending) = redraw layout widths [] ++ ending
 
--- where a frame is to erase rows, it begins at the beginning of the cursor's row
+-- a frame that erases rows begins at the beginning of the cursor's row
 abbrev pub frame_start : Layout → Body → List Sign
 frame_start Overwriting body = []
 frame_start (Erasing height) Unchanged = []
@@ -104,6 +108,7 @@ frame_signs widths f =
     ++ (frame_start f.layout f.body
     ++ (lines_over f.layout (covered f.layout widths) f.messages ++ body_signs f.layout (drop (length f.messages) widths) f.body))
 
+-- the lines on screen after a body, by those before it
 abbrev pub body_lines : List Line → Body → List Line
 body_lines lines Unchanged = lines
 body_lines lines (Draws drawn) = drawn

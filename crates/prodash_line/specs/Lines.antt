@@ -10,6 +10,7 @@ pub record Piece : Type 0 where
   pub style : Option Style
   pub text : List ℕ
 
+-- the pieces of a line, from left to right
 abbrev pub Line : Type 0
 Line = List Piece
 

@@ -36,8 +36,8 @@ abbrev pub with_char : ℕ → ℕ → ℕ → List (List ℕ) → List (List �
 with_char row column c rows = slice_set rows row (slice_set (slice_index_or rows row []) column c)
 
 -- a character in the cursor's cell, and the cursor right of it
-abbrev pub put : ℕ → Canvas → Canvas
-put c p = record p { rows = with_char p.row p.column c p.rows; column = p.column + 1 }
+abbrev pub put_char : ℕ → Canvas → Canvas
+put_char c p = record p { rows = with_char p.row p.column c p.rows; column = p.column + 1 }
 
 -- a row that is blank from this column on
 abbrev pub blank_row_from : ℕ → ℕ → List ℕ → List ℕ
@@ -54,7 +54,7 @@ with_blank_from columns row column rows = slice_set rows row (blank_row_from col
 -- The page after one sign: a character past the last column goes to the next row, and the cursor goes up no further than the window's top.
 -- Styles, and whether the cursor is hidden, change no cell.
 abbrev pub after_sign : Sign → Canvas → Canvas
-after_sign (Char c) p = if nat_lt p.column p.columns then put c p else put c (next_row p)
+after_sign (Char c) p = if nat_lt p.column p.columns then put_char c p else put_char c (next_row p)
 after_sign LineFeed p = next_row p
 after_sign CarriageReturn p = record p { column = 0 }
 after_sign (Up n) p = record p { row = max (length p.rows - p.height) (p.row - n) }

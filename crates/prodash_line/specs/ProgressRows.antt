@@ -38,6 +38,7 @@ values_in defensive unit p throughput =
 abbrev pub fraction_values : ℕ → Option ℕ → Line
 fraction_values step bound = styled (Some values_style) (fraction_of step bound) ∷ []
 
+-- the values of a progress: in this unit, or as a fraction if there is none
 abbrev pub values_by : Bool → Option Measure → RowProgress → Option Throughput → Line
 values_by defensive None p throughput = fraction_values p.counter p.bound
 values_by defensive (Some unit) p throughput = values_in defensive unit p throughput
@@ -92,6 +93,7 @@ head_of defensive row = spaces (length row.0) ∷ styled (Some (name_style row.1
 abbrev pub unpadded : Bool → PathRow → RowProgress → Option Throughput → Line
 unpadded defensive row p throughput = head_of defensive row ++ (spaces 1 ∷ values_of defensive p throughput)
 
+-- the column at which the values of a row with this progress end, without padding; 0 if there is no progress
 abbrev pub midpoint_with : Bool → PathRow → Option RowProgress → Option Throughput → ℕ
 midpoint_with defensive row None throughput = 0
 midpoint_with defensive row (Some p) throughput = columns_of (unpadded defensive row p throughput)
@@ -111,6 +113,7 @@ padded defensive midpoint row p throughput =
     head_of defensive row
     ++ (spaces 1 ∷ spaces (midpoint - columns_of (unpadded defensive row p throughput)) ∷ values_of defensive p throughput)
 
+-- the line of a row with this progress, or without one
 abbrev pub row_line_with : Bool → ℕ → ℕ → PathRow → Option RowProgress → Option Throughput → Line
 row_line_with defensive width midpoint row None throughput = head_of defensive row
 row_line_with defensive width midpoint row (Some p) throughput =
@@ -126,6 +129,7 @@ row_line defensive width midpoint drawn = row_line_with defensive width midpoint
 abbrev pub drawn_row_line : Options → ℕ → DrawnRow → Line
 drawn_row_line options midpoint drawn = as_drawn options (row_line options.defensive options.terminal_dimensions.0 midpoint drawn)
 
+-- the lines of rows as they are drawn
 abbrev pub row_lines : Options → ℕ → List DrawnRow → List Line
 row_lines options midpoint rows = map (drawn_row_line options midpoint) rows
 
@@ -148,7 +152,7 @@ abbrev pub fitting_count : Layout → ℕ → ℕ
 fitting_count Overwriting n = n
 fitting_count (Erasing height) n = if nat_lt n height then n else height - 2
 
--- of rows those that are drawn
+-- the rows that are drawn
 abbrev pub fitting : Layout → List DrawnRow → List DrawnRow
 fitting layout rows = take (fitting_count layout (length rows)) rows
 
@@ -156,6 +160,6 @@ fitting layout rows = take (fitting_count layout (length rows)) rows
 abbrev pub more_line : ℕ → Line
 more_line n = piece (32 ∷ 8230 ∷ codes " and ") ∷ piece (decimal n) ∷ piece (codes " more") ∷ []
 
--- the line that counts the rows that don't fit, if there are any and there is a row for it
+-- the line that says how many rows are hidden, if there are any and there is a row for it
 abbrev pub more_lines : Options → ℕ → List Line
 more_lines options n = if nat_eq n 0 || nat_lt options.terminal_dimensions.1 2 then [] else as_drawn options (more_line n) ∷ []

@@ -25,6 +25,7 @@ use Rattle.prodash_line.specs.ProgressRows.{DrawnRow, filtered, with_throughputs
 use Rattle.prodash_line.specs.MessageLines.{message_lines, latest_origin_widths}
 use Rattle.prodash_line.specs.Screens.{ScreenState, WritesFrame, BreaksDuring}
 
+-- what the renderer keeps from frame to frame
 pub record Renderer : Type 0 where
   pub options : Options
   -- the width of each line on screen
@@ -82,7 +83,7 @@ new_renderer options throughput = record {
   ended = None;
 }
 
--- does the next frame hide the cursor? the first does, if the cursor is to be hidden on a terminal
+-- does the next frame hide the cursor? the first does, if the cursor of a terminal is to be hidden
 abbrev pub hides_cursor : Renderer → Bool
 hides_cursor r = r.options.hide_cursor && (r.options.output_is_terminal && not r.cursor_hidden)
 
@@ -107,11 +108,11 @@ abbrev pub rows_changed : Option (List PathRow) → List PathRow → Bool
 rows_changed None rows = true
 rows_changed (Some before) rows = not (same_rows before rows)
 
--- has it new messages?
+-- are there new messages?
 abbrev pub has_messages : List Message → Bool
 has_messages messages = not (nat_eq (length messages) 0)
 
--- must rows be drawn though they haven't changed? if the frame erases rows and prints messages, or comes after one that erased those of tasks
+-- must rows be drawn that haven't changed? if the frame erases rows, and prints messages or comes after one that erased the rows of tasks
 abbrev pub draws_again : Renderer → Bool → Bool
 draws_again r printed = erases_rows r.options && (printed || r.rows_erased)
 
@@ -132,11 +133,11 @@ latest_rows (Some rows) = rows
 abbrev pub drawn_rows : Renderer → ℕ → List PathRow → List DrawnRow
 drawn_rows r at rows = with_throughputs r.tracker at (filtered r.options.level_filter rows)
 
--- of those rows the ones that fit the window
+-- those of them that fit the window
 abbrev pub fitting_rows : Renderer → ℕ → List PathRow → List DrawnRow
 fitting_rows r at rows = fitting (layout_of r.options) (drawn_rows r at rows)
 
--- the lines of the rows that fit, and the line that counts the others
+-- the lines of the rows that fit, and the line that says how many are hidden
 abbrev pub drawn_lines : Renderer → ℕ → List PathRow → List Line
 drawn_lines r at rows =
     row_lines r.options r.midpoint (fitting_rows r at rows) ++ more_lines r.options (length (drawn_rows r at rows) - length (fitting_rows r at rows))
@@ -168,8 +169,7 @@ resized r columns height = record r {
   origin_widths = keep_last height r.origin_widths;
 }
 
--- the renderer with what it remembers of an input: of a tick the rows, the origins of the messages, and how many were pushed; of a resize the
--- size
+-- the renderer with what it remembers of an input: the rows of a tick, the origins of its messages and how many were pushed; the size of a resize
 abbrev pub remember : Renderer → Input → Renderer
 remember r (Tick at show (Some seen)) = record r {
   last_rows = Some seen.0;
@@ -190,7 +190,7 @@ moment_of (Quit at) = at
 abbrev pub drawing_at : Renderer → Input → Drawing
 drawing_at r input = let r' = remember r input in drawing_of r' (moment_of input) (latest_rows r'.last_rows)
 
--- what a tick without rows to draw does after its messages: they erase the lines on screen if the frame erases rows
+-- what a tick without rows to draw does after its messages: it erases the lines on screen if it has printed any and frames erase rows
 abbrev pub idle_action : Renderer → Bool → Action
 idle_action r printed = if erases_rows r.options && printed then Erase else Leave
 
@@ -216,7 +216,7 @@ printed_at r (Tick at show None) = []
 printed_at r (Resize at show columns height) = []
 printed_at r (Quit at) = []
 
--- the body of a frame that does this, with what it draws, if it draws rows, and what it ends with, if it closes the renderer
+-- the body of a frame with this action: what it draws, if it draws rows, and what it ends with, if it closes the renderer
 abbrev pub body_of : Action → Drawing → List Sign → Body
 body_of Leave drawing ending = Unchanged
 body_of Redraw drawing ending = Draws drawing.lines
@@ -240,7 +240,7 @@ pub record FrameState : Type 0 where
   pub tracker : Option Tracker
   pub rows_erased : Bool
 
--- what a frame leaves that does this, over lines on screen of these widths
+-- what a frame with this action leaves, over lines on screen of these widths
 abbrev pub state_after : Action → Renderer → Drawing → List ℕ → FrameState
 state_after Leave r drawing widths = record { widths = widths; midpoint = r.midpoint; tracker = r.tracker; rows_erased = r.rows_erased }
 state_after Redraw r drawing widths =
@@ -257,13 +257,14 @@ abbrev pub ended_after : Action → Option Refusal → Option Refusal
 ended_after Close ended = Some refusals.Closed
 ended_after _ ended = ended
 
+-- what is returned for a frame with this action
 abbrev pub answer_of : Action → Answer
 answer_of Close = answers.Ended
 answer_of _ = answers.Drawn
 
 -- the renderer after an input: what it remembers of it, and what its frame leaves
-abbrev pub next : Renderer → Input → Renderer
-next r input = record (remember r input) {
+abbrev pub next_renderer : Renderer → Input → Renderer
+next_renderer r input = record (remember r input) {
   widths = (state_at r input).widths;
   midpoint = (state_at r input).midpoint;
   tracker = (state_at r input).tracker;
@@ -280,7 +281,7 @@ frame_bytes r input = spelling (frame_signs r.widths (frame_at r input))
 pub record Accepts (r : Renderer) (input : Input) (s : ScreenState) (answer : Answer) (r' : Renderer) (s' : ScreenState) : Type 0 where
   pub running : r.ended ≡ None
   pub returned : answer ≡ answer_of (action_at r input)
-  pub renderer : r' ≡ next r input
+  pub renderer : r' ≡ next_renderer r input
   pub screen : WritesFrame (frame_bytes r input) s s'
 
 -- out of memory: nothing has changed
@@ -308,3 +309,7 @@ Renders r input s (Err refusals.Memory) r' s' = RunsOutOfMemory r s r' s'
 Renders r input s (Err refusals.Closed) r' s' = Refuses r refusals.Closed s r' s'
 Renders r input s (Err refusals.Broken) r' s' = Refuses r refusals.Broken s r' s' ⊎ Breaks r input s r' s'
 Renders r input s (Err _) r' s' = ⊥
+
+-- the same of a screen, given what a screen's state is
+abbrev pub RendersOn : {S : Type 0} → (S → ScreenState) → Renderer → Input → S → Result Answer Refusal → Renderer → S → Type 0
+RendersOn state r input s result r' s' = Renders r input (state s) result r' (state s')

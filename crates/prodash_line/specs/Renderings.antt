@@ -10,7 +10,7 @@ use Rattle.prodash_line.specs.declared.render.line.page.sign.Sign.{Sign}
 use Rattle.prodash_line.specs.Signs.{spelling}
 use Rattle.prodash_line.specs.Lines.{Line}
 use Rattle.prodash_line.specs.Frames.{Frame, frame_signs, lines_after, widths_of, signs_of, all_lines_after, printed_lines}
-use Rattle.prodash_line.specs.Renderer.{Renderer, Renders, frame_at, frame_bytes, next}
+use Rattle.prodash_line.specs.Renderer.{Renderer, Renders, frame_at, frame_bytes, next_renderer}
 use Rattle.prodash_line.specs.Screens.{ScreenState, has_bytes}
 use Rattle.prodash_line.specs.Page.{Canvas, page_after}
 use Rattle.prodash_line.specs.Reading.{AreProper}
@@ -22,8 +22,9 @@ pub record Rendering : Type 0 where
   pub input : Input
   pub result : Result Answer Refusal
 
+-- the renderer after an input, by what was returned for it
 abbrev pub after_result : Renderer → Input → Result Answer Refusal → Renderer
-after_result r input (Ok answer) = next r input
+after_result r input (Ok answer) = next_renderer r input
 after_result r input (Err refusals.Broken) = record r { ended = Some refusals.Broken }
 after_result r input (Err refusal) = r
 
@@ -58,6 +59,7 @@ pub record Attempt : Type 0 where
   pub frame : Frame
   pub broken : Bool
 
+-- the attempt at a frame, by what was returned; none if the renderer was closed or out of memory
 abbrev pub attempt_of : Frame → Result Answer Refusal → List Attempt
 attempt_of frame (Ok answer) = record { frame = frame; broken = false } ∷ []
 attempt_of frame (Err refusals.Broken) = record { frame = frame; broken = true } ∷ []
@@ -68,6 +70,7 @@ abbrev pub attempts_of : Renderer → List Rendering → List Attempt
 attempts_of r [] = []
 attempts_of r (x ∷ xs) = attempt_of (frame_at r x.input) x.result ++ attempts_of (renderer_after r x) xs
 
+-- the frames of attempts
 abbrev pub frames_of : List Attempt → List Frame
 frames_of attempts = map (λ attempt. attempt.frame) attempts
 

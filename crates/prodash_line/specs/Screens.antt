@@ -23,6 +23,7 @@ StaysBroken s s' = IsTrue s.broken → IsTrue s'.broken × (s'.bytes ≡ s.bytes
 abbrev pub IsFlushed : ScreenState → Type 0
 IsFlushed s = s.flushed ≡ s.bytes
 
+-- are there any bytes?
 abbrev pub has_bytes : List ℕ → Bool
 has_bytes bytes = nat_lt 0 (length bytes)
 

@@ -5,7 +5,7 @@ pub mod Calls
 pub mod SignReading
 pub mod Cutting
 pub mod Writing
-pub mod Padding
+pub mod RowWriting
 pub mod OverwriteBytes
 pub mod Observing
 pub mod FrameWriting

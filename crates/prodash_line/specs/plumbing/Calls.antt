@@ -1,4 +1,4 @@
--- A call of a writer, as contracts see it.
+-- A call made on a writer, as contracts see it.
 use Rattle.prodash_line.specs.Writers.{WriterCall, Write, Flush}
 use Rattle.prodash_line.specs.declared.render.line.draw.over_write.calls.Call.{Call}
 use Rattle.prodash_line.specs.declared.render.line.draw.over_write.calls.Call.TheVariants as calls

@@ -1,11 +1,13 @@
 -- What composing a frame writes, and what it leaves to the next frame.
 use Rattle.std.specs.Prelude.{◌≡◌, ℕ, Bool, List, [], ◌∷◌, ◌++◌, ◌+◌, ◌-◌, length, Option, Some, max}
+use Rattle.std.specs.Global.{Vec}
 use Rattle.prodash_base.specs.FrameTrackers.{FrameTracker}
+use Rattle.prodash_base.specs.declared.messages.Message.{Message}
 use Rattle.prodash_base.specs.Rows.{PathRow, rows_of}
 use Rattle.prodash_base.specs.Trackers.{Tracker}
 use Rattle.prodash_base.specs.declared.progress.Row.{Row}
 use Rattle.prodash_line.specs.declared.render.line.draw.input.Input.{Input}
-use Rattle.prodash_line.specs.declared.render.line.draw.input.Input.TheVariants.{Resize}
+use Rattle.prodash_line.specs.declared.render.line.draw.input.Input.TheVariants.{Tick, Resize}
 use Rattle.prodash_line.specs.declared.render.line.draw.input.Options.{Options}
 use Rattle.prodash_line.specs.declared.render.line.draw.action.Action.{Action}
 use Rattle.prodash_line.specs.declared.render.line.draw.action.Drawn.{Drawn}
@@ -19,13 +21,14 @@ use Rattle.prodash_line.specs.declared.render.line.draw.line_writer.LineWriter.{
 use Rattle.prodash_line.specs.declared.render.line.page.sign.Sign.{Sign}
 use Rattle.prodash_line.specs.Signs.{spelling}
 use Rattle.prodash_line.specs.Lines.{Line}
-use Rattle.prodash_line.specs.DrawnLines.{layout_of}
+use Rattle.prodash_line.specs.DrawnLines.{layout_of, as_drawn}
 use Rattle.prodash_line.specs.Frames.{Body, covered, erased_rows, left_over, cursor_up, redraw, body_signs, widths_of, Frame, Closes, frame_signs}
-use Rattle.prodash_line.specs.ProgressRows.{DrawnRow, filtered, fitting_count, fitting, more_lines, row_lines, greatest_midpoint}
+use Rattle.prodash_line.specs.ProgressRows.{DrawnRow, filtered, fitting_count, fitting, more_line, more_lines, row_lines, greatest_midpoint}
+use Rattle.prodash_line.specs.MessageLines.{message_lines, widths_of_origins}
 use Rattle.prodash_base.specs.declared.refusal.Refusal.TheVariants as refusals
 use Rattle.prodash_line.specs.Renderer.{Renderer, Drawing, FrameState, drawing_of, body_of, opening_of, ending_of, state_after, state_at, action_at, remember, latest_rows, frame_bytes, ended_after, is_cursor_hidden}
 use Rattle.prodash_line.specs.plumbing.OverwriteBytes.{lines_bytes}
-use Rattle.prodash_line.specs.plumbing.Observing.{shown_by, observe_all, ahead_of, tracker_by}
+use Rattle.prodash_line.specs.plumbing.Observing.{shown_by, ahead_of, tracker_by}
 use Rattle.prodash_line.specs.Tracking.{kept_of, tracked}
 
 -- a closing frame after its messages: these lines on screen are blanked, and its end
@@ -48,6 +51,10 @@ broken r = record r { ended = Some refusals.Broken }
 abbrev pub closing_bytes : Renderer → List ℕ
 closing_bytes r = spelling (frame_signs r.widths (closing_frame r))
 
+-- a tick with a root that sees this
+abbrev pub tick_seeing : ℕ → Bool → List PathRow × List Message × ℕ → Input
+tick_seeing at show seen = Tick at show (Some seen)
+
 -- the buffer holds the frame of an input
 abbrev pub HoldsFrame : Renderer → Input → LineWriter → Type 0
 HoldsFrame r input out = out.bytes ≡ frame_bytes r input
@@ -64,13 +71,22 @@ AppendsSigns old signs new = new.bytes ≡ old.bytes ++ spelling signs
 abbrev pub AppendsOver : Layout → LineWriter → List ℕ → List Line → LineWriter → Type 0
 AppendsOver layout old widths lines new = new.bytes ≡ old.bytes ++ lines_bytes layout widths lines
 
--- what a frame that does this after its messages begins with where it is to erase rows
+-- the lines of messages after origins of these widths, over lines on screen, follow the bytes of old
+abbrev pub WritesMessages : Options → Vec ℕ → List ℕ → List Message → LineWriter → LineWriter → Type 0
+WritesMessages options origin_widths widths messages old new =
+    AppendsOver (layout_of options) old widths (message_lines options origin_widths.items messages) new
+
+-- the widths of their origins follow those of old
+abbrev pub AddsOrigins : Options → List Message → Vec ℕ → Vec ℕ → Type 0
+AddsOrigins options messages old new = new.items ≡ old.items ++ widths_of_origins options.defensive messages
+
+-- what a frame with this action begins with where it is to erase rows
 abbrev pub action_start : Layout → Action → List Sign
 action_start Overwriting action = []
 action_start (Erasing height) Leave = []
 action_start (Erasing height) _ = CarriageReturn ∷ []
 
--- the buffer holds the beginning of a frame that does this after its messages
+-- the buffer holds the beginning of a frame with this action
 abbrev pub BeginsFrame : Renderer → Layout → Action → LineWriter → Type 0
 BeginsFrame r layout action out = out.bytes ≡ spelling (opening_of r ++ action_start layout action)
 
@@ -119,8 +135,8 @@ abbrev pub LeftBy : Renderer → Option FrameTracker → Input → Option FrameT
 LeftBy r old input new drawn = Leaves (tracked r old) input drawn new
 
 -- the same of the frame of a tick
-abbrev pub LeftByTick : Renderer → Option FrameTracker → Input → Option FrameTracker → Composed → Type 0
-LeftByTick r old input new frame = LeavesTick (tracked r old) input frame new
+abbrev pub LeftByTick : Renderer → Option FrameTracker → ℕ → Bool → List PathRow × List Message × ℕ → Option FrameTracker → Composed → Type 0
+LeftByTick r old at show seen new frame = LeavesTick (tracked r old) (tick_seeing at show seen) frame new
 
 -- a resize to these columns and rows
 abbrev pub resize_to : ℕ → Bool → ℕ × ℕ → Input
@@ -134,7 +150,7 @@ renderer_in scene tracker = record scene.past.now { options = scene.options; tra
 abbrev pub drawing_in : Scene → Option Tracker → Drawing
 drawing_in scene tracker = drawing_of (renderer_in scene tracker) scene.at (rows_of scene.rows.now)
 
--- the body of a frame that does this in a scene
+-- the body of a frame with this action in a scene
 abbrev pub body_in : Action → Scene → Option Tracker → Body
 body_in action scene tracker = body_of action (drawing_in scene tracker) (ending_of scene.past.now)
 
@@ -175,15 +191,21 @@ pub record AddsRows (options : Options) (aligned : ℕ) (tracker : Option Tracke
   pub rows_erased : new.rows_erased ≡ old.rows_erased
   pub action : new.action ≡ old.action
 
--- the tracker has observed those of these rows that are drawn
-abbrev pub ObservesRows : Options → List Row → Option FrameTracker → Option FrameTracker → Type 0
-ObservesRows options rows old new = ahead_of new ≡ observe_all (ahead_of old) (filtered options.level_filter (rows_of rows))
+-- the rows of a scene have been drawn besides those of old
+abbrev pub DrawsRows : Scene → Option FrameTracker → List Row → Drawn → Drawn → Type 0
+DrawsRows scene tracker rows old new = AddsRows scene.options scene.past.now.midpoint (ahead_of tracker) rows old new
+
+-- their lines, over lines on screen of these widths, follow the bytes of old
+abbrev pub WritesRows : Scene → Option FrameTracker → List ℕ → List Row → LineWriter → LineWriter → Type 0
+WritesRows scene tracker widths rows old new =
+    let lines = shown_lines scene.options scene.past.now.midpoint (ahead_of tracker) rows in
+    AppendsOver (layout_of scene.options) old widths lines new
 
 -- the rows of these that fit
 abbrev pub fitting_shown : Options → Option Tracker → List Row → List DrawnRow
 fitting_shown options tracker rows = fitting (layout_of options) (shown_rows options tracker rows)
 
--- their lines, and the line that counts the others
+-- their lines, and the line that says how many are hidden
 abbrev pub fitting_lines : Options → ℕ → Option Tracker → List Row → List Line
 fitting_lines options midpoint tracker rows =
     row_lines options midpoint (fitting_shown options tracker rows)
@@ -196,18 +218,41 @@ pub record AddsFitting (options : Options) (aligned : ℕ) (tracker : Option Tra
   pub rows_erased : new.rows_erased ≡ old.rows_erased
   pub action : new.action ≡ old.action
 
+-- those of a scene that fit have been drawn besides those of old
+abbrev pub DrawsFitting : Scene → Option FrameTracker → Drawn → Drawn → Type 0
+DrawsFitting scene tracker old new = AddsFitting scene.options scene.past.now.midpoint (ahead_of tracker) scene.rows.now old new
+
+-- their lines and the line that says how many are hidden, over lines on screen of these widths, follow the bytes of old
+abbrev pub WritesFitting : Scene → Option FrameTracker → List ℕ → LineWriter → LineWriter → Type 0
+WritesFitting scene tracker widths old new =
+    let layout = layout_of scene.options in
+    let lines = fitting_lines scene.options scene.past.now.midpoint (ahead_of tracker) scene.rows.now in
+    AppendsOver layout old (covered layout widths) lines new
+
 -- how many of the rows are drawn if all that pass the filter are
 abbrev pub count_of : Option (ℕ × ℕ) → List Row → ℕ
 count_of levels rows = length (filtered levels (rows_of rows))
 
--- the rows are parted behind the last one that is drawn and fits
+-- the rows are split after the last one that is drawn and fits
 pub record SplitsFitting (layout : Layout) (levels : Option (ℕ × ℕ)) (rows shown others : List Row) : Type 0 where
   pub whole : rows ≡ shown ++ others
   pub count : count_of levels shown ≡ fitting_count layout (count_of levels rows)
 
--- the line that counts these rows
+-- the line that says how many of these rows are hidden
 abbrev pub more_of : Options → List Row → List Line
 more_of options rows = more_lines options (count_of options.level_filter rows)
+
+-- it follows the bytes of old
+abbrev pub WritesMore : Options → List Row → LineWriter → LineWriter → Type 0
+WritesMore options rows old new = AppendsOver (layout_of options) old [] (more_of options rows) new
+
+-- the line that says that n rows are hidden, as it is drawn
+abbrev pub drawn_more_line : Options → ℕ → Line
+drawn_more_line options n = as_drawn options (more_line n)
+
+-- it follows the bytes of old
+abbrev pub WritesCount : Options → ℕ → LineWriter → LineWriter → Type 0
+WritesCount options n old new = AppendsOver (layout_of options) old [] (drawn_more_line options n ∷ []) new
 
 -- these rows have been counted besides those of old
 pub record CountsRows (options : Options) (rows : List Row) (old new : Drawn) : Type 0 where

@@ -1,20 +1,23 @@
 -- Rows that are observed one after another, by a tracker if there is one.
-use Rattle.std.specs.Prelude.{ℕ, List, [], ◌∷◌, Option, Some, None}
+use Rattle.std.specs.Prelude.{◌≡◌, ℕ, List, [], ◌∷◌, Option, Some, None}
 use Rattle.std.specs.Option.{option_map}
-use Rattle.prodash_base.specs.Rows.{PathRow}
+use Rattle.prodash_base.specs.Rows.{PathRow, row_of, rows_of}
+use Rattle.prodash_base.specs.declared.progress.Row.{Row}
+use Rattle.prodash_line.specs.declared.render.line.draw.frame.Scene.{Scene}
+use Rattle.prodash_line.specs.declared.render.line.draw.input.Options.{Options}
 use Rattle.prodash_base.specs.Trackers.{Tracker, observe, update_elapsed, throughput_of, step_of, reconcile}
 use Rattle.prodash_base.specs.declared.unit.display.Throughput.{Throughput}
-use Rattle.prodash_line.specs.ProgressRows.{DrawnRow}
+use Rattle.prodash_line.specs.ProgressRows.{DrawnRow, filtered}
 use Rattle.prodash_line.specs.declared.render.line.draw.action.Action.{Action}
 use Rattle.prodash_line.specs.declared.render.line.draw.action.Action.TheVariants.{Redraw}
 use Rattle.prodash_base.specs.FrameTrackers.{FrameTracker}
 use Rattle.prodash_line.specs.Tracking.{kept_of}
 
--- and after what the frame that is composed has observed
+-- the tracker after the rows that the frame that is being composed has observed
 abbrev pub ahead_of : Option FrameTracker → Option Tracker
 ahead_of t = option_map (λ t. t.ahead) t
 
--- the tracker that a written frame keeps that does this: if it draws these rows, the one that has observed them
+-- the tracker that a written frame with this action keeps: the one that has observed these rows, if it draws them
 abbrev pub tracker_by : Action → Option FrameTracker → List PathRow → Option Tracker
 tracker_by Redraw t rows = option_map (λ t. reconcile t rows) (ahead_of t)
 tracker_by _ t rows = kept_of t
@@ -42,3 +45,23 @@ shown_by tracker (row ∷ rows) =
 abbrev pub observe_all : Option Tracker → List PathRow → Option Tracker
 observe_all tracker [] = tracker
 observe_all tracker (row ∷ rows) = observe_all (observe_by tracker row) rows
+
+-- this is the throughput that a row gives
+abbrev pub IsThroughputOf : Row → Option FrameTracker → Option Throughput → Type 0
+IsThroughputOf row tracker throughput = throughput ≡ throughput_by (ahead_of tracker) (row_of row)
+
+-- the tracker has observed a row
+abbrev pub ObservesRow : Row → Option FrameTracker → Option FrameTracker → Type 0
+ObservesRow row old new = ahead_of new ≡ observe_by (ahead_of old) (row_of row)
+
+-- the tracker has observed those of these rows that the filter of levels lets through
+abbrev pub ObservesRows : Option (ℕ × ℕ) → List Row → Option FrameTracker → Option FrameTracker → Type 0
+ObservesRows levels rows old new = ahead_of new ≡ observe_all (ahead_of old) (filtered levels (rows_of rows))
+
+-- the tracker has observed those of these rows that are drawn
+abbrev pub ObservesDrawn : Options → List Row → Option FrameTracker → Option FrameTracker → Type 0
+ObservesDrawn options rows old new = ObservesRows options.level_filter rows old new
+
+-- the tracker has observed the rows of a scene that are drawn
+abbrev pub ObservesScene : Scene → Option FrameTracker → Option FrameTracker → Type 0
+ObservesScene scene old new = ObservesDrawn scene.options scene.rows.now old new

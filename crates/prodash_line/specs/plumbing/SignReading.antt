@@ -1,5 +1,5 @@
 -- What signs bytes begin with, as reading them finds them: characters, numbers, styles and control sequences.
-use Rattle.std.specs.Prelude.{◌≡◌, [], ℕ, ◌<◌, ◌≤◌, List, Bool, ◌^◌, ◌++◌, length, take, ◌∷◌, ◌≢◌}
+use Rattle.std.specs.Prelude.{◌≡◌, [], ℕ, Option, MatchOption, ◌<◌, ◌≤◌, List, Bool, ◌^◌, ◌++◌, length, take, ◌∷◌, ◌≢◌}
 use Rattle.prodash_line.specs.declared.render.line.page.sign.Sign.{Sign}
 use Rattle.std.specs.Char.{IsScalar, encode_utf8}
 use Rattle.prodash_line.specs.declared.render.line.page.style.Style.{Style}
@@ -65,6 +65,10 @@ Makes parameters final_byte s = IsProper s × (spelling_of s ≡ sequence parame
 -- no proper sign's sequence has these parameters and this final byte
 abbrev pub MakesNone : List ℕ → ℕ → Type 0
 MakesNone parameters final_byte = (s : Sign) → IsProper s → spelling_of s ≡ sequence parameters final_byte → ⊥
+
+-- the sign whose sequence has these parameters and this final byte, if there is one
+abbrev pub MakesSign : List ℕ → ℕ → Option Sign → Type 0
+MakesSign parameters final_byte sign = MatchOption sign (MakesNone parameters final_byte) (Makes parameters final_byte)
 
 -- ESC, an opening bracket and the bytes begin with this proper sign, and go on with the rest
 abbrev pub IsSequenceAt : List ℕ → Sign → List ℕ → Type 0

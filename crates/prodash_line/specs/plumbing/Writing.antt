@@ -1,23 +1,33 @@
 -- What a line writer has written.
-use Rattle.std.specs.Prelude.{◌≡◌, ◌≤◌, ℕ, zero, suc, ◌+◌, ◌-◌, Bool, true, List, [], ◌++◌, length, Option, Some, None, replicate}
+use Rattle.std.specs.Prelude.{◌≡◌, ◌≤◌, ℕ, zero, suc, ◌+◌, ◌-◌, Bool, true, false, List, [], ◌∷◌, ◌++◌, chars, length, Option, Some, None, replicate}
 use Rattle.std.specs.List.{list_all}
 use Rattle.std.specs.Int.{is_in_range}
+use Rattle.prodash_line.specs.declared.render.line.draw.drawn_text.DrawnText.{DrawnText}
 use Rattle.prodash_line.specs.declared.render.line.draw.line_writer.LineWriter.{LineWriter}
+use Rattle.prodash_line.specs.declared.render.line.draw.room.Room.{Room}
 use Rattle.prodash_line.specs.declared.render.line.draw.room.Room.TheVariants.{Columns}
 use Rattle.prodash_line.specs.declared.render.line.page.sign.Sign.TheVariants.{Open, Reset}
 use Rattle.prodash_line.specs.declared.render.line.page.style.Style.{Style}
 use Rattle.prodash_line.specs.Signs.{spelling_of, spelling}
 use Rattle.prodash_line.specs.declared.render.line.draw.input.Options.{Options}
-use Rattle.prodash_line.specs.Lines.{Line, capped, columns_of, in_color, cut}
-use Rattle.prodash_line.specs.DrawnLines.{limit_of}
+use Rattle.prodash_line.specs.Lines.{Line, piece, styled, spaces, capped, columns_of, in_color, cut}
+use Rattle.prodash_line.specs.DrawnLines.{drawn_chars, limit_of}
 use Rattle.prodash_line.specs.plumbing.Cutting.{room_of, room_after_line, Fits}
 use Rattle.prodash_line.specs.Frames.{line_signs}
 use Rattle.prodash_base.specs.declared.messages.Message.{Message}
-use Rattle.prodash_line.specs.MessageLines.{time_of}
+use Rattle.prodash_line.specs.MessageLines.{origin_width, time_of, text_of, message_line}
 
 -- n spaces and then a text
 abbrev pub indented : ℕ → List ℕ → List ℕ
 indented n text = replicate n 32 ++ text
+
+-- the width that is given of a text is its own, in columns, capped
+abbrev pub IsMeasured : DrawnText → Type 0
+IsMeasured drawn = drawn.width ≡ columns_of (piece (chars drawn.text.now) ∷ [])
+
+-- a byte n times, and then another one
+abbrev pub run : ℕ → ℕ → ℕ → List ℕ
+run byte n last = replicate n byte ++ last ∷ []
 
 -- are all of them printable ASCII characters?
 abbrev pub is_printable : List ℕ → Bool
@@ -58,6 +68,15 @@ pub record Appends (old : LineWriter) (pieces : Line) (new : LineWriter) : Type 
 abbrev pub AppendsIn : Bool → LineWriter → Line → LineWriter → Type 0
 AppendsIn colored old pieces new = Appends old (in_color colored pieces) new
 
+-- a text in a style, a space, and a text without a style follow it
+abbrev pub AppendsPair : Option Style → DrawnText → DrawnText → LineWriter → LineWriter → Type 0
+AppendsPair style first second old new =
+    Appends old (styled style (chars first.text.now) ∷ spaces 1 ∷ piece (chars second.text.now) ∷ []) new
+
+-- n spaces and a text follow it, as one piece in a style
+abbrev pub AppendsIndented : Option Style → ℕ → DrawnText → LineWriter → LineWriter → Type 0
+AppendsIndented style n drawn old new = Appends old (styled style (indented n (chars drawn.text.now)) ∷ []) new
+
 -- printable characters follow in a line that has room for all of them
 pub record AppendsWhole (old : LineWriter) (text : List ℕ) (new : LineWriter) : Type 0 where
   pub left : ℕ
@@ -67,6 +86,11 @@ pub record AppendsWhole (old : LineWriter) (text : List ℕ) (new : LineWriter) 
   pub width : new.width ≡ capped (old.width + length text)
   pub limit : new.limit ≡ old.limit
   pub after : new.room ≡ Columns (left - length text)
+
+-- if the line has room for all of them they follow, and else nothing does
+abbrev pub AppendsIfRoom : LineWriter → List ℕ → LineWriter → Bool → Type 0
+AppendsIfRoom old text new true = AppendsWhole old text new
+AppendsIfRoom old text new false = new ≡ old
 
 -- this line, cut to the limit, follows the bytes of old
 pub record Begun (limit : Option ℕ) (old : LineWriter) (line : Line) (new : LineWriter) : Type 0 where
@@ -82,13 +106,30 @@ pub record SameLine (old new : LineWriter) : Type 0 where
   pub limit : new.limit ≡ old.limit
   pub room : new.room ≡ old.room
 
+-- of any text of n printable characters this many are written where there is this room, and then there is this room
+abbrev pub FitsPrintable : Room → ℕ → ℕ → Room → Type 0
+FitsPrintable room n count rest = (text : List ℕ) → is_printable text ≡ true → length text ≡ n → Fits room text count rest
+
 -- A text of n printable characters is counted to the line, and nothing is written yet. This many of its characters are to be written.
 pub record Counts (old : LineWriter) (n count : ℕ) (new : LineWriter) : Type 0 where
   pub bytes : new.bytes ≡ old.bytes
   pub width : new.width ≡ capped (old.width + n)
   pub limit : new.limit ≡ old.limit
   pub within : count ≤ n
-  pub fits : (text : List ℕ) → is_printable text ≡ true → length text ≡ n → Fits old.room text count new.room
+  pub fits : FitsPrintable old.room n count new.room
+
+-- the origin of a message as it is drawn, and its width
+pub record IsOriginOf (options : Options) (m : Message) (origin : DrawnText) : Type 0 where
+  pub drawn : chars origin.text.now ≡ drawn_chars options.defensive m.origin
+  pub width : origin.width ≡ origin_width options.defensive m.origin
+
+-- the line of a message whose origin is right-aligned to this width, as it is drawn, follows the bytes of old
+abbrev pub DrawsMessage : Options → ℕ → Message → LineWriter → LineWriter → Type 0
+DrawsMessage options width m old new = DrawsLine options old (message_line options width m) new
+
+-- its origin, a space and its text follow
+abbrev pub AppendsOriginAndText : Options → ℕ → Message → LineWriter → LineWriter → Type 0
+AppendsOriginAndText options width m old new = AppendsIn options.colored old (text_of options.defensive width m) new
 
 -- its time as it is drawn
 abbrev pub drawn_time : Options → Message → Line

@@ -1,18 +1,19 @@
 //! A buffer that bytes are appended to.
 ghost use Rattle.std.specs.Prelude.{◌≡◌, ◌+◌, ◌∷◌, [], ◌++◌, ◌≤◌, ◌<◌, length, replicate, take, vec_len, OnOk, IfOk};
-ghost use Rattle.prodash_line.specs.plumbing.Padding.{plain_bar, plain_progress};
+ghost use Rattle.prodash_line.specs.plumbing.RowWriting.{plain_bar, whole_text, text_length, length_of, progress_bytes};
 
+use crate::render::line::draw::plain_progress::{PlainProgress, PlainText};
 use std::alloc::{AllocError, Global};
 use std::marker::Model;
 
-/// How many bytes are initialized ahead if there is memory for them.
+/// How many bytes are initialized in advance if there is memory for them.
 const AHEAD: usize = 4096;
 
-/// Bytes that others are appended to. Memory past them is initialized ahead, so that an append is
-/// one comparison and one copy. Contracts see the list of the bytes.
+/// Bytes that others are appended to. Memory past them is initialized in advance, so that an append
+/// is one comparison and one copy. Contracts see the list of the bytes.
 #[derive(Drop)]
 pub(crate) struct ByteBuffer {
-    /// The bytes, and after them others that are written over.
+    /// The bytes, and after them others that appends overwrite.
     initialized: Vec<u8>,
     /// How many bytes there are.
     length: usize,
@@ -70,7 +71,7 @@ impl ByteBuffer {
     pub(crate) fn push(&mut self, byte: u8) -> Result<(), AllocError>
         ensures { OnOk result (self.new ≡ self.old ++ byte ∷ []) }
     {
-        let end = grow(&mut self.initialized, self.length, 1)?;
+        let end = make_room(&mut self.initialized, self.length, 1)?;
         self.initialized[self.length] = byte;
         self.length = end;
         Ok(())
@@ -81,35 +82,25 @@ impl ByteBuffer {
     pub(crate) fn extend_from_slice(&mut self, bytes: &[u8]) -> Result<(), AllocError>
         ensures { OnOk result (self.new ≡ self.old ++ bytes.now) }
     {
-        let end = grow(&mut self.initialized, self.length, bytes.len())?;
+        let end = make_room(&mut self.initialized, self.length, bytes.len())?;
         self.initialized[self.length..end].copy_from_slice(bytes);
         self.length = end;
         Ok(())
     }
 
-    /// Appends a space, `padding` spaces, a text in three parts, and a bar of `cells` cells of which
-    /// the first `filled` are filled. Fails if out of memory.
+    /// Appends a progress without styles. Fails if out of memory.
     #[inline(always)]
-    pub(crate) fn push_progress(
-        &mut self,
-        padding: u16,
-        first: &[u8],
-        second: &[u8],
-        third: &[u8],
-        cells: u16,
-        filled: u16,
-    ) -> Result<(), AllocError>
-        requires within { filled ≤ cells }
-        requires short { padding + length first.now + length second.now + length third.now + cells ≤ 65530 }
-        ensures { OnOk result (let text = first.now ++ (second.now ++ third.now) in
-            self.new ≡ self.old ++ plain_progress padding text cells filled) }
+    pub(crate) fn push_progress(&mut self, progress: &PlainProgress<'_>) -> Result<(), AllocError>
+        requires within { progress.now.filled ≤ progress.now.cells }
+        requires short { length_of progress.now ≤ 65535 }
+        ensures { OnOk result (self.new ≡ self.old ++ progress_bytes progress.now) }
     {
-        let texts = first.len() + second.len() + third.len();
-        let length = 1 + usize::from(padding) + texts + usize::from(cells) + 4;
-        grow(&mut self.initialized, self.length, length)?;
-        let at = put_copies(&mut self.initialized, self.length, b' ', 1 + padding);
-        let at = put_parts(&mut self.initialized, at, first, second, third);
-        self.length = put_bar(&mut self.initialized, at, cells, filled);
+        let length = usize::from(progress.len());
+        make_room(&mut self.initialized, self.length, length)?;
+        let gap = 1 + progress.padding;
+        let at = put_copies(&mut self.initialized, self.length, b' ', gap);
+        let at = put_text(&mut self.initialized, at, &progress.text);
+        self.length = put_bar(&mut self.initialized, at, progress.cells, progress.filled);
         Ok(())
     }
 
@@ -121,16 +112,20 @@ impl ByteBuffer {
         if count == 0 {
             return Ok(());
         }
-        let end = grow(&mut self.initialized, self.length, usize::from(count))?;
+        let end = make_room(&mut self.initialized, self.length, usize::from(count))?;
         self.initialized[self.length..end].fill(byte);
         self.length = end;
         Ok(())
     }
 }
 
-/// Makes room for `additional` bytes behind the first `length` ones, and returns where they end.
+/// Makes room for `additional` bytes after the first `length`, and returns where they end.
 #[inline(always)]
-fn grow(initialized: &mut Vec<u8>, length: usize, additional: usize) -> Result<usize, AllocError>
+fn make_room(
+    initialized: &mut Vec<u8>,
+    length: usize,
+    additional: usize,
+) -> Result<usize, AllocError>
     requires { length ≤ vec_len initialized.old }
     ensures end { IfOk result (λ end. end ≡ length + additional) }
     ensures room { IfOk result (λ end. end ≤ vec_len initialized.new) }
@@ -144,9 +139,9 @@ fn grow(initialized: &mut Vec<u8>, length: usize, additional: usize) -> Result<u
     Ok(length + additional)
 }
 
-/// Writes a byte at an index, and returns the index behind it.
+/// Writes a byte at an index, and returns the index after it.
 #[inline(always)]
-fn put(bytes: &mut Vec<u8>, at: usize, byte: u8) -> usize
+fn put_byte(bytes: &mut Vec<u8>, at: usize, byte: u8) -> usize
     requires { at < vec_len bytes.old }
     ensures end { result ≡ at + 1 }
     ensures length { vec_len bytes.new ≡ vec_len bytes.old }
@@ -156,7 +151,7 @@ fn put(bytes: &mut Vec<u8>, at: usize, byte: u8) -> usize
     at + 1
 }
 
-/// Writes a byte `count` times from an index on, and returns the index behind them.
+/// Writes a byte `count` times from an index on, and returns the index after them.
 #[inline(always)]
 fn put_copies(bytes: &mut Vec<u8>, at: usize, byte: u8, count: u16) -> usize
     requires { at + count ≤ vec_len bytes.old }
@@ -169,36 +164,34 @@ fn put_copies(bytes: &mut Vec<u8>, at: usize, byte: u8, count: u16) -> usize
     end
 }
 
-/// Writes a text from an index on, and returns the index behind it.
+/// Writes some bytes from an index on, and returns the index after them.
 #[inline(always)]
-fn put_text(bytes: &mut Vec<u8>, at: usize, text: &[u8]) -> usize
-    requires { at + length text.now ≤ vec_len bytes.old }
-    ensures end { result ≡ at + length text.now }
+fn put_bytes(bytes: &mut Vec<u8>, at: usize, others: &[u8]) -> usize
+    requires { at + length others.now ≤ vec_len bytes.old }
+    ensures end { result ≡ at + length others.now }
     ensures length { vec_len bytes.new ≡ vec_len bytes.old }
-    ensures put { take result bytes.new.items ≡ take at bytes.old.items ++ text.now }
+    ensures put { take result bytes.new.items ≡ take at bytes.old.items ++ others.now }
 {
-    let end = at + text.len();
-    bytes[at..end].copy_from_slice(text);
+    let end = at + others.len();
+    bytes[at..end].copy_from_slice(others);
     end
 }
 
-/// Writes three texts from an index on, and returns the index behind them.
+/// Writes a text from an index on, and returns the index after it.
 #[inline(always)]
-fn put_parts(bytes: &mut Vec<u8>, at: usize, first: &[u8], second: &[u8], third: &[u8]) -> usize
-    requires { at + (length first.now + length second.now + length third.now)
-        ≤ vec_len bytes.old }
-    ensures end { result ≡ at + (length first.now + length second.now + length third.now) }
+fn put_text(bytes: &mut Vec<u8>, at: usize, text: &PlainText<'_>) -> usize
+    requires { at + text_length text.now ≤ vec_len bytes.old }
+    ensures end { result ≡ at + text_length text.now }
     ensures length { vec_len bytes.new ≡ vec_len bytes.old }
-    ensures put { take result bytes.new.items
-        ≡ take at bytes.old.items ++ (first.now ++ (second.now ++ third.now)) }
+    ensures put { take result bytes.new.items ≡ take at bytes.old.items ++ whole_text text.now }
 {
-    let at = put_text(bytes, at, first);
-    let at = put_text(bytes, at, second);
-    put_text(bytes, at, third)
+    let at = put_bytes(bytes, at, text.first);
+    let at = put_bytes(bytes, at, text.second);
+    put_bytes(bytes, at, text.third)
 }
 
 /// Writes a bar of `cells` cells, of which the first `filled` are filled, from an index on, and
-/// returns the index behind it.
+/// returns the index after it.
 #[inline(always)]
 fn put_bar(bytes: &mut Vec<u8>, at: usize, cells: u16, filled: u16) -> usize
     requires within { filled ≤ cells }
@@ -208,15 +201,15 @@ fn put_bar(bytes: &mut Vec<u8>, at: usize, cells: u16, filled: u16) -> usize
         ≡ take at bytes.old.items ++ plain_bar cells filled }
     ensures within { result ≤ vec_len bytes.new }
 {
-    let at = put(bytes, at, b' ');
-    let at = put(bytes, at, b'[');
+    let at = put_byte(bytes, at, b' ');
+    let at = put_byte(bytes, at, b'[');
     let at = put_copies(bytes, at, b'=', filled);
-    let at = put(bytes, at, b'>');
+    let at = put_byte(bytes, at, b'>');
     let at = put_copies(bytes, at, b'-', cells - filled);
-    put(bytes, at, b']')
+    put_byte(bytes, at, b']')
 }
 
-/// Initializes at least `missing` bytes more.
+/// Initializes at least `missing` more bytes.
 #[cold]
 #[inline(never)]
 fn initialize(bytes: &mut Vec<u8>, missing: usize) -> Result<(), AllocError>

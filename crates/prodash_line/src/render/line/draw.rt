@@ -1,8 +1,8 @@
 //! Frames: messages and rows, drawn over the lines on screen.
-ghost use Rattle.std.specs.Prelude.{◌≡◌, ℕ, Bool, Some, None, IsOkUnless, OnOk, OnErr};
+ghost use Rattle.std.specs.Prelude.{◌≡◌, ℕ, Bool, None, IsOkUnless, OnOk, OnErr};
 ghost use Rattle.prodash_line.specs.Screens.{WritesFrame, BreaksDuring};
-ghost use Rattle.prodash_line.specs.Renderer.{Renders};
-ghost use Rattle.prodash_line.specs.plumbing.FrameWriting.{begun, broken};
+ghost use Rattle.prodash_line.specs.Renderer.{RendersOn};
+ghost use Rattle.prodash_line.specs.plumbing.FrameWriting.{begun, broken, resize_to, tick_seeing};
 ghost use Rattle.prodash_line.specs.ErasedPages.{ErasesPages};
 ghost use Rattle.prodash_line.specs.ControlCharacters.{DrawsNoControls};
 
@@ -19,6 +19,7 @@ mod memory_screen;
 mod message;
 mod more;
 mod over_write;
+pub(crate) mod plain_progress;
 mod room;
 mod row;
 mod screen;
@@ -27,7 +28,7 @@ mod styles;
 mod text;
 mod tracker;
 
-use frame::{compose, compose_closing, compose_resized};
+use frame::{compose_closing, compose_resized, compose_tick};
 pub use input::{Answer, Input, Options};
 pub use memory_screen::MemoryScreen;
 pub use over_write::OverWrite;
@@ -40,7 +41,7 @@ use screen::write_frame;
 use state::Past;
 pub use state::State;
 use std::alloc::Global;
-use tracker::keep;
+use tracker::keep_observed;
 
 /// Draws the frame of an input: composes it, writes all its bytes to the screen and flushes them.
 /// A frame without bytes does nothing to the screen.
@@ -87,8 +88,7 @@ pub fn all<S: Screen>(
     state: &mut State,
     input: Input,
 ) -> Result<Answer, Refusal>
-    ensures frame { Renders state.old input (S.state screen.old) result state.new
-        (S.state screen.new) }
+    ensures frame { RendersOn S.state state.old input screen.old result state.new screen.new }
 
     // Every page shows a frame that erases the rows that it writes on.
     ensures page { ErasesPages state.old input }
@@ -104,21 +104,21 @@ pub fn all<S: Screen>(
             at,
             show,
             seen: Some(seen),
-        } => tick(alloc, screen, state, at, show, seen),
-        Input::Tick { seen: None, .. } => close(screen, state),
+        } => draw_tick(alloc, screen, state, at, show, seen),
+        Input::Tick { seen: None, .. } => draw_closing(screen, state),
         Input::Resize {
             at,
             show,
             columns,
             rows,
-        } => resize(alloc, screen, state, at, (columns, rows), show),
-        Input::Quit { .. } => close(screen, state),
+        } => draw_resized(alloc, screen, state, at, (columns, rows), show),
+        Input::Quit { .. } => draw_closing(screen, state),
     }
 }
 
 /// Draws the frame of a tick with a root, and remembers what the tick saw. It closes the renderer
 /// if the tick saw no rows, unless the renderer is to keep running.
-fn tick<S: Screen>(
+fn draw_tick<S: Screen>(
     alloc: Global,
     screen: &mut S,
     state: &mut State,
@@ -127,11 +127,11 @@ fn tick<S: Screen>(
     seen: (Rows, Messages, MessageCopyState),
 ) -> Result<Answer, Refusal>
     requires { state.old.ended ≡ None }
-    ensures { Renders state.old (Input.Tick at show (Some seen)) (S.state screen.old) result
-        state.new (S.state screen.new) }
+    ensures { RendersOn S.state state.old (tick_seeing at show seen) screen.old result state.new
+        screen.new }
 {
     let tracker = &mut state.tracker;
-    let frame = compose(
+    let frame = compose_tick(
         alloc,
         &mut state.frame,
         &state.past,
@@ -140,52 +140,51 @@ fn tick<S: Screen>(
         show,
         &seen,
     )?;
-    send(screen, &mut state.past, state.frame.bytes())?;
+    send_frame(screen, &mut state.past, state.frame.bytes())?;
     let (rows, messages, copy_state) = seen;
-    keep(&mut state.tracker, frame.drawn.action, rows.as_slice());
-    Ok(state.past.remember(frame, rows, messages, copy_state))
+    keep_observed(&mut state.tracker, frame.drawn.action, rows.as_slice());
+    Ok(state.past.remember_tick(frame, rows, messages, copy_state))
 }
 
 /// Draws the frame of a resize, and sets the size.
-fn resize<S: Screen>(
+fn draw_resized<S: Screen>(
     alloc: Global,
     screen: &mut S,
     state: &mut State,
     at: Moment,
-    dimensions: (u16, u16),
+    size: (u16, u16),
     show: bool,
 ) -> Result<Answer, Refusal>
     requires { state.old.ended ≡ None }
-    ensures { let input = Input.Resize at show dimensions.0 dimensions.1 in
-        Renders state.old input (S.state screen.old) result state.new (S.state screen.new) }
+    ensures { RendersOn S.state state.old (resize_to at show size) screen.old result state.new
+        screen.new }
 {
     let (past, tracker) = (&state.past, &mut state.tracker);
-    let drawn = compose_resized(alloc, &mut state.frame, past, tracker, at, dimensions, show)?;
-    send(screen, &mut state.past, state.frame.bytes())?;
-    keep(&mut state.tracker, drawn.action, state.past.latest_rows());
-    state.past.resize(dimensions, drawn);
+    let drawn = compose_resized(alloc, &mut state.frame, past, tracker, at, size, show)?;
+    send_frame(screen, &mut state.past, state.frame.bytes())?;
+    keep_observed(&mut state.tracker, drawn.action, state.past.latest_rows());
+    state.past.set_size(size, drawn);
     Ok(Answer::Drawn)
 }
 
 /// Draws the closing frame without messages.
-fn close<S: Screen>(screen: &mut S, state: &mut State) -> Result<Answer, Refusal>
+fn draw_closing<S: Screen>(screen: &mut S, state: &mut State) -> Result<Answer, Refusal>
     requires { state.old.ended ≡ None }
     ensures quit { (at : ℕ)
-        → Renders state.old (Input.Quit at) (S.state screen.old) result state.new
-        (S.state screen.new) }
+        → RendersOn S.state state.old (Input.Quit at) screen.old result state.new screen.new }
     ensures without_root { (at : ℕ) (show : Bool)
-        → Renders state.old (Input.Tick at show None) (S.state screen.old) result state.new
-        (S.state screen.new) }
+        → RendersOn S.state state.old (Input.Tick at show None) screen.old result state.new
+        screen.new }
 {
     compose_closing(&mut state.frame, &state.past)?;
-    send(screen, &mut state.past, state.frame.bytes())?;
-    state.past.close();
+    send_frame(screen, &mut state.past, state.frame.bytes())?;
+    state.past.mark_closed();
     Ok(Answer::Ended)
 }
 
 /// Writes the bytes of a frame to the screen, and records whether the cursor is hidden then. If the
 /// screen breaks, the renderer ends.
-fn send<S: Screen>(screen: &mut S, past: &mut Past, frame: &[u8]) -> Result<(), Refusal>
+fn send_frame<S: Screen>(screen: &mut S, past: &mut Past, frame: &[u8]) -> Result<(), Refusal>
     ensures begun { OnOk result (past.new ≡ begun past.old) }
     ensures written { OnOk result
         (WritesFrame frame.now (S.state screen.old) (S.state screen.new)) }
@@ -196,7 +195,7 @@ fn send<S: Screen>(screen: &mut S, past: &mut Past, frame: &[u8]) -> Result<(), 
     let written = write_frame(screen, frame);
     match written {
         Ok(()) => past.keep_cursor(),
-        Err(_) => past.break_off(),
+        Err(_) => past.mark_broken(),
     }
     written
 }

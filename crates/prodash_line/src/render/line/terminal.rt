@@ -1,4 +1,4 @@
-//! What the environment of a program says of the terminal, and the words that name its size.
+//! What the environment of a program says about the terminal, and the words that name its size.
 ghost use Rattle.std.specs.Prelude.{SomeIff, ℕ, List};
 ghost use Rattle.std.specs.Str.Parse.{digits_value};
 ghost use Rattle.prodash_line.specs.Dimensions.{IsDimension};
@@ -11,7 +11,7 @@ use std::str;
 /// The greatest number of bytes of a value that is read.
 const GREATEST_LENGTH: usize = 32;
 
-/// What the environment says of the terminal.
+/// What the environment says about the terminal.
 #[derive(Clone, Copy, Debug, PartialEq, Eq)]
 pub struct Environment {
     /// Whether colours are disabled.
@@ -36,8 +36,8 @@ impl Environment {
         }
     }
 
-    /// Reads the three variables. A value of more than 32 bytes or that isn't UTF-8 isn't empty, and
-    /// names no size.
+    /// Reads the three variables. A value that has more than 32 bytes or isn't UTF-8 counts as not
+    /// empty, and names no size.
     pub fn read<R: Env>(rt: &R) -> Environment
         ensures { (no_color columns lines : List ℕ) × IsSaidBy no_color columns lines result }
     {
@@ -45,9 +45,9 @@ impl Environment {
         let mut columns = [0; GREATEST_LENGTH];
         let mut lines = [0; GREATEST_LENGTH];
         Environment::new(
-            variable(rt, "NO_COLOR", &mut no_color),
-            variable(rt, "COLUMNS", &mut columns),
-            variable(rt, "LINES", &mut lines),
+            read_variable(rt, "NO_COLOR", &mut no_color),
+            read_variable(rt, "COLUMNS", &mut columns),
+            read_variable(rt, "LINES", &mut lines),
         )
     }
 }
@@ -64,7 +64,7 @@ pub fn dimension(word: &str) -> Option<u16>
 
 /// Returns the value of a variable, or an empty text if it isn't set. A value that doesn't fit in
 /// the buffer or isn't UTF-8 is given as `?`.
-fn variable<'a, R: Env>(rt: &R, name: &str, buffer: &'a mut [u8]) -> &'a str {
+fn read_variable<'a, R: Env>(rt: &R, name: &str, buffer: &'a mut [u8]) -> &'a str {
     match rt.var(name, buffer) {
         Ok(length) => str::from_utf8(&buffer[..length]).unwrap_or("?"),
         Err(FillError::TooLong) => "?",

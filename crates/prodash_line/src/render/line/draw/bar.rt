@@ -1,9 +1,8 @@
 //! The bar of a progress.
 ghost use Rattle.std.specs.Prelude.{◌≡◌, ◌-◌, ◌≤◌, ◌++◌, true, OnOk};
-ghost use Rattle.prodash_base.specs.Rows.{progress_of};
 ghost use Rattle.prodash_line.specs.ProgressRows as rows;
 ghost use Rattle.prodash_line.specs.ProgressRows.{numbered_cells};
-ghost use Rattle.prodash_line.specs.TextStyles as styles;
+ghost use Rattle.prodash_line.specs.plumbing.RowWriting.{AppendsBar, AppendsCells};
 ghost use Rattle.prodash_line.specs.plumbing.Writing.{AppendsIn, SameLine};
 
 use crate::render::line::draw::line_writer::{LineWriter, style_of_length};
@@ -26,10 +25,7 @@ pub(crate) fn push_bar(
     columns: u16,
     value: &Value,
 ) -> Result<(), AllocError>
-    ensures { OnOk result
-        (let p = progress_of value.now in
-        let bar = rows.bar (styles.row_style p) columns p.counter p.bound in
-        AppendsIn colored out.old bar out.new) }
+    ensures { OnOk result (AppendsBar colored columns value.now out.old out.new) }
 {
     if columns == 0 {
         return Ok(());
@@ -55,14 +51,12 @@ fn push_bar_with(
 ) -> Result<(), AllocError>
     requires within { filled ≤ cells }
     requires short { cells ≤ 65531 }
-    ensures { OnOk result
-        (let style = styles.row_style (progress_of value.now) in
-        AppendsIn colored out.old (rows.bar_with style cells filled) out.new) }
+    ensures { OnOk result (AppendsCells colored value.now cells filled out.old out.new) }
 {
     if colored {
         return push_colored_bar(out, row_style(value), cells, filled);
     }
-    let count = out.count(cells + (BRACKETS + ARROW));
+    let count = out.count_printable(cells + (BRACKETS + ARROW));
     let count = out.push_prefix(b" [", count)?;
     let count = out.push_run_prefix(b'=', filled, b'>', count)?;
     out.push_run_prefix(b'-', cells - filled, b']', count)?;
@@ -104,7 +98,8 @@ pub(crate) fn filled_cells(cells: u16, step: Step, done_at: Step) -> u16
 }
 
 /// Appends the bar of a progress without a bound on these columns: a cell for each number from
-/// the step upward that is less than `Step::MAX`, as far as there are columns, in reverse order.
+/// the step upward that is less than `Step::MAX`, as many as there are columns for, in reverse
+/// order.
 fn push_unbounded_bar(
     out: &mut LineWriter,
     colored: bool,
@@ -117,11 +112,11 @@ fn push_unbounded_bar(
 {
     let end = step.saturating_add(Step::from(columns.saturating_sub(BRACKETS)));
     out.push_printable(b" [")?;
-    let count = out.count((end - step) as u16);
+    let count = out.count_printable((end - step) as u16);
     let style = style_of_length(colored.then_some(style), usize::from(count));
-    out.open(style)?;
+    out.open_style(style)?;
     push_numbered_cells(out, end - Step::from(count), end)?;
-    out.reset(style)?;
+    out.reset_style(style)?;
     out.push_printable(b"]")?;
     Ok(())
 }

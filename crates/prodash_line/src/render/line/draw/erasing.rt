@@ -10,8 +10,7 @@ use crate::render::line::draw::line_writer::LineWriter;
 use crate::render::line::page::Sign;
 use std::alloc::AllocError;
 
-/// Goes to the beginning of the cursor's row, if a frame that does this after its messages erases
-/// rows.
+/// Moves the cursor to the beginning of its row, if a frame with this action erases rows.
 pub(crate) fn start_frame(
     out: &mut LineWriter,
     layout: Layout,
@@ -53,8 +52,8 @@ pub(crate) fn finish_erasing(
     Ok(())
 }
 
-/// Returns how many rows are erased below `drawn` lines, if so many lines are on screen: one for
-/// each that is left over, but none in or below the window's last row.
+/// Returns how many rows are erased below `drawn` lines if `on_screen` lines are on screen: one for
+/// each line that is left over, but none in or below the window's last row.
 fn left_over(height: u16, on_screen: usize, drawn: usize) -> usize
     ensures { result ≡ left_over height on_screen drawn }
 {
@@ -64,7 +63,7 @@ fn left_over(height: u16, on_screen: usize, drawn: usize) -> usize
         .min(above_last.saturating_sub(drawn))
 }
 
-/// Erases so many rows, from the cursor's on, and goes to the row below them.
+/// Erases `count` rows, from the cursor's on, and moves the cursor to the row below them.
 fn erase_rows(out: &mut LineWriter, count: usize) -> Result<(), AllocError>
     ensures { OnOk result (AppendsSigns out.old (erased_rows count) out.new) }
 {

@@ -1,17 +1,16 @@
 //! What is written of a text where its line is cut.
-ghost use Rattle.std.specs.Prelude.{◌≡◌, ℕ, List, ◌≤◌, ◌∷◌, [], true, false, length, chars};
+ghost use Rattle.std.specs.Prelude.{◌≡◌, ◌≤◌, ◌∷◌, [], false, chars};
 ghost use Rattle.unicode_width.specs.Width.{str_width};
 ghost use Rattle.prodash_line.specs.Lines.{piece, columns_of};
-ghost use Rattle.prodash_line.specs.plumbing.Writing.{indented, is_printable};
-ghost use Rattle.prodash_line.specs.plumbing.Cutting.{written_in, room_after, Fits};
+ghost use Rattle.prodash_line.specs.plumbing.Writing.{indented, FitsPrintable};
+ghost use Rattle.prodash_line.specs.plumbing.Cutting.{written_in, room_after};
 
 use crate::render::line::draw::room::Room;
 use crate::render::line::draw::text::{longest_prefix, uncapped_width};
 
 /// Returns how many of `count` printable ASCII characters are written, and the room after them.
 pub(crate) fn fit_printable(room: Room, count: u16) -> (u16, Room)
-    ensures fits { (text : List ℕ) → is_printable text ≡ true → length text ≡ count
-        → Fits room text result.0 result.1 }
+    ensures fits { FitsPrintable room count result.0 result.1 }
     ensures within { result.0 ≤ count }
 {
     match room {

@@ -1,15 +1,12 @@
 //! Frames: the lines of messages and rows, written over the lines on screen.
-ghost use Rattle.std.specs.Prelude.{◌≡◌, [], ◌++◌, Some, drop, OnOk, IfOk, IsOkUnless};
-ghost use Rattle.prodash_line.specs.declared.render.line.draw.input.Input.TheVariants.{Tick};
+ghost use Rattle.std.specs.Prelude.{◌≡◌, [], ◌++◌, drop, OnOk, IfOk, IsOkUnless};
 ghost use Rattle.prodash_line.specs.declared.render.line.draw.action.Action.TheVariants.{Redraw};
-ghost use Rattle.prodash_line.specs.Frames.{first_width, covered, redraw, cursor_up};
-ghost use Rattle.prodash_line.specs.MessageLines.{message_lines, widths_of_origins};
+ghost use Rattle.prodash_line.specs.Frames.{first_width, redraw, cursor_up};
 ghost use Rattle.prodash_line.specs.Renderer.{ending_of};
-ghost use Rattle.prodash_line.specs.plumbing.FrameWriting.{closing_signs, closing_bytes, Composes, AppendsSigns, AppendsOver, AppendsBody, AppendsRedraw, BeginsFrame, FinishesRedraw, LeftBy, LeftByTick, LeftByAction, AddsRows, AddsFitting, ObservesRows, resize_to, shown_lines, fitting_lines};
+ghost use Rattle.prodash_line.specs.plumbing.FrameWriting.{closing_signs, closing_bytes, Composes, AppendsSigns, AppendsBody, AppendsRedraw, BeginsFrame, FinishesRedraw, LeftBy, LeftByTick, LeftByAction, AddsOrigins, DrawsRows, DrawsFitting, WritesMessages, WritesRows, WritesFitting, resize_to, tick_seeing};
 ghost use Rattle.prodash_line.specs.Tracking.{kept_of};
-ghost use Rattle.prodash_line.specs.plumbing.Observing.{ahead_of};
+ghost use Rattle.prodash_line.specs.plumbing.Observing.{ObservesDrawn, ObservesScene};
 ghost use Rattle.prodash_line.specs.plumbing.OverwriteBytes.{blank_bytes};
-ghost use Rattle.prodash_line.specs.DrawnLines.{layout_of};
 
 use crate::render::line::draw::action::{Action, Composed, Drawn};
 use crate::render::line::draw::drawn_text::drawn_text;
@@ -17,11 +14,11 @@ use crate::render::line::draw::erasing::{finish_erasing, start_frame, start_row}
 use crate::render::line::draw::input::Options;
 use crate::render::line::draw::layout::Layout;
 use crate::render::line::draw::line_writer::LineWriter;
-use crate::render::line::draw::message::{greatest_of, push_message};
+use crate::render::line::draw::message::{greatest_width, push_message};
 use crate::render::line::draw::more::{split_fitting, write_more};
 use crate::render::line::draw::row::{RowTexts, is_row_drawn, push_row};
 use crate::render::line::draw::state::{Past, keep_latest};
-use crate::render::line::draw::tracker::{begin, observe};
+use crate::render::line::draw::tracker::{begin_observing, observe_row};
 use crate::render::line::page::Sign;
 use prodash_base::Refusal;
 use prodash_base::messages::{Message, MessageCopyState, Messages};
@@ -45,7 +42,7 @@ struct Scene<'a> {
 /// Composes the frame of a tick with a root: the messages over the lines on screen, then the rows
 /// over those that are left, if they are drawn; or blanks, if the tick closes the renderer. Fails
 /// if out of memory.
-pub(crate) fn compose(
+pub(crate) fn compose_tick(
     alloc: Global,
     out: &mut LineWriter,
     past: &Past,
@@ -55,9 +52,9 @@ pub(crate) fn compose(
     seen: &(Rows, Messages, MessageCopyState),
 ) -> Result<Composed, Refusal>
     ensures bytes { OnOk result
-        (Composes past.now tracker.old (Tick at show (Some seen.now)) out.new) }
+        (Composes past.now tracker.old (tick_seeing at show seen.now) out.new) }
     ensures state { IfOk result
-        (LeftByTick past.now tracker.old (Tick at show (Some seen.now)) tracker.new) }
+        (LeftByTick past.now tracker.old at show seen.now tracker.new) }
     ensures kept { kept_of tracker.new ≡ kept_of tracker.old }
     ensures reason { IsOkUnless result Refusal.Memory }
 {
@@ -72,11 +69,11 @@ pub(crate) fn compose(
         out,
         &past.options,
         &mut origin_widths,
-        layout.covered(&past.widths),
+        layout.covered_widths(&past.widths),
         messages,
     )?;
     keep_latest(&mut origin_widths, usize::from(height));
-    let left = below(&past.widths, messages.len());
+    let left = widths_below(&past.widths, messages.len());
     let scene = Scene {
         past,
         options: past.options,
@@ -108,18 +105,16 @@ pub(crate) fn compose_resized(
     past: &Past,
     tracker: &mut Option<FrameThroughput>,
     at: Moment,
-    dimensions: (u16, u16),
+    size: (u16, u16),
     show: bool,
 ) -> Result<Drawn, Refusal>
-    ensures bytes { OnOk result
-        (Composes past.now tracker.old (resize_to at show dimensions) out.new) }
-    ensures state { IfOk result
-        (LeftBy past.now tracker.old (resize_to at show dimensions) tracker.new) }
+    ensures bytes { OnOk result (Composes past.now tracker.old (resize_to at show size) out.new) }
+    ensures state { IfOk result (LeftBy past.now tracker.old (resize_to at show size) tracker.new) }
     ensures kept { kept_of tracker.new ≡ kept_of tracker.old }
     ensures reason { IsOkUnless result Refusal.Memory }
 {
     let options = Options {
-        terminal_dimensions: dimensions,
+        terminal_dimensions: size,
         ..past.options
     };
     let action = past.resize_action(show);
@@ -134,8 +129,8 @@ pub(crate) fn compose_resized(
     Ok(drawn)
 }
 
-/// Begins a frame that does this after its messages: empties the buffer, hides the cursor if this
-/// frame does, and goes to the beginning of the cursor's row if the frame erases rows.
+/// Begins a frame with this action: empties the buffer, hides the cursor if this frame is to hide
+/// it, and moves it to the beginning of its row if the frame erases rows.
 fn begin_frame(
     out: &mut LineWriter,
     past: &Past,
@@ -238,7 +233,7 @@ fn write_ending(out: &mut LineWriter, past: &Past) -> Result<(), AllocError>
 }
 
 /// Writes the lines of messages over the lines on screen. The width of each origin is added to
-/// those of earlier origins, to the greatest of which it is aligned.
+/// those of earlier origins, and the origin is aligned to the greatest of them.
 fn write_messages(
     alloc: Global,
     out: &mut LineWriter,
@@ -248,23 +243,21 @@ fn write_messages(
     messages: &[Message],
 ) -> Result<(), Refusal>
     ensures bytes { OnOk result
-        (let lines = message_lines options.now origin_widths.old.items messages.now in
-        AppendsOver (layout_of options.now) out.old widths.now lines out.new) }
+        (WritesMessages options.now origin_widths.old widths.now messages.now out.old out.new) }
     ensures origins { OnOk result
-        (let widths = widths_of_origins options.now.defensive messages.now in
-        origin_widths.new.items ≡ origin_widths.old.items ++ widths) }
+        (AddsOrigins options.now messages.now origin_widths.old origin_widths.new) }
     ensures reason { IsOkUnless result Refusal.Memory }
 {
     let layout = options.layout();
     let mut replaced_origin = String::new(alloc);
     let mut replaced = String::new(alloc);
     let mut left = widths;
-    let mut greatest = greatest_of(origin_widths);
+    let mut greatest = greatest_width(origin_widths);
     for message in messages {
-        let (width, others) = split_row(left);
+        let (width, others) = split_first_width(left);
         let origin = message.origin.as_str();
-        let (origin, own_width) = drawn_text(options.defensive, origin, &mut replaced_origin)?;
-        greatest = greatest.max(own_width);
+        let origin = drawn_text(options.defensive, origin, &mut replaced_origin)?;
+        greatest = greatest.max(origin.width);
         start_row(out, layout)?;
         push_message(
             alloc,
@@ -272,19 +265,19 @@ fn write_messages(
             &mut replaced,
             options,
             greatest,
-            origin,
-            own_width,
+            &origin,
             message,
         )?;
-        out.end_over(width)?;
-        origin_widths.push(own_width)?;
+        out.end_line_over(width)?;
+        origin_widths.push(origin.width)?;
         left = others;
     }
     Ok(())
 }
 
 /// Redraws the rows of a scene: writes the lines of those that fit over the lines on screen and the
-/// line that counts the others, blanks the lines that are left over, and moves the cursor back up.
+/// line that says how many are hidden, blanks the lines that are left over, and moves the cursor
+/// back up.
 fn redraw_rows(
     alloc: Global,
     out: &mut LineWriter,
@@ -299,52 +292,41 @@ fn redraw_rows(
     ensures kept { kept_of tracker.new ≡ kept_of tracker.old }
     ensures reason { IsOkUnless result Refusal.Memory }
 {
-    let midpoint = scene.past.midpoint();
-    let rows = scene.rows;
-    let options = &scene.options;
-    let layout = options.layout();
+    let layout = scene.options.layout();
     let mut drawn = Drawn {
-        widths: Vec::with_capacity(alloc, rows.len())?,
+        widths: Vec::with_capacity(alloc, scene.rows.len())?,
         midpoint: 0,
         rows_erased: false,
         action: Action::Redraw,
     };
-    begin(tracker, scene.at);
-    write_fitting(
-        alloc, out, tracker, &mut drawn, options, midpoint, widths, rows,
-    )?;
+    begin_observing(tracker, scene.at);
+    write_fitting(alloc, out, tracker, &mut drawn, scene, widths)?;
     finish_redraw(out, layout, widths, drawn.widths.len())?;
     Ok(drawn)
 }
 
 /// Writes the lines of the rows that are drawn and fit over the lines on screen, and the line that
-/// counts the others. Observes all rows that are drawn.
+/// says how many are hidden. Observes all rows that are drawn.
 fn write_fitting(
     alloc: Global,
     out: &mut LineWriter,
     tracker: &mut Option<FrameThroughput>,
     drawn: &mut Drawn,
-    options: &Options,
-    midpoint: u16,
+    scene: &Scene<'_>,
     widths: &[u16],
-    rows: &[Row],
 ) -> Result<(), Refusal>
     ensures bytes { OnOk result
-        (let layout = layout_of options.now in
-        let lines = fitting_lines options.now midpoint (ahead_of tracker.old) rows.now in
-        AppendsOver layout out.old (covered layout widths.now) lines out.new) }
-    ensures drawn { OnOk result (let ahead = ahead_of tracker.old in
-        AddsFitting options.now midpoint ahead rows.now drawn.old drawn.new) }
-    ensures ahead { OnOk result (ObservesRows options.now rows.now tracker.old tracker.new) }
+        (WritesFitting scene.now tracker.old widths.now out.old out.new) }
+    ensures drawn { OnOk result (DrawsFitting scene.now tracker.old drawn.old drawn.new) }
+    ensures observed { OnOk result (ObservesScene scene.now tracker.old tracker.new) }
     ensures kept { kept_of tracker.new ≡ kept_of tracker.old }
     ensures reason { IsOkUnless result Refusal.Memory }
 {
+    let options = &scene.options;
     let layout = options.layout();
-    let (shown, others) = split_fitting(layout, options.level_filter, rows);
-    let covered = layout.covered(widths);
-    write_rows(
-        alloc, out, tracker, drawn, options, midpoint, covered, shown,
-    )?;
+    let (shown, others) = split_fitting(layout, options.level_filter, scene.rows);
+    let covered = layout.covered_widths(widths);
+    write_rows(alloc, out, tracker, drawn, scene, covered, shown)?;
     write_more(alloc, out, tracker, drawn, options, others)?;
     Ok(())
 }
@@ -356,31 +338,31 @@ fn write_rows(
     out: &mut LineWriter,
     tracker: &mut Option<FrameThroughput>,
     drawn: &mut Drawn,
-    options: &Options,
-    midpoint: u16,
+    scene: &Scene<'_>,
     widths: &[u16],
     rows: &[Row],
 ) -> Result<(), Refusal>
     ensures bytes { OnOk result
-        (let lines = shown_lines options.now midpoint (ahead_of tracker.old) rows.now in
-        AppendsOver (layout_of options.now) out.old widths.now lines out.new) }
-    ensures drawn { OnOk result (let ahead = ahead_of tracker.old in
-        AddsRows options.now midpoint ahead rows.now drawn.old drawn.new) }
-    ensures ahead { OnOk result (ObservesRows options.now rows.now tracker.old tracker.new) }
+        (WritesRows scene.now tracker.old widths.now rows.now out.old out.new) }
+    ensures drawn { OnOk result (DrawsRows scene.now tracker.old rows.now drawn.old drawn.new) }
+    ensures observed { OnOk result
+        (ObservesDrawn scene.now.options rows.now tracker.old tracker.new) }
     ensures kept { kept_of tracker.new ≡ kept_of tracker.old }
     ensures reason { IsOkUnless result Refusal.Memory }
 {
+    let midpoint = scene.past.midpoint();
+    let options = &scene.options;
     let mut texts = RowTexts::new(alloc);
     let mut left = widths;
     for row in rows {
         if !is_row_drawn(options.level_filter, row) {
             continue;
         }
-        let (old_width, others) = split_row(left);
-        let throughput = observe(alloc, tracker, row)?;
+        let (old_width, others) = split_first_width(left);
+        let throughput = observe_row(alloc, tracker, row)?;
         let own_midpoint = push_row(alloc, out, &mut texts, options, midpoint, row, throughput)?;
         drawn.midpoint = drawn.midpoint.max(own_midpoint);
-        drawn.widths.push(out.end_over(old_width)?)?;
+        drawn.widths.push(out.end_line_over(old_width)?)?;
         left = others;
     }
     Ok(())
@@ -409,7 +391,7 @@ fn finish_overwriting(out: &mut LineWriter, widths: &[u16], drawn: usize) -> Res
     ensures { OnOk result
         (FinishesRedraw Layout.Overwriting out.old widths.now drawn out.new) }
 {
-    write_blanks(out, below(widths, drawn))?;
+    write_blanks(out, widths_below(widths, drawn))?;
     push_up(out, drawn.max(widths.len()))?;
     Ok(())
 }
@@ -419,8 +401,8 @@ fn write_blanks(out: &mut LineWriter, widths: &[u16]) -> Result<(), AllocError>
     ensures { OnOk result (out.new.bytes ≡ out.old.bytes ++ blank_bytes widths.now) }
 {
     for width in widths {
-        out.begin(None);
-        out.end_over(*width)?;
+        out.begin_line(None);
+        out.end_line_over(*width)?;
     }
     Ok(())
 }
@@ -436,7 +418,7 @@ pub(super) fn push_up(out: &mut LineWriter, rows: usize) -> Result<(), AllocErro
 }
 
 /// Returns the width of the first line on screen, 0 if there is none, and those of the others.
-fn split_row(widths: &[u16]) -> (u16, &[u16])
+fn split_first_width(widths: &[u16]) -> (u16, &[u16])
     ensures first { result.0 ≡ first_width widths.now }
     ensures others { result.1.now ≡ drop 1 widths.now }
 {
@@ -447,7 +429,7 @@ fn split_row(widths: &[u16]) -> (u16, &[u16])
 }
 
 /// Returns the widths of the lines on screen below the first `lines` ones.
-fn below(widths: &[u16], lines: usize) -> &[u16]
+fn widths_below(widths: &[u16], lines: usize) -> &[u16]
     ensures { result.now ≡ drop lines widths.now }
 {
     &widths[lines.min(widths.len())..]

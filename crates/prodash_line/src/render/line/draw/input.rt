@@ -64,8 +64,8 @@ impl Default for Options {
 }
 
 impl Options {
-    /// Returns the columns to which lines are cut: those of the terminal. `None` if the output is
-    /// no terminal, where lines are written whole.
+    /// Returns the columns to which lines are cut: those of the terminal. `None` if the output
+    /// isn't a terminal, since lines are then written whole.
     pub(crate) fn width_limit(&self) -> Option<u16>
         ensures { result ≡ limit_of self.now }
     {

@@ -14,7 +14,7 @@ pub(crate) enum Layout {
 impl Layout {
     /// Returns the widths of the lines on screen that lines are written over: none on rows that are
     /// erased first.
-    pub(crate) fn covered(self, widths: &[u16]) -> &[u16]
+    pub(crate) fn covered_widths(self, widths: &[u16]) -> &[u16]
         ensures { result.now ≡ covered self widths.now }
     {
         match self {

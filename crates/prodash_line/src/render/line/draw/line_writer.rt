@@ -1,16 +1,18 @@
-//! A writer of lines: each piece of a line is written straight into a buffer of bytes, as far as
-//! the line isn't cut.
+//! A writer of lines: each piece of a line is written straight into a buffer of bytes, up to where
+//! the line is cut.
 ghost use Rattle.std.specs.Prelude.{◌≡◌, ◌+◌, ◌-◌, ℕ, ◌∷◌, [], ◌++◌, ◌≤◌, ◌<◌, true, false, chars, length, replicate, take, OnOk, IfOk};
 ghost use Rattle.prodash_line.specs.Signs.{spelling_of};
-ghost use Rattle.prodash_line.specs.Lines.{piece, styled, spaces, columns_of};
-ghost use Rattle.prodash_line.specs.plumbing.Writing.{indented, is_printable, style_of_length, open_bytes, reset_bytes, Appends, AppendsWhole, Begun, SameLine, Counts};
-ghost use Rattle.prodash_line.specs.plumbing.Padding.{plain_progress};
+ghost use Rattle.prodash_line.specs.Lines.{piece, styled, spaces};
+ghost use Rattle.prodash_line.specs.plumbing.Writing.{IsMeasured, is_printable, style_of_length, open_bytes, reset_bytes, Appends, AppendsPair, AppendsIndented, AppendsIfRoom, run, Begun, SameLine, Counts};
+ghost use Rattle.prodash_line.specs.plumbing.RowWriting.{whole_text, text_length, length_of, progress_bytes};
 ghost use Rattle.prodash_base.specs.Path.{max_level};
 ghost use Rattle.prodash_line.specs.plumbing.OverwriteBytes.{on_row, EndsOver, IsCutWidth};
 
 use crate::render::line::byte_buffer::ByteBuffer;
+use crate::render::line::draw::drawn_text::DrawnText;
 use crate::render::line::draw::fitting::{fit_indented, fit_printable, fit_text};
 use crate::render::line::draw::layout::Layout;
+use crate::render::line::draw::plain_progress::{PlainProgress, PlainText};
 use crate::render::line::draw::room::Room;
 use crate::render::line::draw::text::text_width;
 use crate::render::line::page::{Sign, Style, push_open, push_reset, push_sign};
@@ -23,7 +25,7 @@ const ROW_START: &[u8] = b"\x1b[2K      ";
 /// How many of these bytes are those of the sign.
 const ERASE_LINE: usize = 4;
 
-/// Writes lines into one buffer, one after another, and measures the line that it has begun last.
+/// Writes lines into one buffer, one after another, and measures the current line.
 #[derive(Drop)]
 pub(crate) struct LineWriter {
     bytes: ByteBuffer,
@@ -71,7 +73,7 @@ impl LineWriter {
     }
 
     /// Begins a line that is cut to `limit` columns, or written whole.
-    pub(crate) fn begin(&mut self, limit: Option<u16>)
+    pub(crate) fn begin_line(&mut self, limit: Option<u16>)
         ensures { Begun limit self.old [] self.new }
     {
         self.width = 0;
@@ -94,8 +96,8 @@ impl LineWriter {
         ensures { OnOk result
             (Begun limit (on_row layout self.old) (spaces indent ∷ []) self.new) }
     {
-        self.begin(limit);
-        let count = self.count(u16::from(indent));
+        self.begin_line(limit);
+        let count = self.count_printable(u16::from(indent));
         let start = match layout {
             Layout::Overwriting => ERASE_LINE,
             Layout::Erasing(_) => 0,
@@ -106,123 +108,105 @@ impl LineWriter {
     }
 
     /// Appends a text to the line, in this style if there is one. Fails if out of memory.
-    pub(crate) fn push(&mut self, style: Option<Style>, text: &str) -> Result<(), AllocError>
+    pub(crate) fn push_text(&mut self, style: Option<Style>, text: &str) -> Result<(), AllocError>
         ensures { OnOk result (Appends self.old (styled style (chars text.now) ∷ []) self.new) }
     {
-        self.push_measured(style, text, text_width(text))
+        let width = text_width(text);
+        self.push_drawn(style, &DrawnText { text, width })
     }
 
-    /// Appends a text of this width to the line, in this style if there is one. Fails if out of
-    /// memory.
+    /// Appends a drawn text to the line, in this style if there is one. Fails if out of memory.
     #[inline(always)]
-    pub(crate) fn push_measured(
+    pub(crate) fn push_drawn(
         &mut self,
         style: Option<Style>,
-        text: &str,
-        width: u16,
+        drawn: &DrawnText<'_>,
     ) -> Result<(), AllocError>
-        requires { width ≡ columns_of (piece (chars text.now) ∷ []) }
-        ensures { OnOk result (Appends self.old (styled style (chars text.now) ∷ []) self.new) }
+        requires { IsMeasured drawn.now }
+        ensures { OnOk result
+            (Appends self.old (styled style (chars drawn.now.text.now) ∷ []) self.new) }
     {
-        let (prefix, room) = fit_text(self.room, text, width);
+        let (prefix, room) = fit_text(self.room, drawn.text, drawn.width);
         let style = style_of_length(style, prefix.len());
-        self.open(style)?;
+        self.open_style(style)?;
         self.bytes.extend_from_slice(prefix.as_bytes())?;
-        self.width = self.width.saturating_add(width);
+        self.width = self.width.saturating_add(drawn.width);
         self.room = room;
-        self.reset(style)?;
+        self.reset_style(style)?;
         Ok(())
     }
 
-    /// Appends a text in this style if there is one, a space, and a text without a style. The texts
-    /// have these widths. Fails if out of memory.
+    /// Appends a drawn text in this style if there is one, a space, and a drawn text without a
+    /// style. Fails if out of memory.
     pub(crate) fn push_pair(
         &mut self,
         style: Option<Style>,
-        first: &str,
-        first_width: u16,
-        second: &str,
-        second_width: u16,
+        first: &DrawnText<'_>,
+        second: &DrawnText<'_>,
     ) -> Result<(), AllocError>
-        requires first { first_width ≡ columns_of (piece (chars first.now) ∷ []) }
-        requires second { second_width ≡ columns_of (piece (chars second.now) ∷ []) }
-        ensures { OnOk result
-            (let second = piece (chars second.now) in
-            Appends self.old (styled style (chars first.now) ∷ spaces 1 ∷ second ∷ []) self.new) }
+        requires first { IsMeasured first.now }
+        requires second { IsMeasured second.now }
+        ensures { OnOk result (AppendsPair style first.now second.now self.old self.new) }
     {
-        let width = first_width.saturating_add(1).saturating_add(second_width);
+        let width = first.width.saturating_add(1).saturating_add(second.width);
         match self.room {
             // both are written whole
             Room::Columns(left) if width < left => {
-                let style = style_of_length(style, first.len());
-                self.open(style)?;
-                self.bytes.extend_from_slice(first.as_bytes())?;
-                self.reset(style)?;
+                let style = style_of_length(style, first.text.len());
+                self.open_style(style)?;
+                self.bytes.extend_from_slice(first.text.as_bytes())?;
+                self.reset_style(style)?;
                 self.bytes.push(b' ')?;
-                self.bytes.extend_from_slice(second.as_bytes())?;
+                self.bytes.extend_from_slice(second.text.as_bytes())?;
                 self.width = self.width.saturating_add(width);
                 self.room = Room::Columns(left - width);
                 Ok(())
             }
             _ => {
-                self.push_measured(style, first, first_width)?;
+                self.push_drawn(style, first)?;
                 self.push_spaces(1)?;
-                self.push_measured(None, second, second_width)
+                self.push_drawn(None, second)
             }
         }
     }
 
-    /// Appends `padding` spaces and then a text of this width, as one piece in this style if there
-    /// is one. Fails if out of memory.
+    /// Appends `padding` spaces and then a drawn text, as one piece in this style if there is one.
+    /// Fails if out of memory.
     pub(crate) fn push_indented(
         &mut self,
         style: Option<Style>,
         padding: u16,
-        text: &str,
-        width: u16,
+        drawn: &DrawnText<'_>,
     ) -> Result<(), AllocError>
-        requires { width ≡ columns_of (piece (chars text.now) ∷ []) }
-        ensures { OnOk result
-            (Appends self.old (styled style (indented padding (chars text.now)) ∷ []) self.new) }
+        requires { IsMeasured drawn.now }
+        ensures { OnOk result (AppendsIndented style padding drawn.now self.old self.new) }
     {
-        let (spaces, prefix, room) = fit_indented(self.room, padding, text, width);
+        let (spaces, prefix, room) = fit_indented(self.room, padding, drawn.text, drawn.width);
         let style = style_of_length(style, usize::from(spaces) + prefix.len());
-        self.open(style)?;
+        self.open_style(style)?;
         self.bytes.push_copies(b' ', spaces)?;
         self.bytes.extend_from_slice(prefix.as_bytes())?;
-        self.width = self.width.saturating_add(padding).saturating_add(width);
+        self.width = self
+            .width
+            .saturating_add(padding)
+            .saturating_add(drawn.width);
         self.room = room;
-        self.reset(style)?;
+        self.reset_style(style)?;
         Ok(())
     }
 
-    /// Appends a space, `padding` spaces, a text in three parts, and a bar of `cells` cells of which
-    /// the first `filled` are filled, without styles, if the line has room for all of it. Returns
-    /// whether it has; otherwise nothing is appended. The parts are printable ASCII characters.
-    /// Fails if out of memory.
+    /// Appends a progress without styles, if the line has room for all of it. Returns whether it
+    /// has; otherwise nothing is appended. Fails if out of memory.
     #[inline(always)]
-    pub(crate) fn push_progress(
-        &mut self,
-        padding: u16,
-        first: &[u8],
-        second: &[u8],
-        third: &[u8],
-        cells: u16,
-        filled: u16,
-    ) -> Result<bool, AllocError>
-        requires within { filled ≤ cells }
-        requires short { padding + length first.now + length second.now + length third.now + cells ≤ 65530 }
-        ensures whole { IfOk result (λ has_room.
-            let text = plain_progress padding (first.now ++ (second.now ++ third.now)) cells filled in
-            has_room ≡ true → AppendsWhole self.old text self.new) }
-        ensures none { IfOk result (λ has_room. has_room ≡ false → self.new ≡ self.old) }
+    pub(crate) fn push_progress(&mut self, progress: &PlainProgress<'_>) -> Result<bool, AllocError>
+        requires within { progress.now.filled ≤ progress.now.cells }
+        requires short { length_of progress.now ≤ 65535 }
+        ensures { IfOk result (AppendsIfRoom self.old (progress_bytes progress.now) self.new) }
     {
-        let texts = (first.len() + second.len() + third.len()) as u16;
-        let count = 1 + padding + texts + cells + 4;
+        let count = progress.len();
         match self.room {
             Room::Columns(left) if count <= left => {
-                self.bytes
-                    .push_progress(padding, first, second, third, cells, filled)?;
+                self.bytes.push_progress(progress)?;
                 self.width = self.width.saturating_add(count);
                 self.room = Room::Columns(left - count);
                 Ok(true)
@@ -239,14 +223,14 @@ impl LineWriter {
         requires short { length text.now ≤ 65535 }
         ensures { OnOk result (Appends self.old (piece text.now ∷ []) self.new) }
     {
-        let count = self.count(text.len() as u16);
+        let count = self.count_printable(text.len() as u16);
         self.push_prefix(text, count)?;
         Ok(())
     }
 
-    /// Counts a text of `length` printable ASCII characters to the line, and returns how many of
-    /// them are to be written.
-    pub(crate) fn count(&mut self, length: u16) -> u16
+    /// Adds a text of `length` printable ASCII characters to the width of the line, and returns how
+    /// many of them are to be written.
+    pub(crate) fn count_printable(&mut self, length: u16) -> u16
         ensures { Counts self.old length result self.new }
     {
         let (count, room) = fit_printable(self.room, length);
@@ -255,8 +239,8 @@ impl LineWriter {
         count
     }
 
-    /// Writes the first `count` bytes of a text that has been counted, and returns how many bytes
-    /// more are to be written after it. Fails if out of memory.
+    /// Writes the first `count` bytes of a text that has been counted, and returns how many more
+    /// bytes are to be written after it. Fails if out of memory.
     pub(crate) fn push_prefix(&mut self, text: &[u8], count: u16) -> Result<u16, AllocError>
         ensures bytes { OnOk result
             (self.new.bytes ≡ self.old.bytes ++ take count text.now) }
@@ -271,21 +255,15 @@ impl LineWriter {
         Ok(0)
     }
 
-    /// Writes the first `limit` bytes of a text that has been counted, given in three parts. Fails
-    /// if out of memory.
-    pub(crate) fn push_parts(
-        &mut self,
-        first: &[u8],
-        second: &[u8],
-        third: &[u8],
-        limit: u16,
-    ) -> Result<(), AllocError>
-        requires { length first.now + length second.now + length third.now ≤ 65535 }
-        ensures bytes { OnOk result (self.new.bytes
-            ≡ self.old.bytes ++ take limit (first.now ++ (second.now ++ third.now))) }
+    /// Writes the first `limit` bytes of a text that has been counted. Fails if out of memory.
+    pub(crate) fn push_parts(&mut self, text: &PlainText<'_>, limit: u16) -> Result<(), AllocError>
+        requires { text_length text.now ≤ 65535 }
+        ensures bytes { OnOk result
+            (self.new.bytes ≡ self.old.bytes ++ take limit (whole_text text.now)) }
         ensures line { OnOk result (SameLine self.old self.new) }
     {
-        if first.len() + second.len() + third.len() <= usize::from(limit) {
+        let (first, second, third) = (text.first, text.second, text.third);
+        if text.len() <= limit {
             self.bytes.extend_from_slice(first)?;
             match second {
                 [byte] => self.bytes.push(*byte)?,
@@ -301,7 +279,7 @@ impl LineWriter {
     }
 
     /// Writes the first `limit` bytes of a run that has been counted: a byte `count` times and then
-    /// another one. Returns how many bytes more are to be written after it. Fails if out of memory.
+    /// another one. Returns how many more bytes are to be written after it. Fails if out of memory.
     #[inline(always)]
     pub(crate) fn push_run_prefix(
         &mut self,
@@ -311,7 +289,7 @@ impl LineWriter {
         limit: u16,
     ) -> Result<u16, AllocError>
         ensures bytes { OnOk result
-            (self.new.bytes ≡ self.old.bytes ++ take limit (replicate count byte ++ last ∷ [])) }
+            (self.new.bytes ≡ self.old.bytes ++ take limit (run byte count last)) }
         ensures more { IfOk result (λ more. more ≡ limit - (count + 1)) }
         ensures line { OnOk result (SameLine self.old self.new) }
     {
@@ -339,11 +317,11 @@ impl LineWriter {
         ensures { OnOk result
             (Appends self.old (styled style (replicate count character) ∷ []) self.new) }
     {
-        let count = self.count(count);
+        let count = self.count_printable(count);
         let style = style_of_length(style, usize::from(count));
-        self.open(style)?;
+        self.open_style(style)?;
         self.bytes.push_copies(character, count)?;
-        self.reset(style)?;
+        self.reset_style(style)?;
         Ok(())
     }
 
@@ -355,14 +333,14 @@ impl LineWriter {
         ensures { OnOk result
             (Appends self.old (piece (replicate count character) ∷ []) self.new) }
     {
-        let count = self.count(count);
+        let count = self.count_printable(count);
         self.bytes.push_copies(character, count)?;
         Ok(())
     }
 
     /// Begins a style, if there is one. Fails if out of memory.
     #[inline(always)]
-    pub(crate) fn open(&mut self, style: Option<Style>) -> Result<(), AllocError>
+    pub(crate) fn open_style(&mut self, style: Option<Style>) -> Result<(), AllocError>
         ensures bytes { OnOk result
             (self.new.bytes ≡ self.old.bytes ++ open_bytes style) }
         ensures line { OnOk result (SameLine self.old self.new) }
@@ -374,7 +352,7 @@ impl LineWriter {
     }
 
     /// Ends a style, if there is one. Fails if out of memory.
-    pub(crate) fn reset(&mut self, style: Option<Style>) -> Result<(), AllocError>
+    pub(crate) fn reset_style(&mut self, style: Option<Style>) -> Result<(), AllocError>
         ensures bytes { OnOk result
             (self.new.bytes ≡ self.old.bytes ++ reset_bytes style) }
         ensures line { OnOk result (SameLine self.old self.new) }
@@ -406,16 +384,15 @@ impl LineWriter {
         ensures { IsCutWidth self.now result }
     {
         match self.limit {
-            Some(columns) => columns.saturating_sub(self.room.left()),
+            Some(columns) => columns.saturating_sub(self.room.columns_left()),
             None => self.width,
         }
     }
 
-    /// Ends the line over a line of this width that is on screen in its row: appends spaces as far
-    /// as that one reached, then a line feed. Returns the width of the line as it is cut. Fails if
-    /// out of memory.
+    /// Ends the line, which is written over one of this width: appends spaces up to where that one
+    /// ended, then a line feed. Returns the width of the line as it is cut. Fails if out of memory.
     #[inline(always)]
-    pub(crate) fn end_over(&mut self, width: u16) -> Result<u16, AllocError>
+    pub(crate) fn end_line_over(&mut self, width: u16) -> Result<u16, AllocError>
         ensures bytes { OnOk result (EndsOver self.old width self.new) }
         ensures width { IfOk result (IsCutWidth self.old) }
     {

@@ -1,15 +1,11 @@
-//! The rows that fit a window, and the line that counts the others.
-ghost use Rattle.std.specs.Prelude.{◌≡◌, ◌≤◌, [], ◌∷◌, length, min, take, OnOk, IfOk, IsOkUnless};
-ghost use Rattle.prodash_base.specs.Rows.{rows_of};
+//! The rows that fit a window, and the line that says how many are hidden.
+ghost use Rattle.std.specs.Prelude.{◌≡◌, ◌≤◌, length, min, take, OnOk, IfOk, IsOkUnless};
 ghost use Rattle.prodash_line.specs.ProgressRows as rows;
-ghost use Rattle.prodash_line.specs.ProgressRows.{filtered};
-ghost use Rattle.prodash_line.specs.DrawnLines.{layout_of};
 ghost use Rattle.prodash_line.specs.Lines.{columns_of};
-ghost use Rattle.prodash_line.specs.DrawnLines.{as_drawn};
-ghost use Rattle.prodash_line.specs.plumbing.Writing.{DrawsLine};
-ghost use Rattle.prodash_line.specs.plumbing.Observing.{observe_all, ahead_of};
 ghost use Rattle.prodash_line.specs.Tracking.{kept_of};
-ghost use Rattle.prodash_line.specs.plumbing.FrameWriting.{AppendsOver, SplitsFitting, CountsRows, count_of, more_of};
+ghost use Rattle.prodash_line.specs.plumbing.FrameWriting.{SplitsFitting, CountsRows, WritesMore, WritesCount, count_of, drawn_more_line};
+ghost use Rattle.prodash_line.specs.plumbing.Observing.{ObservesDrawn};
+ghost use Rattle.prodash_line.specs.plumbing.Writing.{DrawsLine};
 
 use crate::render::line::draw::action::Drawn;
 use crate::render::line::draw::erasing::start_row;
@@ -39,7 +35,7 @@ pub(crate) fn split_fitting(
             if count_drawn(levels, rows) < height {
                 (rows, &[])
             } else {
-                rows.split_at(end_of(levels, rows, height.saturating_sub(2)))
+                rows.split_at(end_of_drawn(levels, rows, height.saturating_sub(2)))
             }
         }
     }
@@ -59,7 +55,7 @@ fn count_drawn(levels: Option<(Level, Level)>, rows: &[Row]) -> usize
 }
 
 /// Returns the index after the first `most` rows that the filter of levels lets through.
-fn end_of(levels: Option<(Level, Level)>, rows: &[Row], most: usize) -> usize
+fn end_of_drawn(levels: Option<(Level, Level)>, rows: &[Row], most: usize) -> usize
     ensures within { result ≤ length rows.now }
     ensures count { count_of levels (take result rows.now) ≡ min most (count_of levels rows.now) }
 {
@@ -75,8 +71,8 @@ fn end_of(levels: Option<(Level, Level)>, rows: &[Row], most: usize) -> usize
     rows.len()
 }
 
-/// Writes the line that counts the rows that are drawn but don't fit, if there is one, and observes
-/// these rows. Fails if out of memory.
+/// Writes the line that says how many of these rows are hidden, if there are any and there is a row
+/// for it, and observes them. Fails if out of memory.
 pub(crate) fn write_more(
     alloc: Global,
     out: &mut LineWriter,
@@ -85,12 +81,10 @@ pub(crate) fn write_more(
     options: &Options,
     others: &[Row],
 ) -> Result<(), Refusal>
-    ensures bytes { OnOk result
-        (let lines = more_of options.now others.now in
-        AppendsOver (layout_of options.now) out.old [] lines out.new) }
+    ensures bytes { OnOk result (WritesMore options.now others.now out.old out.new) }
     ensures drawn { OnOk result (CountsRows options.now others.now drawn.old drawn.new) }
-    ensures ahead { OnOk result (ahead_of tracker.new ≡ observe_all (ahead_of tracker.old)
-        (filtered options.now.level_filter (rows_of others.now))) }
+    ensures observed { OnOk result
+        (ObservesDrawn options.now others.now tracker.old tracker.new) }
     ensures kept { kept_of tracker.new ≡ kept_of tracker.old }
     ensures reason { IsOkUnless result Refusal.Memory }
 {
@@ -102,26 +96,23 @@ pub(crate) fn write_more(
     observe_rows(alloc, tracker, options.level_filter, others)
 }
 
-/// Writes the line that counts so many rows. Returns its width as it is cut.
+/// Writes the line that says that `count` rows are hidden. Returns its width as it is cut.
 fn write_count(out: &mut LineWriter, options: &Options, count: usize) -> Result<u16, AllocError>
-    ensures bytes { OnOk result
-        (let line = as_drawn options.now (rows.more_line count) in
-        AppendsOver (layout_of options.now) out.old [] (line ∷ []) out.new) }
-    ensures width { IfOk result
-        (λ n. n ≡ columns_of (as_drawn options.now (rows.more_line count))) }
+    ensures bytes { OnOk result (WritesCount options.now count out.old out.new) }
+    ensures width { IfOk result (λ n. n ≡ columns_of (drawn_more_line options.now count)) }
 {
     start_row(out, options.layout())?;
     push_count(out, options, count)?;
-    out.end_over(0)
+    out.end_line_over(0)
 }
 
-/// Begins the line that counts so many rows.
+/// Begins the line that says that `count` rows are hidden.
 fn push_count(out: &mut LineWriter, options: &Options, count: usize) -> Result<(), AllocError>
     ensures { OnOk result (DrawsLine options.now out.old (rows.more_line count) out.new) }
 {
     let mut digits = Buffer::new();
-    out.begin(options.width_limit());
-    out.push(None, " … and ")?;
+    out.begin_line(options.width_limit());
+    out.push_text(None, " … and ")?;
     out.push_printable(digits.format(count).as_bytes())?;
     out.push_printable(b" more")?;
     Ok(())

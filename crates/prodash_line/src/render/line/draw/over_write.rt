@@ -1,4 +1,4 @@
-//! A screen over a writer.
+//! A screen that wraps a writer.
 ghost use Rattle.std.specs.Prelude.{◌≡◌, ◌<◌, ◌∷◌, length, is_ok, is_err, IsTrue, IsFalse, IfOk, IsOkUnless, OnOk, OnErr};
 ghost use Rattle.prodash_line.specs.Screens.{Takes, TakesPrefix, StaysBroken, IsFlushed};
 ghost use Rattle.prodash_line.specs.Writers.{Flush, WritesOnce, screen_of};

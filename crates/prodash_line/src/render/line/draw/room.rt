@@ -15,7 +15,7 @@ pub(crate) enum Room {
 
 impl Room {
     /// Returns the columns that are left, 0 if there is no limit.
-    pub(crate) fn left(self) -> u16
+    pub(crate) fn columns_left(self) -> u16
         ensures { result ≡ left_of self }
     {
         match self {

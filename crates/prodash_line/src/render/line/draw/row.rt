@@ -1,19 +1,17 @@
 //! The line of a row: its name, and with progress its values and a bar.
-ghost use Rattle.std.specs.Prelude.{◌≡◌, ◌≤◌, ◌+◌, ◌++◌, false, true, Some, drop, length, OnOk, IfOk, IsOkUnless};
-ghost use Rattle.prodash_base.specs.Units.{measure_of};
-ghost use Rattle.prodash_base.specs.Rows.{row_of, progress_of};
+ghost use Rattle.std.specs.Prelude.{◌≡◌, ◌≤◌, ◌+◌, ◌++◌, false, true, Some, length, OnOk, IfOk, IsOkUnless};
+ghost use Rattle.prodash_base.specs.Rows.{row_of};
 ghost use Rattle.prodash_line.specs.ProgressRows as rows;
 ghost use Rattle.prodash_line.specs.ProgressRows.{fraction_values};
-ghost use Rattle.prodash_line.specs.plumbing.Padding.{FollowsStep, end_of_values, Pads, DrawsProgress, DrawsFraction, DrawsInUnit, DrawsParts, OrNothing};
-ghost use Rattle.prodash_line.specs.DrawnLines.{layout_of};
-ghost use Rattle.prodash_line.specs.plumbing.OverwriteBytes.{on_row};
 ghost use Rattle.prodash_line.specs.Lines.{capped};
-ghost use Rattle.prodash_line.specs.plumbing.Writing.{is_printable, AppendsIn, DrawsLine};
+ghost use Rattle.prodash_line.specs.plumbing.RowWriting.{FollowsStep, end_of_values, Pads, PadsValues, drawn_values, unit_values, own_midpoint, text_length, whole_text, DrawsRow, DrawsProgress, DrawsFraction, DrawsInUnit, DrawsText, OrNothing, AppendsName};
+ghost use Rattle.prodash_line.specs.plumbing.Writing.{is_printable};
 
 use crate::render::line::draw::bar::{ARROW, BRACKETS, filled_cells, push_bar};
 use crate::render::line::draw::drawn_text::drawn_text;
 use crate::render::line::draw::input::Options;
 use crate::render::line::draw::line_writer::{LineWriter, style_of_length};
+use crate::render::line::draw::plain_progress::{PlainProgress, PlainText};
 use crate::render::line::draw::styles::{name_style, values_style};
 use crate::render::line::draw::text::printable_width;
 use itoa::Buffer;
@@ -47,6 +45,16 @@ impl RowTexts {
     }
 }
 
+/// The progress of a row, and what it is drawn with.
+#[derive(Clone, Copy, Drop)]
+pub(crate) struct DrawnProgress<'a> {
+    options: &'a Options,
+    /// The column at which its values are to end.
+    midpoint: u16,
+    value: &'a Value,
+    throughput: Option<Throughput>,
+}
+
 /// Writes the line of a row, on a row of the terminal that is erased first if frames do that. Its
 /// values are padded so that they end at this midpoint, with a throughput if there is one. Returns
 /// the row's own midpoint: the column at which its values end without padding, 0 if it has no
@@ -61,11 +69,8 @@ pub(crate) fn push_row(
     throughput: Option<Throughput>,
 ) -> Result<u16, Refusal>
     ensures line { OnOk result
-        (let width = options.now.terminal_dimensions.0 in
-        DrawsLine options.now (on_row (layout_of options.now) out.old)
-        (rows.row_line options.now.defensive width midpoint (row_of row.now, throughput)) out.new) }
-    ensures midpoint { IfOk result
-        (λ n. n ≡ rows.midpoint_of options.now.defensive (row_of row.now, throughput)) }
+        (DrawsRow options.now midpoint row.now throughput out.old out.new) }
+    ensures midpoint { IfOk result (λ n. n ≡ own_midpoint options.now row.now throughput) }
     ensures reason { IsOkUnless result Refusal.Memory }
 {
     out.begin_row(options.layout(), options.width_limit(), row.key.level())?;
@@ -73,7 +78,13 @@ pub(crate) fn push_row(
     let Some(value) = &row.progress else {
         return Ok(0);
     };
-    let own = push_progress(alloc, out, texts, options, midpoint, value, throughput)?;
+    let drawn = DrawnProgress {
+        options,
+        midpoint,
+        value,
+        throughput,
+    };
+    let own = push_progress(alloc, out, texts, &drawn)?;
     Ok(own)
 }
 
@@ -84,55 +95,43 @@ fn push_progress(
     alloc: Global,
     out: &mut LineWriter,
     texts: &mut RowTexts,
-    options: &Options,
-    midpoint: u16,
-    value: &Value,
-    throughput: Option<Throughput>,
+    drawn: &DrawnProgress<'_>,
 ) -> Result<u16, Refusal>
-    ensures drawn { IfOk result
-        (λ own. DrawsProgress options.now midpoint value.now throughput own out.old out.new) }
+    ensures drawn { IfOk result (λ own. DrawsProgress drawn.now own out.old out.new) }
     ensures reason { IsOkUnless result Refusal.Memory }
 {
-    let (width, _) = options.terminal_dimensions;
-    if !options.colored {
-        let plain = push_plain(alloc, out, texts, options, midpoint, value, throughput)?;
+    let (width, _) = drawn.options.terminal_dimensions;
+    if !drawn.options.colored {
+        let plain = push_plain(alloc, out, &mut texts.values, drawn)?;
         if let Some(own) = plain {
             return Ok(own);
         }
     }
-    let own = push_values(alloc, out, texts, options, midpoint, value, throughput)?;
+    let own = push_values(alloc, out, texts, drawn)?;
     let columns = width.saturating_sub(out.width());
-    push_bar(out, options.colored, columns, value)?;
+    push_bar(out, drawn.options.colored, columns, drawn.value)?;
     Ok(own)
 }
 
 /// Does what `push_progress` does without styles, at once, if the progress has a bound, its texts
 /// are printable ASCII characters, and the line has room for all of it. Otherwise it appends
-/// nothing and returns `None`.
+/// nothing and returns `None`. `text` is memory for the values and the unit.
 fn push_plain(
     alloc: Global,
     out: &mut LineWriter,
-    texts: &mut RowTexts,
-    options: &Options,
-    midpoint: u16,
-    value: &Value,
-    throughput: Option<Throughput>,
+    text: &mut String,
+    drawn: &DrawnProgress<'_>,
 ) -> Result<Option<u16>, Refusal>
-    requires { options.now.colored ≡ false }
-    ensures drawn { IfOk result
-        (OrNothing out.old out.new (DrawsProgress options.now midpoint value.now throughput)) }
+    requires { drawn.now.options.now.colored ≡ false }
+    ensures drawn { IfOk result (OrNothing out.old out.new (DrawsProgress drawn.now)) }
     ensures reason { IsOkUnless result Refusal.Memory }
 {
-    let (width, _) = options.terminal_dimensions;
-    let Some(done_at) = value.done_at else {
+    let Some(done_at) = drawn.value.done_at else {
         return Ok(None);
     };
-    let text = &mut texts.values;
-    let plain = match &value.unit {
-        None => push_plain_fraction(out, width, midpoint, value, done_at)?,
-        Some(unit) => push_plain_unit(
-            alloc, out, text, width, midpoint, unit, value, done_at, throughput,
-        )?,
+    let plain = match &drawn.value.unit {
+        None => push_plain_fraction(out, drawn, done_at)?,
+        Some(unit) => push_plain_unit(alloc, out, text, drawn, unit, done_at)?,
     };
     Ok(plain)
 }
@@ -140,121 +139,115 @@ fn push_plain(
 /// Does what `push_plain` does for a progress with this bound and without a unit.
 fn push_plain_fraction(
     out: &mut LineWriter,
-    width: u16,
-    midpoint: u16,
-    value: &Value,
+    drawn: &DrawnProgress<'_>,
     done_at: Step,
 ) -> Result<Option<u16>, AllocError>
-    requires { value.now.done_at ≡ Some done_at }
-    ensures { IfOk result
-        (OrNothing out.old out.new (DrawsFraction width midpoint value.now)) }
+    requires { drawn.now.value.now.done_at ≡ Some done_at }
+    ensures { IfOk result (OrNothing out.old out.new (DrawsFraction drawn.now)) }
 {
     let mut step_digits = Buffer::new();
     let mut bound_digits = Buffer::new();
-    let step = step_digits.format(value.step);
+    let step = step_digits.format(drawn.value.step);
     let bound = bound_digits.format(done_at);
     let columns = (step.len() + 1 + bound.len()) as u16;
-    let (step, bound) = (step.as_bytes(), bound.as_bytes());
-    let plain = push_plain_text(
-        out, width, midpoint, value, done_at, columns, step, b"/", bound,
-    )?;
+    let text = PlainText {
+        first: step.as_bytes(),
+        second: b"/",
+        third: bound.as_bytes(),
+    };
+    let plain = push_plain_text(out, drawn, done_at, columns, &text)?;
     Ok(plain)
 }
 
-/// Does what `push_plain` does for a progress with this bound and this unit. `text` is memory for
-/// its values and its unit.
+/// Does what `push_plain` does for a progress with this bound and this unit.
 fn push_plain_unit(
     alloc: Global,
     out: &mut LineWriter,
     text: &mut String,
-    width: u16,
-    midpoint: u16,
+    drawn: &DrawnProgress<'_>,
     unit: &Unit,
-    value: &Value,
     done_at: Step,
-    throughput: Option<Throughput>,
 ) -> Result<Option<u16>, Refusal>
-    requires { value.now.done_at ≡ Some done_at }
-    ensures drawn { IfOk result (OrNothing out.old out.new
-        (DrawsInUnit width midpoint unit.now value.now throughput)) }
+    requires { drawn.now.value.now.done_at ≡ Some done_at }
+    ensures drawn { IfOk result (OrNothing out.old out.new (DrawsInUnit drawn.now unit.now)) }
     ensures reason { IsOkUnless result Refusal.Memory }
 {
     text.clear();
-    let mut display = unit.display(alloc, value.step, value.done_at, throughput);
+    let value = drawn.value;
+    let mut display = unit.display(alloc, value.step, value.done_at, drawn.throughput);
     display.values().append_to(text)?;
     text.push(' ')?;
     display.unit().append_to(text)?;
     let Some(columns) = printable_width(text.as_str()) else {
         return Ok(None);
     };
-    let text = text.as_bytes();
-    let plain = push_plain_text(
-        out, width, midpoint, value, done_at, columns, text, b"", b"",
-    )?;
+    let text = PlainText {
+        first: text.as_bytes(),
+        second: b"",
+        third: b"",
+    };
+    let plain = push_plain_text(out, drawn, done_at, columns, &text)?;
     Ok(plain)
 }
 
-/// Appends a text of printable ASCII characters in three parts, padded as `push_values` says, and
-/// the bar of a progress with this bound, without styles, if the line has room for all of it.
-/// `columns` is the width of the text, at most 65535. Returns the column at which the text ends
-/// without padding, or `None` if nothing is appended.
+/// Appends a text, padded as `push_values` says, and the bar of a progress with this bound, without
+/// styles, if the line has room for all of it. `columns` is the width of the text, at most 65535.
+/// Returns the column at which the text ends without padding, or `None` if nothing is appended.
 #[inline(always)]
 fn push_plain_text(
     out: &mut LineWriter,
-    width: u16,
-    midpoint: u16,
-    value: &Value,
+    drawn: &DrawnProgress<'_>,
     done_at: Step,
     columns: u16,
-    first: &[u8],
-    second: &[u8],
-    third: &[u8],
+    text: &PlainText<'_>,
 ) -> Result<Option<u16>, AllocError>
-    requires bound { value.now.done_at ≡ Some done_at }
-    requires columns { columns
-        ≡ capped (length first.now + length second.now + length third.now) }
-    requires first { is_printable first.now ≡ true }
-    requires second { is_printable second.now ≡ true }
-    requires third { is_printable third.now ≡ true }
-    ensures { IfOk result (OrNothing out.old out.new
-        (DrawsParts width midpoint first.now second.now third.now value.now)) }
+    requires bound { drawn.now.value.now.done_at ≡ Some done_at }
+    requires columns { columns ≡ capped (text_length text.now) }
+    requires printable { is_printable (whole_text text.now) ≡ true }
+    ensures { IfOk result (OrNothing out.old out.new (DrawsText drawn.now text.now)) }
 {
+    let (width, _) = drawn.options.terminal_dimensions;
     let own = out.width().saturating_add(1).saturating_add(columns);
-    let end = own.max(midpoint);
+    let end = own.max(drawn.midpoint);
     let left = width.saturating_sub(end);
     if left < BRACKETS + ARROW {
         return Ok(None);
     }
     let cells = left - (BRACKETS + ARROW);
-    let filled = filled_cells(cells, value.step, done_at);
-    let has_room = out.push_progress(end - own, first, second, third, cells, filled)?;
+    let progress = PlainProgress {
+        padding: end - own,
+        text: *text,
+        cells,
+        filled: filled_cells(cells, drawn.value.step, done_at),
+    };
+    let has_room = out.push_progress(&progress)?;
     Ok(has_room.then_some(own))
 }
 
-/// Appends a space and the values of a progress, padded so that they end at this midpoint. Returns
+/// Appends a space and the values of a progress, padded so that they end at its midpoint. Returns
 /// the column at which they end without padding.
 fn push_values(
     alloc: Global,
     out: &mut LineWriter,
     texts: &mut RowTexts,
-    options: &Options,
-    midpoint: u16,
-    value: &Value,
-    throughput: Option<Throughput>,
+    drawn: &DrawnProgress<'_>,
 ) -> Result<u16, Refusal>
     ensures line { OnOk result
-        (let values = rows.values_of options.now.defensive (progress_of value.now) throughput in
-        Pads options.now.colored midpoint out.old values out.new) }
-    ensures end { IfOk result (λ n.
-        let values = rows.values_of options.now.defensive (progress_of value.now) throughput in
-        n ≡ end_of_values out.old.width values) }
+        (PadsValues drawn.now (drawn_values drawn.now) out.old out.new) }
+    ensures end { IfOk result
+        (λ n. n ≡ end_of_values out.old.width (drawn_values drawn.now)) }
     ensures reason { IsOkUnless result Refusal.Memory }
 {
+    let (options, value) = (drawn.options, drawn.value);
     match &value.unit {
-        None => Ok(push_fraction(out, options.colored, midpoint, value.step, value.done_at)?),
-        Some(unit) => push_in_unit(
-            alloc, out, texts, options, midpoint, unit, value, throughput,
-        ),
+        None => Ok(push_fraction(
+            out,
+            options.colored,
+            drawn.midpoint,
+            value.step,
+            value.done_at,
+        )?),
+        Some(unit) => push_in_unit(alloc, out, texts, drawn, unit),
     }
 }
 
@@ -278,11 +271,16 @@ fn push_fraction(
     let values = (step.len() + slash.len() + bound.len()) as u16;
     let own = out.width().saturating_add(1).saturating_add(values);
     out.push_gap(midpoint.saturating_sub(own))?;
-    let count = out.count(values);
+    let count = out.count_printable(values);
     let style = style_of_length(colored.then_some(values_style()), usize::from(count));
-    out.open(style)?;
-    out.push_parts(step.as_bytes(), slash.as_bytes(), bound.as_bytes(), count)?;
-    out.reset(style)?;
+    out.open_style(style)?;
+    let text = PlainText {
+        first: step.as_bytes(),
+        second: slash.as_bytes(),
+        third: bound.as_bytes(),
+    };
+    out.push_parts(&text, count)?;
+    out.reset_style(style)?;
     Ok(own)
 }
 
@@ -292,39 +290,33 @@ fn push_in_unit(
     alloc: Global,
     out: &mut LineWriter,
     texts: &mut RowTexts,
-    options: &Options,
-    midpoint: u16,
+    drawn: &DrawnProgress<'_>,
     unit: &Unit,
-    value: &Value,
-    throughput: Option<Throughput>,
 ) -> Result<u16, Refusal>
     ensures line { OnOk result
-        (let p = progress_of value.now in
-        let values = rows.values_in options.now.defensive (measure_of unit.now) p throughput in
-        Pads options.now.colored midpoint out.old values out.new) }
-    ensures end { IfOk result (λ n.
-        let p = progress_of value.now in
-        let values = rows.values_in options.now.defensive (measure_of unit.now) p throughput in
-        n ≡ end_of_values out.old.width values) }
+        (PadsValues drawn.now (unit_values drawn.now unit.now) out.old out.new) }
+    ensures end { IfOk result
+        (λ n. n ≡ end_of_values out.old.width (unit_values drawn.now unit.now)) }
     ensures reason { IsOkUnless result Refusal.Memory }
 {
     texts.values.clear();
     texts.unit.clear();
-    let mut display = unit.display(alloc, value.step, value.done_at, throughput);
+    let (options, value) = (drawn.options, drawn.value);
+    let mut display = unit.display(alloc, value.step, value.done_at, drawn.throughput);
     display.values().append_to(&mut texts.values)?;
     display.unit().append_to(&mut texts.unit)?;
     let (values, name) = (texts.values.as_str(), texts.unit.as_str());
-    let (values, values_width) = drawn_text(options.defensive, values, &mut texts.replaced_values)?;
-    let (name, name_width) = drawn_text(options.defensive, name, &mut texts.replaced_unit)?;
+    let values = drawn_text(options.defensive, values, &mut texts.replaced_values)?;
+    let name = drawn_text(options.defensive, name, &mut texts.replaced_unit)?;
     let own = out
         .width()
         .saturating_add(1)
-        .saturating_add(values_width)
+        .saturating_add(values.width)
         .saturating_add(1)
-        .saturating_add(name_width);
-    out.push_gap(midpoint.saturating_sub(own))?;
+        .saturating_add(name.width);
+    out.push_gap(drawn.midpoint.saturating_sub(own))?;
     let style = options.colored.then_some(values_style());
-    out.push_pair(style, values, values_width, name, name_width)?;
+    out.push_pair(style, &values, &name)?;
     Ok(own)
 }
 
@@ -352,19 +344,18 @@ fn format_bound(digits: &mut Buffer, done_at: Option<Step>) -> (&'static str, &s
     }
 }
 
-/// Appends the name of a row. What is drawn of it is in `replaced` if that is another text.
+/// Appends the name of a row. If it is drawn with other characters, those are written to
+/// `replaced`.
 fn push_name(
     out: &mut LineWriter,
     replaced: &mut String,
     options: &Options,
     row: &Row,
 ) -> Result<(), AllocError>
-    ensures { OnOk result
-        (let head = rows.head_of options.now.defensive (row_of row.now) in
-        AppendsIn options.now.colored out.old (drop 1 head) out.new) }
+    ensures { OnOk result (AppendsName options.now row.now out.old out.new) }
 {
-    let (name, width) = drawn_text(options.defensive, row.name.as_str(), replaced)?;
+    let name = drawn_text(options.defensive, row.name.as_str(), replaced)?;
     let style = options.colored.then_some(name_style(&row.progress));
-    out.push_measured(style, name, width)?;
+    out.push_drawn(style, &name)?;
     Ok(())
 }

@@ -6,7 +6,7 @@ use prodash_base::Refusal;
 
 /// A sink for the bytes of frames. Once broken, it stays broken and takes no more bytes.
 ///
-/// A screen that hands at most 16 bytes at once to another one:
+/// A screen that hands another one at most 16 bytes at a time:
 ///
 /// ```rust
 /// struct SlowScreen {
@@ -68,11 +68,11 @@ pub trait Screen {
         ensures { result ≡ (state self.now).broken };
 }
 
-/// How many bytes are put at once at most.
+/// The most bytes per `put`.
 const PIECE_SIZE: usize = 4096;
 
 /// Writes all bytes of a frame to the screen, in pieces of at most 4096 bytes, and flushes them. If
-/// a piece was taken in part, the next one begins behind that part. A frame without bytes does
+/// a piece was taken in part, the next one begins after that part. A frame without bytes does
 /// nothing to the screen.
 ///
 /// `Broken`: the screen is broken. It has taken a prefix of the frame.

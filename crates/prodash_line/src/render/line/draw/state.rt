@@ -44,10 +44,10 @@ pub(crate) struct Past {
     last_progress_midpoint: u16,
     /// The rows at the latest accepted tick with a root.
     last_rows: Option<Rows>,
-    /// The rows that were remembered before those, for their memory alone. Contracts don't see
+    /// The rows that were remembered before those, kept only for their memory. Contracts don't see
     /// them.
     spare_rows: Option<Rows>,
-    /// The messages that were printed last, for their memory alone. Contracts don't see them.
+    /// The messages that were printed last, kept only for their memory. Contracts don't see them.
     spare_messages: Option<Messages>,
     /// The widths of the latest origins, at most as many as the terminal has rows.
     pub(crate) origin_widths: Vec<u16>,
@@ -173,8 +173,8 @@ impl State {
         self.past.ended()
     }
 
-    /// Takes rows that are remembered no longer, and messages that are printed already, or empty
-    /// lists if there are none. Their memory may hold those of the next tick, whatever they are.
+    /// Takes rows that are no longer remembered and messages that have been printed, or empty lists
+    /// if there are none. The rows and messages of the next tick may reuse their memory.
     pub fn take_spare(&mut self, alloc: Global) -> (Rows, Messages)
         ensures { self.new ≡ self.old }
     {
@@ -245,9 +245,9 @@ impl Past {
         self.ending.map(Ending::refusal)
     }
 
-    /// Whether these rows aren't those that the latest accepted tick with a root saw, or there was
-    /// no such tick.
-    fn has_changed(&self, rows: &Rows) -> bool
+    /// Whether these rows differ from those that the latest accepted tick with a root saw, or there
+    /// was no such tick.
+    fn rows_changed(&self, rows: &Rows) -> bool
         ensures { result ≡ rows_changed self.now.last_rows rows.now }
     {
         match &self.last_rows {
@@ -256,21 +256,21 @@ impl Past {
         }
     }
 
-    /// Whether a tick that prints messages or not has to draw rows though they haven't changed: its
-    /// frame erases rows, and prints messages or comes after one that has erased those of tasks.
+    /// Whether a tick has to draw rows that haven't changed: its frame erases rows, and it prints
+    /// messages or an earlier frame has erased the rows of tasks.
     fn draws_again(&self, printed: bool) -> bool
         ensures { result ≡ draws_again self.now printed }
     {
         self.options.erases_rows() && (printed || self.rows_erased)
     }
 
-    /// Whether a tick that prints messages or not draws these rows: they are shown on a terminal,
-    /// and they have changed or must be drawn again.
-    fn draws(&self, show: bool, printed: bool, rows: &Rows) -> bool
+    /// Whether a tick draws these rows: they are shown on a terminal, and they have changed or must
+    /// be drawn again. `printed` says whether the tick prints messages.
+    fn draws_rows(&self, show: bool, printed: bool, rows: &Rows) -> bool
         ensures { result ≡ is_drawn self.now show printed rows.now }
     {
         show && self.options.output_is_terminal
-            && (self.draws_again(printed) || self.has_changed(rows))
+            && (self.draws_again(printed) || self.rows_changed(rows))
     }
 
     /// Whether a tick that sees these rows closes the renderer: there are none, and the renderer
@@ -281,14 +281,14 @@ impl Past {
         !self.options.keep_running_if_progress_is_empty && rows.as_slice().is_empty()
     }
 
-    /// Returns what the frame of a tick that prints messages or not and sees these rows does after
-    /// its messages.
+    /// Returns what the frame of a tick that sees these rows does after its messages. `printed`
+    /// says whether there are any.
     pub(crate) fn tick_action(&self, show: bool, printed: bool, rows: &Rows) -> Action
         ensures { result ≡ tick_action self.now show printed rows.now }
     {
         if self.closes_at(rows) {
             Action::Close
-        } else if self.draws(show, printed, rows) {
+        } else if self.draws_rows(show, printed, rows) {
             Action::Redraw
         } else if self.options.erases_rows() && printed {
             Action::Erase
@@ -297,7 +297,7 @@ impl Past {
         }
     }
 
-    /// Returns what the frame of a resize does: it draws the rows of the latest tick if they are
+    /// Returns what the frame of a resize does: it draws the rows of the latest tick if rows are
     /// shown on a terminal.
     pub(crate) fn resize_action(&self, show: bool) -> Action
         ensures { result ≡ resize_action self.now show }
@@ -364,7 +364,7 @@ impl Past {
     /// Records what the written frame of a tick left, and what the tick saw of the tree: rows, and
     /// messages, which are printed now. A closing frame ends the renderer. Returns the answer to
     /// the tick.
-    pub(crate) fn remember(
+    pub(crate) fn remember_tick(
         &mut self,
         frame: Composed,
         rows: Rows,
@@ -375,7 +375,7 @@ impl Past {
         ensures answer { result ≡ answer_of frame.drawn.action }
     {
         let action = frame.drawn.action;
-        self.keep(frame.drawn);
+        self.keep_drawn(frame.drawn);
         self.spare_rows = self.last_rows.replace(rows);
         self.spare_messages = Some(messages);
         self.origin_widths = frame.origin_widths;
@@ -390,7 +390,7 @@ impl Past {
     }
 
     /// Records what the body of a written frame left.
-    fn keep(&mut self, drawn: Drawn)
+    fn keep_drawn(&mut self, drawn: Drawn)
         ensures { self.new ≡ keeping drawn self.old }
     {
         self.widths = drawn.widths;
@@ -399,16 +399,16 @@ impl Past {
     }
 
     /// Sets the size of the terminal, and records what the written frame left.
-    pub(crate) fn resize(&mut self, dimensions: (u16, u16), drawn: Drawn)
-        ensures { self.new ≡ keeping drawn (resized self.old dimensions.0 dimensions.1) }
+    pub(crate) fn set_size(&mut self, size: (u16, u16), drawn: Drawn)
+        ensures { self.new ≡ keeping drawn (resized self.old size.0 size.1) }
     {
-        self.options.terminal_dimensions = dimensions;
-        self.keep(drawn);
-        keep_latest(&mut self.origin_widths, usize::from(dimensions.1));
+        self.options.terminal_dimensions = size;
+        self.keep_drawn(drawn);
+        keep_latest(&mut self.origin_widths, usize::from(size.1));
     }
 
     /// Ends the renderer after its closing frame, which leaves no line on screen.
-    pub(crate) fn close(&mut self)
+    pub(crate) fn mark_closed(&mut self)
         ensures { self.new ≡ record self.old { widths = []; ended = Some Refusal.Closed } }
     {
         self.widths.clear();
@@ -416,7 +416,7 @@ impl Past {
     }
 
     /// Ends the renderer after the screen broke.
-    pub(crate) fn break_off(&mut self)
+    pub(crate) fn mark_broken(&mut self)
         ensures { self.new ≡ record self.old { ended = Some Refusal.Broken } }
     {
         self.ending = Some(Ending::Broken);

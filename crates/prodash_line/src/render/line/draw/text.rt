@@ -77,7 +77,7 @@ fn capped(width: usize) -> u16
 }
 
 /// Returns the text without its last character.
-fn without_last(text: &str) -> &str
+fn without_last_char(text: &str) -> &str
     ensures { chars result.now ≡ take (length (chars text.now) - 1) (chars text.now) }
 {
     let mut characters = text.chars();
@@ -94,7 +94,7 @@ pub(crate) fn longest_prefix(text: &str, columns: u16) -> &str
     }
     let mut prefix = text;
     while uncapped_width(prefix) > usize::from(columns) {
-        prefix = without_last(prefix);
+        prefix = without_last_char(prefix);
     }
     prefix
 }

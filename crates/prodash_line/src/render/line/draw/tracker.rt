@@ -1,8 +1,7 @@
-//! The tracker of throughput, if there is one, in a frame.
+//! What a frame does with the tracker of throughput, if there is one.
 ghost use Rattle.std.specs.Prelude.{◌≡◌, IfOk, OnOk, IsOkUnless};
-ghost use Rattle.prodash_base.specs.Rows.{row_of, rows_of};
-ghost use Rattle.prodash_line.specs.ProgressRows.{filtered};
-ghost use Rattle.prodash_line.specs.plumbing.Observing.{tracker_at, throughput_by, observe_by, observe_all, ahead_of, tracker_by};
+ghost use Rattle.prodash_base.specs.Rows.{rows_of};
+ghost use Rattle.prodash_line.specs.plumbing.Observing.{ahead_of, tracker_at, tracker_by, IsThroughputOf, ObservesRow, ObservesRows};
 ghost use Rattle.prodash_line.specs.Tracking.{kept_of};
 
 use crate::render::line::draw::action::Action;
@@ -15,7 +14,7 @@ use prodash_base::unit::display;
 use std::alloc::Global;
 
 /// Begins a frame that draws rows.
-pub(crate) fn begin(tracker: &mut Option<FrameThroughput>, at: Moment)
+pub(crate) fn begin_observing(tracker: &mut Option<FrameThroughput>, at: Moment)
     ensures kept { kept_of tracker.new ≡ kept_of tracker.old }
     ensures ahead { ahead_of tracker.new ≡ tracker_at at (kept_of tracker.old) }
 {
@@ -24,17 +23,15 @@ pub(crate) fn begin(tracker: &mut Option<FrameThroughput>, at: Moment)
     }
 }
 
-/// Observes a row, and returns the throughput that it gives, if there is a tracker.
+/// Observes a row, and returns its throughput, if there is a tracker.
 #[inline(always)]
-pub(crate) fn observe(
+pub(crate) fn observe_row(
     alloc: Global,
     tracker: &mut Option<FrameThroughput>,
     row: &Row,
 ) -> Result<Option<display::Throughput>, Refusal>
-    ensures value { IfOk result
-        (λ throughput. throughput ≡ throughput_by (ahead_of tracker.old) (row_of row.now)) }
-    ensures after { OnOk result
-        (ahead_of tracker.new ≡ observe_by (ahead_of tracker.old) (row_of row.now)) }
+    ensures value { IfOk result (IsThroughputOf row.now tracker.old) }
+    ensures observed { OnOk result (ObservesRow row.now tracker.old tracker.new) }
     ensures kept { kept_of tracker.new ≡ kept_of tracker.old }
     ensures reason { IsOkUnless result Refusal.Memory }
 {
@@ -52,21 +49,20 @@ pub(crate) fn observe_rows(
     levels: Option<(Level, Level)>,
     rows: &[Row],
 ) -> Result<(), Refusal>
-    ensures after { OnOk result (ahead_of tracker.new
-        ≡ observe_all (ahead_of tracker.old) (filtered levels (rows_of rows.now))) }
+    ensures observed { OnOk result (ObservesRows levels rows.now tracker.old tracker.new) }
     ensures kept { kept_of tracker.new ≡ kept_of tracker.old }
     ensures reason { IsOkUnless result Refusal.Memory }
 {
     for row in rows {
         if is_row_drawn(levels, row) {
-            observe(alloc, tracker, row)?;
+            observe_row(alloc, tracker, row)?;
         }
     }
     Ok(())
 }
 
 /// Keeps what a written frame has observed of its rows, if it draws rows.
-pub(crate) fn keep(tracker: &mut Option<FrameThroughput>, action: Action, rows: &[Row])
+pub(crate) fn keep_observed(tracker: &mut Option<FrameThroughput>, action: Action, rows: &[Row])
     ensures { kept_of tracker.new ≡ tracker_by action tracker.old (rows_of rows.now) }
 {
     if let (Some(tracker), Action::Redraw) = (tracker, action) {

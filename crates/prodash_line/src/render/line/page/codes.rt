@@ -44,7 +44,7 @@ pub(super) fn codes_of(style: Style) -> [Option<u8>; 4]
     ]
 }
 
-/// Returns the style with one code more, if that comes after all that the style has.
+/// Returns the style with one more code, if that code comes after all that the style has.
 pub(super) fn with_code(style: Style, code: u16) -> Option<Style>
     ensures { MatchOption result (AddsNone style code) (AddsCode style code) }
 {

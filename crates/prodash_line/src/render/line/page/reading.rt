@@ -4,7 +4,7 @@ ghost use Rattle.std.specs.Char.{encode_utf8};
 ghost use Rattle.std.specs.List.{prefix_len};
 ghost use Rattle.prodash_line.specs.Signs.{spelling};
 ghost use Rattle.prodash_line.specs.Reading.{Reads, GivesSpelled, AreProper};
-ghost use Rattle.prodash_line.specs.plumbing.SignReading.{NoCharAt, NoSignAt, IsSignAt, NoSequenceAt, IsSequenceAt, NoLongerText, NoNumber, IsNumber, NoStyle, IsStyle, MakesNone, Makes, is_parameter};
+ghost use Rattle.prodash_line.specs.plumbing.SignReading.{NoCharAt, NoSignAt, IsSignAt, NoSequenceAt, IsSequenceAt, NoLongerText, NoNumber, IsNumber, NoStyle, IsStyle, MakesSign, is_parameter};
 ghost use Rattle.prodash_line.specs.declared.render.line.page.sign.Sign.{Sign};
 
 use super::codes::with_code;
@@ -88,8 +88,7 @@ fn style_of(parameters: &[u8]) -> Option<Style>
 
 /// Returns the sign whose sequence has these parameters and this final byte.
 fn sign_of(parameters: &[u8], final_byte: u8) -> Option<Sign>
-    ensures { MatchOption result
-        (MakesNone parameters.now final_byte) (Makes parameters.now final_byte) }
+    ensures { MakesSign parameters.now final_byte result }
 {
     let is_two = parameters == b"2".as_slice();
     let is_cursor = parameters == b"?25".as_slice();

@@ -68,7 +68,7 @@ fn last_digit(color: Color) -> u8
 
 /// Appends the control sequence that begins a style. Fails if out of memory.
 ///
-/// Those of the styles of a row are written at once.
+/// The sequences of a row's styles are written in one piece.
 #[inline(always)]
 pub(crate) fn push_open(out: &mut ByteBuffer, style: Style) -> Result<(), AllocError>
     ensures { OnOk result (out.new ≡ out.old ++ spelling_of (Open style)) }

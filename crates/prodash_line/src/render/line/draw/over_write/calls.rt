@@ -1,11 +1,11 @@
-//! The calls made of a writer. Only contracts read them, and they take no memory.
+//! The calls made on a writer. Only contracts read them, and they take no memory.
 ghost use Rattle.std.specs.Prelude.{◌≡◌, List, [], ◌∷◌};
 ghost use Rattle.std.specs.Borrow.{ftrue};
 ghost use Rattle.prodash_line.specs.Writers.{WriterCall};
 
 use std::marker::{Model, Send, Sync};
 
-/// The calls made of a writer, the latest first.
+/// The calls made on a writer, the latest first.
 #[derive(Drop)]
 pub(crate) struct Calls {
     pub(crate) ghost made: { List WriterCall },
@@ -15,7 +15,7 @@ impl Model for Calls {
     ghost also_owns = { λ _. ftrue };
 }
 
-/// A call of a writer.
+/// A call made on a writer.
 #[derive(Clone, Copy, Drop)]
 pub(crate) enum Call<'a> {
     /// A write of the bytes, and how many of them it took; `None` if it returned an error.
@@ -39,8 +39,8 @@ impl Calls {
         Calls {}
     }
 
-    /// Returns the calls with this one more.
-    pub(crate) fn then(&self, _call: &Call<'_>) -> Calls
+    /// Returns the calls, and this one after them.
+    pub(crate) fn with_call(&self, _call: &Call<'_>) -> Calls
         ensures { result.made ≡ call_of _call.now ∷ self.now.made }
     {
         Calls {}

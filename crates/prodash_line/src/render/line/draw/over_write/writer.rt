@@ -1,9 +1,9 @@
-//! A writer with the list of the calls made of it. The code outside this file reaches the writer
-//! only by calls that add themselves to the list.
+//! A writer with the list of the calls made on it. Code outside this file reaches the writer only
+//! through methods that add their call to the list.
 ghost use Rattle.std.specs.Prelude.{◌≡◌, [], ◌∷◌, is_ok};
 ghost use Rattle.std.specs.Result.{result_ok};
 ghost use Rattle.std.specs.Io.{WritesAtMost};
-ghost use Rattle.prodash_line.specs.Writers.{Write, Flush, Holds, screen_of};
+ghost use Rattle.prodash_line.specs.Writers.{Write, Flush, HoldsTaken, screen_of};
 
 use super::calls::{Call, Calls};
 use std::fmt::{self, Debug, Formatter};
@@ -11,9 +11,10 @@ use std::io;
 use std::marker::Model;
 use std::snapshot::Snapshot;
 
-/// A screen over any writer. Each `put` is one write of its bytes, and each `flush` one flush. The
-/// screen breaks if such a call returns an error of any kind, even `Interrupted`, or if a write
-/// takes none of its bytes. Nothing else breaks it. Once broken, it never calls the writer again.
+/// A screen that wraps any writer. Each `put` is one write of its bytes, and each `flush` one
+/// flush. The screen breaks if such a call returns an error of any kind, even `Interrupted`, or if
+/// a write takes none of its bytes. Nothing else breaks it. Once broken, it never calls the writer
+/// again.
 ///
 /// ```rust
 /// let mut screen = OverWrite::new(Vec::new(alloc));
@@ -27,7 +28,7 @@ pub struct OverWrite<W: io::Write> {
     writer: W,
     /// The writer as it was when the screen was made.
     made_with: Snapshot<W>,
-    /// The calls made of the writer since.
+    /// The calls made on the writer since.
     calls: Calls,
     /// Whether one of them failed.
     failed: bool,
@@ -70,14 +71,13 @@ impl<W: io::Write> OverWrite<W> {
     /// those that the screen has taken.
     pub fn into_inner(self) -> W
         ensures writer { result ≡ self.writer }
-        ensures bytes { Holds (W.contents self.made_with) (W.contents result)
-            (screen_of W.contents self).bytes }
+        ensures bytes { HoldsTaken W.contents self result }
     {
         let OverWrite { writer, .. } = self;
         writer
     }
 
-    /// Hands the bytes to the writer once, and adds that call.
+    /// Hands the bytes to the writer once, and adds that call to the list.
     pub(crate) fn write(&mut self, bytes: &[u8]) -> io::Result<usize>
         ensures bound { WritesAtMost result bytes.now }
         ensures call { self.new.calls ≡ Write bytes.now (result_ok result) ∷ self.old.calls }
@@ -88,7 +88,7 @@ impl<W: io::Write> OverWrite<W> {
             Ok(count) => Some(*count),
             Err(_) => None,
         };
-        self.calls = self.calls.then(&Call::Write(bytes, taken));
+        self.calls = self.calls.with_call(&Call::Write(bytes, taken));
         match taken {
             Some(count) if count > 0 || bytes.is_empty() => {}
             _ => self.failed = true,
@@ -96,20 +96,21 @@ impl<W: io::Write> OverWrite<W> {
         written
     }
 
-    /// Asks the writer to flush once, and adds that call.
+    /// Asks the writer to flush once, and adds that call to the list.
     pub(crate) fn flush_writer(&mut self) -> io::Result<()>
         ensures call { self.new.calls ≡ Flush (is_ok result) ∷ self.old.calls }
         ensures made_with { self.new.made_with ≡ self.old.made_with }
     {
         let flushed = self.writer.flush();
-        self.calls = self.calls.then(&Call::Flush(flushed.is_ok()));
+        self.calls = self.calls.with_call(&Call::Flush(flushed.is_ok()));
         if flushed.is_err() {
             self.failed = true;
         }
         flushed
     }
 
-    /// Whether a call of the writer returned an error, or took none of some bytes.
+    /// Whether a call on the writer returned an error, or took none of its bytes though there were
+    /// some.
     pub(crate) fn has_failed(&self) -> bool
         ensures { result ≡ (screen_of W.contents self.now).broken }
     {

@@ -31,7 +31,7 @@ returns c =
     ) in
     subst (λ (colored : Bool). AppendsIn colored c.args.out.now (bar_with (row_style (progress_of c.args.value.now)) c.args.cells c.args.filled) c.push_run_prefix-2.new.self) (sym c.if-colored.false)
     (appends_apart (codes " [") texts refl printable
-    (appends_printable bar _ c.count-count.result (printable-joined (codes " [") texts refl printable) size c.count-count.ensures
-    (parts_written c.count-count.new.self.bytes _ _ _ bar (codes " [") (filled ++ codes ">") (others ++ codes "]") c.count-count.result _ _ parts
+    (appends_printable bar _ c.count_printable-count.result (printable-joined (codes " [") texts refl printable) size c.count_printable-count.ensures
+    (parts_written c.count_printable-count.new.self.bytes _ _ _ bar (codes " [") (filled ++ codes ">") (others ++ codes "]") c.count_printable-count.result _ _ parts
     c.in_ok-count.ensures.bytes c.in_ok-count.ensures.more c.in_ok-count-2.ensures.bytes (c.in_ok-count-2.ensures.more ∙ ap (λ k. c.in_ok-count.count - k) (sym run)) c.in_ok-push_run_prefix.ensures.bytes)
     (same_then c.in_ok-count.ensures.line (same_then c.in_ok-count-2.ensures.line c.in_ok-push_run_prefix.ensures.line))))

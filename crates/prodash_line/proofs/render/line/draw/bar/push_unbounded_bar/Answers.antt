@@ -13,8 +13,8 @@ returns c =
     let end = c.saturating_add-end.result in
     let n : end - c.args.step ≡ min (c.args.columns - 3) (2 ^ 64 - 1 - c.args.step) = omega (arith, c.saturating_add-end.ensures, c.from.ensures, c.saturating_sub.ensures) in
     let length = end - c.args.step in
-    let counted = c.count-count.ensures in
-    let count = c.count-count.result in
+    let counted = c.count_printable-count.ensures in
+    let count = c.count_printable-count.result in
     let style = then_some c.args.colored c.args.style in
     let cells = numbered_cells c.args.step length in
     let shown : c.style_of_length-style.result ≡ style_of_length style count =
@@ -22,8 +22,8 @@ returns c =
     appends_as (ap (λ k. piece (codes " [") ∷ styled style (numbered_cells c.args.step k) ∷ piece (codes "]") ∷ []) n)
     (appends_then c.in_ok-push_printable.ensures
     (appends_then (appends_counted style cells length count (printable-numbered_cells c.args.step length) (length-numbered_cells c.args.step length) counted
-    (c.in_ok-open.ensures.bytes ∙ ap (λ s. c.count-count.new.self.bytes ++ open_bytes s) shown) c.in_ok-open.ensures.line
-    (c.in_ok-push_numbered_cells.ensures.bytes ∙ ap (λ t. c.open.new.self.bytes ++ t) (cells_counted c.args.step end count c.from-3.result c.from-3.ensures counted.within (omega (arith, c.saturating_add-end.ensures))))
+    (c.in_ok-open_style.ensures.bytes ∙ ap (λ s. c.count_printable-count.new.self.bytes ++ open_bytes s) shown) c.in_ok-open_style.ensures.line
+    (c.in_ok-push_numbered_cells.ensures.bytes ∙ ap (λ t. c.open_style.new.self.bytes ++ t) (cells_counted c.args.step end count c.from-3.result c.from-3.ensures counted.within (omega (arith, c.saturating_add-end.ensures))))
     c.in_ok-push_numbered_cells.ensures.line
-    (c.in_ok-reset.ensures.bytes ∙ ap (λ s. c.push_numbered_cells.new.out.bytes ++ reset_bytes s) shown) c.in_ok-reset.ensures.line)
+    (c.in_ok-reset_style.ensures.bytes ∙ ap (λ s. c.push_numbered_cells.new.out.bytes ++ reset_bytes s) shown) c.in_ok-reset_style.ensures.line)
     c.in_ok-push_printable-2.ensures))

@@ -15,7 +15,7 @@ use Rattle.prodash_line.proofs.OverwriteBytes.{action_starts, frame_bytes_of}
 use Rattle.prodash_line.proofs.render.line.draw.frame.compose_resized.Goals as goal
 
 abbrev input : goal.In_ok-drawn → Input
-input c = Resize c.args.at c.args.show c.args.dimensions.0 c.args.dimensions.1
+input c = Resize c.args.at c.args.show c.args.size.0 c.args.size.1
 
 -- the renderer
 abbrev whole : goal.In_ok-drawn → Renderer
@@ -23,10 +23,10 @@ whole c = tracked c.args.past.now c.args.tracker.now
 
 -- the options that the frame is drawn with
 abbrev sized : goal.In_ok-drawn → Options
-sized c = record c.past.inside.options { terminal_dimensions = c.args.dimensions }
+sized c = record c.past.inside.options { terminal_dimensions = c.args.size }
 
 sized_is : (c : goal.In_ok-drawn) → sized c ≡ (remember c.args.past.now (input c)).options
-sized_is c = ap (λ (x : Renderer). record x.options { terminal_dimensions = c.args.dimensions }) c.past.view_is
+sized_is c = ap (λ (x : Renderer). record x.options { terminal_dimensions = c.args.size }) c.past.view_is
 
 abbrev drawing : goal.In_ok-drawn → Drawing
 drawing c = drawing_of (record (whole c) { options = sized c }) c.args.at (rows_of c.latest_rows.result.now)

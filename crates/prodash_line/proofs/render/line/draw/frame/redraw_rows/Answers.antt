@@ -22,7 +22,7 @@ abbrev before : goal.In_ok-finish_redraw → Option Tracker
 before c = kept_of c.args.tracker.now
 
 abbrev begun : goal.In_ok-finish_redraw → Option Tracker
-begun c = ahead_of c.begin.new.tracker
+begun c = ahead_of c.begin_observing.new.tracker
 
 abbrev renderer : goal.In_ok-finish_redraw → Renderer
 renderer c = renderer_in c.args.scene.now (before c)
@@ -32,21 +32,19 @@ filtered_rows c = filtered c.args.scene.now.options.level_filter (rows_of c.args
 
 shown : (c : goal.In_ok-finish_redraw)
     → shown_by (begun c) (filtered_rows c) ≡ drawn_rows (renderer c) c.args.scene.now.at (rows_of c.args.scene.now.rows.now)
-shown c = ap (λ t. shown_by t (filtered_rows c)) c.begin.ensures.ahead ∙ shown_at (before c) c.args.scene.now.at (filtered_rows c)
+shown c = ap (λ t. shown_by t (filtered_rows c)) c.begin_observing.ensures.ahead ∙ shown_at (before c) c.args.scene.now.at (filtered_rows c)
 
 lines : (c : goal.In_ok-finish_redraw)
-    → fitting_lines c.args.scene.now.options c.midpoint-midpoint.result (begun c) c.args.scene.now.rows.now ≡ (drawing_in c.args.scene.now (before c)).lines
+    → fitting_lines c.args.scene.now.options c.args.scene.now.past.now.midpoint (begun c) c.args.scene.now.rows.now ≡ (drawing_in c.args.scene.now (before c)).lines
 lines c =
     let options = c.args.scene.now.options in
     let layout = layout_of options in
-    let all = drawn_rows (renderer c) c.args.scene.now.at (rows_of c.args.scene.now.rows.now) in
-    ap (λ (rows : List DrawnRow). row_lines options c.midpoint-midpoint.result (fitting layout rows) ++ more_lines options (length rows - length (fitting layout rows))) (shown c)
-    ∙ ap (λ (n : ℕ). row_lines options n (fitting layout all) ++ more_lines options (length all - length (fitting layout all))) c.midpoint-midpoint.ensures
+    ap (λ (rows : List DrawnRow). row_lines options c.args.scene.now.past.now.midpoint (fitting layout rows) ++ more_lines options (length rows - length (fitting layout rows))) (shown c)
 
 widths_are : (c : goal.In_ok-finish_redraw) → c.write_fitting.new.drawn.widths.items ≡ widths_of (drawing_in c.args.scene.now (before c)).lines
 widths_are c =
     c.in_ok-write_fitting.ensures.drawn.widths
-    ∙ ap (λ (old : List ℕ). old ++ widths_of (fitting_lines c.args.scene.now.options c.midpoint-midpoint.result (begun c) c.args.scene.now.rows.now)) c.in_ok-with_capacity.ensures.items
+    ∙ ap (λ (old : List ℕ). old ++ widths_of (fitting_lines c.args.scene.now.options c.args.scene.now.past.now.midpoint (begun c) c.args.scene.now.rows.now)) c.in_ok-with_capacity.ensures.items
     ∙ ap widths_of (lines c)
 
 pub returns-clause-bytes : goal.returns-clause-bytes
@@ -69,8 +67,8 @@ returns-clause-state c =
     omega (arith, c.in_ok-write_fitting.ensures.drawn.midpoint, ap (λ (rs : List DrawnRow). greatest_midpoint c.args.scene.now.options.defensive (fitting layout rs)) (shown c)) in
     let tracker =
     ap (λ (a : Action). tracker_by a c.write_fitting.new.tracker rows) action
-    ∙ ap (λ t. option_map (λ t. reconcile t rows) t) (c.in_ok-write_fitting.ensures.ahead
-    ∙ ap (λ t. observe_all t (filtered_rows c)) c.begin.ensures.ahead)
+    ∙ ap (λ t. option_map (λ t. reconcile t rows) t) (c.in_ok-write_fitting.ensures.observed
+    ∙ ap (λ t. observe_all t (filtered_rows c)) c.begin_observing.ensures.ahead)
     ∙ observed_at (before c) at (filtered_rows c) rows in
     let erased = c.in_ok-write_fitting.ensures.drawn.rows_erased in
     record {

@@ -5,4 +5,4 @@ use Rattle.prodash_line.proofs.render.line.draw.frame.write_blanks.Goals as goal
 pub loop-width-preserved : goal.loop-width-preserved
 loop-width-preserved c =
     blanks_more c.args.widths.now c.loop-width.width-index c.loop-width.out.bytes _ _ c.loop-width-test.true
-    (c.in_ok-end_over.ensures.bytes None c.loop-width.out [] c.begin.ensures).bytes c.loop-width.invariant
+    (c.in_ok-end_line_over.ensures.bytes None c.loop-width.out [] c.begin_line.ensures).bytes c.loop-width.invariant

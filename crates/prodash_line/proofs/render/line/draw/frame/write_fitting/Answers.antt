@@ -14,40 +14,40 @@ use Rattle.prodash_line.proofs.FittingRows.{fits_first, others_are, observes_bot
 use Rattle.prodash_line.proofs.render.line.draw.frame.write_fitting.Goals as goal
 
 splits : (c : goal.In_ok-write_more)
-    → SplitsFitting (layout_of c.args.options.now) c.args.options.now.level_filter c.args.rows.now c.split_fitting.result.0.now c.split_fitting.result.1.now
-splits c = subst (λ (l : Layout). SplitsFitting l c.args.options.now.level_filter c.args.rows.now c.split_fitting.result.0.now c.split_fitting.result.1.now) c.layout-layout.ensures c.split_fitting.ensures
+    → SplitsFitting (layout_of c.args.scene.now.options) c.args.scene.now.options.level_filter c.args.scene.now.rows.now c.split_fitting.result.0.now c.split_fitting.result.1.now
+splits c = subst (λ (l : Layout). SplitsFitting l c.args.scene.now.options.level_filter c.args.scene.now.rows.now c.split_fitting.result.0.now c.split_fitting.result.1.now) c.layout-layout.ensures c.split_fitting.ensures
 
 -- the rows that fit are those that are written
-fit : (c : goal.In_ok-write_more) → fitting_shown c.args.options.now (ahead_of c.args.tracker.now) c.args.rows.now ≡ shown_rows c.args.options.now (ahead_of c.args.tracker.now) c.split_fitting.result.0.now
-fit c = fits_first (layout_of c.args.options.now) c.args.options.now.level_filter (ahead_of c.args.tracker.now) c.args.rows.now c.split_fitting.result.0.now c.split_fitting.result.1.now (splits c)
+fit : (c : goal.In_ok-write_more) → fitting_shown c.args.scene.now.options (ahead_of c.args.tracker.now) c.args.scene.now.rows.now ≡ shown_rows c.args.scene.now.options (ahead_of c.args.tracker.now) c.split_fitting.result.0.now
+fit c = fits_first (layout_of c.args.scene.now.options) c.args.scene.now.options.level_filter (ahead_of c.args.tracker.now) c.args.scene.now.rows.now c.split_fitting.result.0.now c.split_fitting.result.1.now (splits c)
 
-lines : (c : goal.In_ok-write_more) → fitting_lines c.args.options.now c.args.midpoint (ahead_of c.args.tracker.now) c.args.rows.now
-    ≡ shown_lines c.args.options.now c.args.midpoint (ahead_of c.args.tracker.now) c.split_fitting.result.0.now ++ more_of c.args.options.now c.split_fitting.result.1.now
+lines : (c : goal.In_ok-write_more) → fitting_lines c.args.scene.now.options c.args.scene.now.past.now.midpoint (ahead_of c.args.tracker.now) c.args.scene.now.rows.now
+    ≡ shown_lines c.args.scene.now.options c.args.scene.now.past.now.midpoint (ahead_of c.args.tracker.now) c.split_fitting.result.0.now ++ more_of c.args.scene.now.options c.split_fitting.result.1.now
 lines c =
-    let options = c.args.options.now in
-    let all = shown_rows options (ahead_of c.args.tracker.now) c.args.rows.now in
-    let own = fitting_shown options (ahead_of c.args.tracker.now) c.args.rows.now in
-    ap (λ (rs : List DrawnRow). row_lines options c.args.midpoint rs ++ more_lines options (length all - length own)) (fit c)
-    ∙ ap (λ (n : ℕ). shown_lines options c.args.midpoint (ahead_of c.args.tracker.now) c.split_fitting.result.0.now ++ more_lines options n)
-    (others_are (layout_of options) options.level_filter (ahead_of c.args.tracker.now) c.args.rows.now c.split_fitting.result.0.now c.split_fitting.result.1.now (splits c))
+    let options = c.args.scene.now.options in
+    let all = shown_rows options (ahead_of c.args.tracker.now) c.args.scene.now.rows.now in
+    let own = fitting_shown options (ahead_of c.args.tracker.now) c.args.scene.now.rows.now in
+    ap (λ (rs : List DrawnRow). row_lines options c.args.scene.now.past.now.midpoint rs ++ more_lines options (length all - length own)) (fit c)
+    ∙ ap (λ (n : ℕ). shown_lines options c.args.scene.now.past.now.midpoint (ahead_of c.args.tracker.now) c.split_fitting.result.0.now ++ more_lines options n)
+    (others_are (layout_of options) options.level_filter (ahead_of c.args.tracker.now) c.args.scene.now.rows.now c.split_fitting.result.0.now c.split_fitting.result.1.now (splits c))
 
 pub returns-clause-bytes : goal.returns-clause-bytes
 returns-clause-bytes c =
-    let options = c.args.options.now in
+    let options = c.args.scene.now.options in
     let layout = layout_of options in
-    let shown = shown_lines options c.args.midpoint (ahead_of c.args.tracker.now) c.split_fitting.result.0.now in
+    let shown = shown_lines options c.args.scene.now.past.now.midpoint (ahead_of c.args.tracker.now) c.split_fitting.result.0.now in
     let before = c.args.out.now.bytes in
-    both_written layout options options.level_filter c.args.widths.now c.args.rows.now c.split_fitting.result.0.now c.split_fitting.result.1.now shown before _ _ (splits c)
+    both_written layout options options.level_filter c.args.widths.now c.args.scene.now.rows.now c.split_fitting.result.0.now c.split_fitting.result.1.now shown before _ _ (splits c)
     (c.in_ok-write_rows.ensures.bytes ∙ ap (λ (ws : List ℕ). before ++ lines_bytes layout ws shown)
-    (c.covered-covered.ensures ∙ ap (λ (l : Layout). covered l c.args.widths.now) c.layout-layout.ensures))
+    (c.covered_widths-covered.ensures ∙ ap (λ (l : Layout). covered l c.args.widths.now) c.layout-layout.ensures))
     c.in_ok-write_more.ensures.bytes
     ∙ ap (λ (ls : List Line). before ++ lines_bytes layout (covered layout c.args.widths.now) ls) (sym (lines c))
 
 pub returns-clause-drawn : goal.returns-clause-drawn
 returns-clause-drawn c =
-    let options = c.args.options.now in
+    let options = c.args.scene.now.options in
     let old = c.args.drawn.now in
-    let shown = shown_lines options c.args.midpoint (ahead_of c.args.tracker.now) c.split_fitting.result.0.now in
+    let shown = shown_lines options c.args.scene.now.past.now.midpoint (ahead_of c.args.tracker.now) c.split_fitting.result.0.now in
     let more = more_of options c.split_fitting.result.1.now in
     record {
       widths = c.in_ok-write_more.ensures.drawn.widths
@@ -60,9 +60,9 @@ returns-clause-drawn c =
       action = c.in_ok-write_more.ensures.drawn.action ∙ c.in_ok-write_rows.ensures.drawn.action;
     }
 
-pub returns-clause-ahead : goal.returns-clause-ahead
-returns-clause-ahead c =
-    let levels = c.args.options.now.level_filter in
-    c.in_ok-write_more.ensures.ahead
-    ∙ ap (λ t. observe_all t (filtered levels (rows_of c.split_fitting.result.1.now))) c.in_ok-write_rows.ensures.ahead
-    ∙ observes_both levels (ahead_of c.args.tracker.now) c.args.rows.now c.split_fitting.result.0.now c.split_fitting.result.1.now (splits c).whole
+pub returns-clause-observed : goal.returns-clause-observed
+returns-clause-observed c =
+    let levels = c.args.scene.now.options.level_filter in
+    c.in_ok-write_more.ensures.observed
+    ∙ ap (λ t. observe_all t (filtered levels (rows_of c.split_fitting.result.1.now))) c.in_ok-write_rows.ensures.observed
+    ∙ observes_both levels (ahead_of c.args.tracker.now) c.args.scene.now.rows.now c.split_fitting.result.0.now c.split_fitting.result.1.now (splits c).whole

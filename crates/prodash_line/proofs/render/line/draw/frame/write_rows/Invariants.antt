@@ -10,16 +10,16 @@ use Rattle.prodash_line.proofs.render.line.draw.frame.write_rows.Given as goal
 
 abbrev pub invariant-loop-row : goal.invariant-loop-row
 invariant-loop-row l =
-    let left = filtered l.options.level_filter (rows_of (drop l.row-index l.rows)) in
-    let all = filtered l.options.level_filter (rows_of l.rows) in
+    let left = filtered l.scene.options.level_filter (rows_of (drop l.row-index l.rows)) in
+    let all = filtered l.scene.options.level_filter (rows_of l.rows) in
     let shown_left = shown_by (ahead_of l.tracker) left in
     let shown_all = shown_by (ahead_of l.fn.tracker) all in
     record {
-      bytes : l.out.bytes ++ lines_bytes (layout_of l.options) l.left (row_lines l.options l.midpoint shown_left)
-          ≡ l.fn.out.bytes ++ lines_bytes (layout_of l.options) l.widths (row_lines l.options l.midpoint shown_all);
-      widths : l.drawn.widths.items ++ widths_of (row_lines l.options l.midpoint shown_left)
-          ≡ l.fn.drawn.widths.items ++ widths_of (row_lines l.options l.midpoint shown_all);
-      midpoint : max l.drawn.midpoint (greatest_midpoint l.options.defensive shown_left) ≡ max l.fn.drawn.midpoint (greatest_midpoint l.options.defensive shown_all);
+      bytes : l.out.bytes ++ lines_bytes (layout_of l.scene.options) l.left (row_lines l.scene.options l.scene.past.now.midpoint shown_left)
+          ≡ l.fn.out.bytes ++ lines_bytes (layout_of l.scene.options) l.widths (row_lines l.scene.options l.scene.past.now.midpoint shown_all);
+      widths : l.drawn.widths.items ++ widths_of (row_lines l.scene.options l.scene.past.now.midpoint shown_left)
+          ≡ l.fn.drawn.widths.items ++ widths_of (row_lines l.scene.options l.scene.past.now.midpoint shown_all);
+      midpoint : max l.drawn.midpoint (greatest_midpoint l.scene.options.defensive shown_left) ≡ max l.fn.drawn.midpoint (greatest_midpoint l.scene.options.defensive shown_all);
       ahead : observe_all (ahead_of l.tracker) left ≡ observe_all (ahead_of l.fn.tracker) all;
       kept : kept_of l.tracker ≡ kept_of l.fn.tracker;
       rows_erased : l.drawn.rows_erased ≡ l.fn.drawn.rows_erased;

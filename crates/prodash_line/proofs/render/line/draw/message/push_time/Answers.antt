@@ -17,5 +17,5 @@ returns-clause-pieces c =
     appends_as (ap (λ shown. in_color colored (time_of shown m)) (sym c.if-not-options.false))
     (appends_then
     (appends_as (ap (λ style. styled style (chars c.as_str.result.now) ∷ []) (c.then_some-style.ensures ∙ ap (then_some colored) c.time_style.ensures)
-    ∙ ap (λ t. styled (then_some colored (time_style m.level)) (chars t) ∷ []) (c.as_str.ensures.value ∙ c.in_ok-time.ensures.ok)) c.in_ok-push.ensures)
+    ∙ ap (λ t. styled (then_some colored (time_style m.level)) (chars t) ∷ []) (c.as_str.ensures.value ∙ c.in_ok-time.ensures.ok)) c.in_ok-push_text.ensures)
     c.in_ok-push_spaces.ensures)

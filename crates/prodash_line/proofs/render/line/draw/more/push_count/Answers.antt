@@ -18,6 +18,6 @@ push_printable-requires-clause-printable c = ap is_printable (c.as_bytes.ensures
 pub returns : goal.returns
 returns c =
     begun_then
-    (begun_then (begun_then (begun_to _ _ c.width_limit.ensures c.begin.ensures) (appends_as (ap (λ t. piece t ∷ []) and) c.in_ok-push.ensures))
+    (begun_then (begun_then (begun_to _ _ c.width_limit.ensures c.begin_line.ensures) (appends_as (ap (λ t. piece t ∷ []) and) c.in_ok-push_text.ensures))
     (appends_as (ap (λ t. piece t ∷ []) (c.as_bytes.ensures.value ∙ c.format.ensures.text)) c.in_ok-push_printable.ensures))
     c.in_ok-push_printable-2.ensures

@@ -10,5 +10,5 @@ use Rattle.prodash_line.proofs.render.line.draw.row.push_name.Goals as goal
 pub returns : goal.returns
 returns c =
     let o = c.args.options.now in
-    appends_as (ap (λ style. styled style (chars c.in_ok-name.name.now) ∷ []) (c.then_some-style.ensures ∙ ap (then_some o.colored) c.name_style.ensures)
-    ∙ ap (λ (t : List ℕ). styled (then_some o.colored (name_style (row_of c.args.row.now).1.progress)) t ∷ []) (c.in_ok-name.ensures.text ∙ ap (drawn_chars o.defensive) c.as_str.ensures)) c.in_ok-push_measured.ensures
+    appends_as (ap (λ style. styled style (chars c.in_ok-name.name.text.now) ∷ []) (c.then_some-style.ensures ∙ ap (then_some o.colored) c.name_style.ensures)
+    ∙ ap (λ (t : List ℕ). styled (then_some o.colored (name_style (row_of c.args.row.now).1.progress)) t ∷ []) (c.in_ok-name.ensures.text ∙ ap (drawn_chars o.defensive) c.as_str.ensures)) c.in_ok-push_drawn.ensures

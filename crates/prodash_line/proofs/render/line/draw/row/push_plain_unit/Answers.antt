@@ -8,7 +8,7 @@ use Rattle.prodash_base.specs.declared.unit.units.Unit.{Unit}
 use Rattle.prodash_base.specs.declared.unit.display.Throughput.{Throughput}
 use Rattle.prodash_line.specs.DrawnLines.{drawn_chars}
 use Rattle.prodash_line.specs.Lines.{piece, capped, columns_of, in_color}
-use Rattle.prodash_line.specs.plumbing.Padding.{AppendsText, DrawsInUnit}
+use Rattle.prodash_line.specs.plumbing.RowWriting.{AppendsText, DrawsInUnit}
 use Rattle.prodash_line.specs.ProgressRows.{values_in}
 use Rattle.prodash_line.specs.plumbing.Writing.{is_printable}
 use Rattle.prodash_line.proofs.Columns.{chars-printable, printable-parts, width-ascii}
@@ -44,21 +44,28 @@ texts defensive unit p t text values name v n h is =
 
 pub push_plain_text-requires-clause-columns : goal.push_plain_text-requires-clause-columns
 push_plain_text-requires-clause-columns c =
-    let all = columns_are c.as_bytes-text.result.now c.as_str.result.now c.in-Some.columns (c.as_bytes-text.ensures.value ∙ sym c.as_str.ensures.value) c.in-Some.ensures in
+    let all = columns_are c.as_bytes.result.now c.as_str.result.now c.in-Some.columns (c.as_bytes.ensures.value ∙ sym c.as_str.ensures.value) c.in-Some.ensures in
     omega (arith, all)
+
+pub push_plain_text-requires-clause-printable : goal.push_plain_text-requires-clause-printable
+push_plain_text-requires-clause-printable c =
+    let h = printable c.as_bytes.result.now c.as_str.result.now c.in-Some.columns (c.as_bytes.ensures.value ∙ sym c.as_str.ensures.value) c.in-Some.ensures in
+    ap is_printable (append-nil c.as_bytes.result.now) ∙ h
 
 pub returns-clause-drawn : goal.returns-clause-drawn
 returns-clause-drawn c =
     let old = c.args.out.now in
     let new = c.push_plain_text.new.out in
+    let drawn = c.args.drawn.now in
+    let width = drawn.options.now.terminal_dimensions.0 in
     let unit = c.args.unit.now in
-    let p = progress_of c.args.value.now in
-    let text : List ℕ = c.as_bytes-text.result.now in
+    let p = progress_of drawn.value.now in
+    let text : List ℕ = c.as_bytes.result.now in
     let whole : List ℕ = text ++ ([] ++ []) in
-    let values = values_text (kind_shown unit.kind) unit.mode (amount p.counter p.bound c.args.throughput) in
-    let name = unit_text (kind_shown unit.kind) unit.mode (amount p.counter p.bound c.args.throughput) in
-    let h = printable text c.as_str.result.now c.in-Some.columns (c.as_bytes-text.ensures.value ∙ sym c.as_str.ensures.value) c.in-Some.ensures in
-    let is : text ≡ (values ++ codes " ") ++ name = c.as_bytes-text.ensures.value ∙ search rules in
-    drawn_as c.in_ok-plain.plain old new (AppendsText c.args.width c.args.midpoint whole p) (DrawsInUnit c.args.width c.args.midpoint unit c.args.value.now c.args.throughput)
-    (λ own given defensive. appends_unit old new c.args.width c.args.midpoint own whole values name (values_in defensive (measure_of unit) p c.args.throughput) p (ap is_printable (append-nil text) ∙ h)
-    (append-nil text ∙ is) (texts defensive unit p c.args.throughput text values name refl refl h is) given) c.in_ok-plain.ensures
+    let values = values_text (kind_shown unit.kind) unit.mode (amount p.counter p.bound drawn.throughput) in
+    let name = unit_text (kind_shown unit.kind) unit.mode (amount p.counter p.bound drawn.throughput) in
+    let h = printable text c.as_str.result.now c.in-Some.columns (c.as_bytes.ensures.value ∙ sym c.as_str.ensures.value) c.in-Some.ensures in
+    let is : text ≡ (values ++ codes " ") ++ name = c.as_bytes.ensures.value ∙ search rules in
+    drawn_as c.in_ok-plain.plain old new (AppendsText width drawn.midpoint whole p) (DrawsInUnit drawn unit)
+    (λ own given defensive. appends_unit old new width drawn.midpoint own whole values name (values_in defensive (measure_of unit) p drawn.throughput) p (ap is_printable (append-nil text) ∙ h)
+    (append-nil text ∙ is) (texts defensive unit p drawn.throughput text values name refl refl h is) given) c.in_ok-plain.ensures

@@ -10,22 +10,22 @@ use Rattle.prodash_line.proofs.render.line.draw.text.longest_prefix.Goals as goa
 pub loop-prefix-init : goal.loop-prefix-init
 loop-prefix-init c = record { utf8 = c.utf8.text; is_prefix = sym (take_all (length (chars c.args.text.now)) (chars c.args.text.now) (omega arith)); same = prefix_init c.args.columns (chars c.args.text.now) }
 
-wide : (c : goal.After-without_last-prefix) → c.args.columns < str_width false (chars c.loop-prefix.prefix.now)
+wide : (c : goal.After-without_last_char-prefix) → c.args.columns < str_width false (chars c.loop-prefix.prefix.now)
 wide c = omega (arith, c.loop-prefix-test.true, c.from-in-loop-prefix.ensures, c.uncapped_width.ensures)
 
 pub loop-prefix-smaller : goal.loop-prefix-smaller
 loop-prefix-smaller c =
     let some = (prefix_fewer c.args.columns (chars c.args.text.now) (chars c.loop-prefix.prefix.now) c.loop-prefix.invariant.is_prefix (wide c)).0 in
-    omega (arith, shorter (chars c.loop-prefix.prefix.now) (chars c.without_last-prefix.result.now) c.without_last-prefix.ensures, some)
+    omega (arith, shorter (chars c.loop-prefix.prefix.now) (chars c.without_last_char-prefix.result.now) c.without_last_char-prefix.ensures, some)
 
 pub loop-prefix-preserved : goal.loop-prefix-preserved
 loop-prefix-preserved c =
     let text = chars c.args.text.now in
     let left = chars c.loop-prefix.prefix.now in
     record {
-      utf8 = c.without_last-prefix.utf8;
-      is_prefix = prefix_shorter text left (chars c.without_last-prefix.result.now) c.loop-prefix.invariant.is_prefix c.without_last-prefix.ensures;
-      same = ap (longest_prefix_of c.args.columns text) (shorter left (chars c.without_last-prefix.result.now) c.without_last-prefix.ensures)
+      utf8 = c.without_last_char-prefix.utf8;
+      is_prefix = prefix_shorter text left (chars c.without_last_char-prefix.result.now) c.loop-prefix.invariant.is_prefix c.without_last_char-prefix.ensures;
+      same = ap (longest_prefix_of c.args.columns text) (shorter left (chars c.without_last_char-prefix.result.now) c.without_last_char-prefix.ensures)
           ∙ sym (prefix_fewer c.args.columns text left c.loop-prefix.invariant.is_prefix (wide c)).1 ∙ c.loop-prefix.invariant.same;
     }
 

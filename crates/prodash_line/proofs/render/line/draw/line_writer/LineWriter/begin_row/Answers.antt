@@ -16,16 +16,16 @@ pub returns : goal.returns
 returns c =
     let before = c.args.self.now.bytes in
     let row = on_row c.args.layout c.args.self.now in
-    let begun = c.begin.ensures.writes in
-    let counted = c.count-count.ensures in
-    let count = c.count-count.result in
+    let begun = c.begin_line.ensures.writes in
+    let counted = c.count_printable-count.ensures in
+    let count = c.count_printable-count.result in
     let begins_at : c.match-layout.start ≡ start_of c.args.layout =
     elim c.match-layout.branch [ in-Overwriting w ↦ w.start-is ∙ ap start_of (sym w.in-Overwriting.is) | in-Erasing w ↦ w.start-is ∙ ap start_of (sym w.in-Erasing.is) ] in
     let bytes : take ((4 + c.from-2.result) - c.match-layout.start) (drop c.match-layout.start erased_row) ≡ spelling (row_start c.args.layout) ++ take count (replicate c.args.indent 32) =
     (λ i. take ((4 + c.from-2.ensures i) - begins_at i) (drop (begins_at i) erased_row)) ∙ row_begins c.args.layout count (omega (arith, c.from.ensures, counted.within))
     ∙ ap (λ t. spelling (row_start c.args.layout) ++ t) (sym (take_copies count c.args.indent 32 (omega (arith, c.from.ensures, counted.within)))) in
-    let start : LineWriter = record c.begin.new.self { bytes = row.bytes } in
-    let after : LineWriter = record c.count-count.new.self { bytes = row.bytes } in
+    let start : LineWriter = record c.begin_line.new.self { bytes = row.bytes } in
+    let after : LineWriter = record c.count_printable-count.new.self { bytes = row.bytes } in
     let counts : Counts start c.from.result count after = record {
       bytes = refl;
       width = counted.width;
@@ -33,7 +33,7 @@ returns c =
       within = counted.within;
       fits = counted.fits;
     } in
-    let same : c.count-count.new.self.bytes ≡ before = counted.bytes ∙ begun.bytes ∙ ap (λ bs. before ++ bs) (cut-nil c.args.limit) ∙ append-nil before in
+    let same : c.count_printable-count.new.self.bytes ≡ before = counted.bytes ∙ begun.bytes ∙ ap (λ bs. before ++ bs) (cut-nil c.args.limit) ∙ append-nil before in
     begun_then (begins c.args.limit row start refl begun.width begun.limit begun.room)
     (appends_printable (replicate c.args.indent 32) c.from.result count (printable-spaces c.args.indent) (length-replicate c.args.indent 32 ∙ sym c.from.ensures) counts
     (c.in_ok-extend_from_slice.ensures

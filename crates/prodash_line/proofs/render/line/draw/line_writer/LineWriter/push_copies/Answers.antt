@@ -6,7 +6,7 @@ use Rattle.prodash_line.proofs.render.line.draw.line_writer.LineWriter.push_copi
 
 pub returns : goal.returns
 returns c =
-    let counted = c.count-count.ensures in
-    appends_printable (replicate c.args.count c.args.character) c.args.count c.count-count.result (printable-repeated c.args.count c.args.character c.requires.low c.requires.high) (length-replicate c.args.count c.args.character) counted
-    (c.in_ok-push_copies.ensures ∙ ap (λ t. c.count-count.new.self.bytes ++ t) (sym (take_copies c.count-count.result c.args.count c.args.character counted.within)))
+    let counted = c.count_printable-count.ensures in
+    appends_printable (replicate c.args.count c.args.character) c.args.count c.count_printable-count.result (printable-repeated c.args.count c.args.character c.requires.low c.requires.high) (length-replicate c.args.count c.args.character) counted
+    (c.in_ok-push_copies.ensures ∙ ap (λ t. c.count_printable-count.new.self.bytes ++ t) (sym (take_copies c.count_printable-count.result c.args.count c.args.character counted.within)))
     (record { width = refl; limit = refl; room = refl })

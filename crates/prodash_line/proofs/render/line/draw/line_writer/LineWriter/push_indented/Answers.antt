@@ -9,11 +9,11 @@ returns c =
     let spaces = c.fit_indented-spaces.result.0 in
     let prefix = c.fit_indented-spaces.result.1.now in
     let size = c.from.result + length prefix in
-    let line = c.in_ok-reset.ensures.line in
-    let opened = c.in_ok-open.ensures.line in
-    appends_indented c.args.self.now _ c.args.style c.args.padding spaces size c.args.width c.args.text.now prefix _ _ _ (subst IsUtf8 c.as_bytes.ensures.value c.as_bytes.ensures.utf8) (omega arith) c.fit_indented-spaces.ensures.text (omega (arith, c.from.ensures)) c.requires
-    (c.in_ok-open.ensures.bytes ∙ ap (λ s. c.args.self.now.bytes ++ open_bytes s) c.style_of_length-style.ensures) c.in_ok-push_copies.ensures
+    let line = c.in_ok-reset_style.ensures.line in
+    let opened = c.in_ok-open_style.ensures.line in
+    appends_indented c.args.self.now _ c.args.style c.args.padding spaces size c.args.drawn.now.width c.args.drawn.now.text.now prefix _ _ _ (subst IsUtf8 c.as_bytes.ensures.value c.as_bytes.ensures.utf8) (omega arith) c.fit_indented-spaces.ensures.text (omega (arith, c.from.ensures)) c.requires
+    (c.in_ok-open_style.ensures.bytes ∙ ap (λ s. c.args.self.now.bytes ++ open_bytes s) c.style_of_length-style.ensures) c.in_ok-push_copies.ensures
     (c.in_ok-extend_from_slice.ensures ∙ ap (λ t. c.push_copies.new.self ++ t) c.as_bytes.ensures.value)
-    (c.in_ok-reset.ensures.bytes ∙ ap (λ s. c.extend_from_slice.new.self ++ reset_bytes s) c.style_of_length-style.ensures)
+    (c.in_ok-reset_style.ensures.bytes ∙ ap (λ s. c.extend_from_slice.new.self ++ reset_bytes s) c.style_of_length-style.ensures)
     (omega (arith, line.width, c.saturating_add.ensures, c.saturating_add-self.ensures, opened.width))
     (line.limit ∙ opened.limit) (line.room ∙ c.fit_indented-spaces.ensures.room)

@@ -8,10 +8,10 @@ use Rattle.prodash_line.proofs.render.line.draw.line_writer.LineWriter.push_repe
 pub returns : goal.returns
 returns c =
     let text = replicate c.args.count c.args.character in
-    let counted = c.count-count.ensures in
+    let counted = c.count_printable-count.ensures in
     let style = c.style_of_length-style.ensures ∙ ap (style_of_length c.args.style) c.from.ensures in
-    appends_counted c.args.style text c.args.count c.count-count.result (printable-repeated c.args.count c.args.character c.requires.low c.requires.high) (length-replicate c.args.count c.args.character) counted
-    (c.in_ok-open.ensures.bytes ∙ ap (λ s. c.count-count.new.self.bytes ++ open_bytes s) style) c.in_ok-open.ensures.line
-    (c.in_ok-push_copies.ensures ∙ ap (λ t. c.open.new.self.bytes ++ t) (sym (take_copies c.count-count.result c.args.count c.args.character counted.within)))
+    appends_counted c.args.style text c.args.count c.count_printable-count.result (printable-repeated c.args.count c.args.character c.requires.low c.requires.high) (length-replicate c.args.count c.args.character) counted
+    (c.in_ok-open_style.ensures.bytes ∙ ap (λ s. c.count_printable-count.new.self.bytes ++ open_bytes s) style) c.in_ok-open_style.ensures.line
+    (c.in_ok-push_copies.ensures ∙ ap (λ t. c.open_style.new.self.bytes ++ t) (sym (take_copies c.count_printable-count.result c.args.count c.args.character counted.within)))
     (record { width = refl; limit = refl; room = refl })
-    (c.in_ok-reset.ensures.bytes ∙ ap (λ s. c.push_copies.new.self ++ reset_bytes s) style) c.in_ok-reset.ensures.line
+    (c.in_ok-reset_style.ensures.bytes ∙ ap (λ s. c.push_copies.new.self ++ reset_bytes s) style) c.in_ok-reset_style.ensures.line

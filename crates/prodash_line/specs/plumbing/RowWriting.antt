@@ -1,0 +1,138 @@
+-- The values of a row after the head of its line, with spaces that bring their end to a midpoint, and its bar.
+use Rattle.std.specs.Prelude.{◌≡◌, ℕ, List, [], Bool, false, ◌+◌, ◌-◌, ◌∷◌, ◌++◌, Option, Some, None, codes, replicate, length, drop}
+use Rattle.prodash_base.specs.Rows.{RowProgress, progress_of, row_of}
+use Rattle.prodash_base.specs.Units.{measure_of}
+use Rattle.prodash_base.specs.declared.progress.Value.{Value}
+use Rattle.prodash_base.specs.declared.unit.display.Throughput.{Throughput}
+use Rattle.prodash_base.specs.declared.unit.units.Unit.{Unit}
+use Rattle.prodash_line.specs.declared.render.line.draw.input.Options.{Options}
+use Rattle.prodash_line.specs.declared.render.line.draw.plain_progress.PlainText.{PlainText}
+use Rattle.prodash_line.specs.declared.render.line.draw.plain_progress.PlainProgress.{PlainProgress}
+use Rattle.prodash_line.specs.declared.render.line.draw.row.DrawnProgress.{DrawnProgress}
+use Rattle.prodash_base.specs.declared.progress.Row.{Row}
+use Rattle.prodash_line.specs.declared.render.line.draw.line_writer.LineWriter.{LineWriter}
+use Rattle.prodash_line.specs.Lines.{Line, piece, spaces, capped, columns_of}
+use Rattle.prodash_line.specs.ProgressRows.{fraction_values, values_in, values_of, bar, fraction_of, bar_with, head_of, midpoint_of, row_line}
+use Rattle.prodash_line.specs.TextStyles.{row_style}
+use Rattle.prodash_line.specs.plumbing.Writing.{Appends, AppendsIn, DrawsLine}
+use Rattle.std.specs.Fmt.{decimal}
+use Rattle.prodash_line.specs.DrawnLines.{layout_of}
+use Rattle.prodash_line.specs.plumbing.OverwriteBytes.{on_row}
+
+-- this text follows the digits of any step in its fraction of a bound
+abbrev pub FollowsStep : Option ℕ → List ℕ → Type 0
+FollowsStep bound text = (step : ℕ) → fraction_of step bound ≡ decimal step ++ text
+
+-- the column at which a space and values end after this many columns
+abbrev pub end_of_values : ℕ → Line → ℕ
+end_of_values width values = capped (width + columns_of (spaces 1 ∷ values))
+
+-- a space, the spaces that bring that end to a midpoint, and the values
+abbrev pub padded_values : ℕ → ℕ → Line → Line
+padded_values midpoint width values =
+    spaces 1 ∷ spaces (midpoint - end_of_values width values) ∷ values
+
+-- these values follow the head of a line, padded so that they end at a midpoint
+abbrev pub Pads : Bool → ℕ → LineWriter → Line → LineWriter → Type 0
+Pads colored midpoint old values new = AppendsIn colored old (padded_values midpoint old.width values) new
+
+-- such values, which end at a column without padding, and a bar on the columns that are left in a row of this width
+pub record AppendsProgress (colored : Bool) (width midpoint : ℕ) (values : Line) (p : RowProgress) (own : ℕ) (old new : LineWriter) : Type 0 where
+  pub ends : own ≡ end_of_values old.width values
+  pub between : LineWriter
+  pub padded : Pads colored midpoint old values between
+  pub bar : AppendsIn colored between (bar (row_style p) (width - between.width) p.counter p.bound) new
+
+-- the values of a progress
+abbrev pub drawn_values : DrawnProgress → Line
+drawn_values d = values_of d.options.now.defensive (progress_of d.value.now) d.throughput
+
+-- its values in this unit
+abbrev pub unit_values : DrawnProgress → Unit → Line
+unit_values d unit = values_in d.options.now.defensive (measure_of unit) (progress_of d.value.now) d.throughput
+
+-- these values of a progress follow the head of a line, padded so that they end at the midpoint
+abbrev pub PadsValues : DrawnProgress → Line → LineWriter → LineWriter → Type 0
+PadsValues d values old new = Pads d.options.now.colored d.midpoint old values new
+
+-- its values and its bar follow; without padding they end at this column
+abbrev pub DrawsProgress : DrawnProgress → ℕ → LineWriter → LineWriter → Type 0
+DrawsProgress d own old new =
+    AppendsProgress d.options.now.colored d.options.now.terminal_dimensions.0 d.midpoint (drawn_values d) (progress_of d.value.now) own old new
+
+-- the same without styles, of a progress without a unit
+abbrev pub DrawsFraction : DrawnProgress → ℕ → LineWriter → LineWriter → Type 0
+DrawsFraction d own old new =
+    let values = fraction_values d.value.now.step d.value.now.done_at in
+    AppendsProgress false d.options.now.terminal_dimensions.0 d.midpoint values (progress_of d.value.now) own old new
+
+-- the same without styles, of a progress in a unit whose texts have no control characters
+abbrev pub DrawsInUnit : DrawnProgress → Unit → ℕ → LineWriter → LineWriter → Type 0
+DrawsInUnit d unit own old new =
+    (defensive : Bool) →
+    let p = progress_of d.value.now in
+    AppendsProgress false d.options.now.terminal_dimensions.0 d.midpoint (values_in defensive (measure_of unit) p d.throughput) p own old new
+
+-- a row on a terminal of the width that the options say, and a midpoint, with the throughput that is shown in it
+abbrev pub DrawsRow : Options → ℕ → Row → Option Throughput → LineWriter → LineWriter → Type 0
+DrawsRow options midpoint row throughput old new =
+    let line = row_line options.defensive options.terminal_dimensions.0 midpoint (row_of row, throughput) in
+    DrawsLine options (on_row (layout_of options) old) line new
+
+-- the column at which the values of a row end without padding; 0 if it has no progress
+abbrev pub own_midpoint : Options → Row → Option Throughput → ℕ
+own_midpoint options row throughput = midpoint_of options.defensive (row_of row, throughput)
+
+-- the name of a row follows the spaces before it
+abbrev pub AppendsName : Options → Row → LineWriter → LineWriter → Type 0
+AppendsName options row old new = AppendsIn options.colored old (drop 1 (head_of options.defensive (row_of row))) new
+
+-- the bar of a progress follows on these columns
+abbrev pub AppendsBar : Bool → ℕ → Value → LineWriter → LineWriter → Type 0
+AppendsBar colored columns value old new =
+    let p = progress_of value in
+    AppendsIn colored old (bar (row_style p) columns p.counter p.bound) new
+
+-- a bar of n cells follows, of which these are filled, in the style of a row with this progress
+abbrev pub AppendsCells : Bool → Value → ℕ → ℕ → LineWriter → LineWriter → Type 0
+AppendsCells colored value cells filled old new = AppendsIn colored old (bar_with (row_style (progress_of value)) cells filled) new
+
+-- the same without styles, of a text of printable characters
+pub record AppendsText (width midpoint : ℕ) (text : List ℕ) (p : RowProgress) (own : ℕ) (old new : LineWriter) : Type 0 where
+  pub ends : own ≡ end_of_values old.width (piece text ∷ [])
+  pub between : LineWriter
+  pub padded : Appends old (piece (replicate (1 + (midpoint - own)) 32 ++ text) ∷ []) between
+  pub bar : AppendsIn false between (bar (row_style p) (width - between.width) p.counter p.bound) new
+
+-- the characters of a text in three parts
+abbrev pub whole_text : PlainText → List ℕ
+whole_text text = text.first.now ++ (text.second.now ++ text.third.now)
+
+-- how many characters it has
+abbrev pub text_length : PlainText → ℕ
+text_length text = length text.first.now + length text.second.now + length text.third.now
+
+-- the same without styles, of such a text
+abbrev pub DrawsText : DrawnProgress → PlainText → ℕ → LineWriter → LineWriter → Type 0
+DrawsText d text own old new = AppendsText d.options.now.terminal_dimensions.0 d.midpoint (whole_text text) (progress_of d.value.now) own old new
+
+-- this with the column at which values end, or nothing at all
+abbrev pub OrNothing : LineWriter → LineWriter → (ℕ → LineWriter → LineWriter → Type 0) → Option ℕ → Type 0
+OrNothing old new draws None = new ≡ old
+OrNothing old new draws (Some own) = draws own old new
+
+-- a bar of n cells without styles, of which these are filled
+abbrev pub plain_bar : ℕ → ℕ → List ℕ
+plain_bar cells filled = codes " [" ++ (replicate filled 61 ++ (codes ">" ++ (replicate (cells - filled) 45 ++ codes "]")))
+
+-- a space, padding, a text and such a bar
+abbrev pub plain_progress : ℕ → List ℕ → ℕ → ℕ → List ℕ
+plain_progress padding text cells filled = (replicate (1 + padding) 32 ++ text) ++ plain_bar cells filled
+
+-- how many characters a progress without styles has
+abbrev pub length_of : PlainProgress → ℕ
+length_of p = 1 + p.padding + text_length p.text + p.cells + 4
+
+-- the bytes of a progress without styles
+abbrev pub progress_bytes : PlainProgress → List ℕ
+progress_bytes p = plain_progress p.padding (whole_text p.text) p.cells p.filled
