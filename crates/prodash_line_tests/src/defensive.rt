@@ -87,7 +87,7 @@ const HIDING: &[Drawing] = &[
     Drawing((40, 20), &[(Quit, Ok("\x1b[?25l\r\x1b[J\x1b[?25h"))]),
 ];
 
-/// Frames on an output that is no terminal.
+/// Frames on an output that isn't a terminal.
 #[rattlefmt::skip]
 const PLAIN: &[Drawing] = &[
     Drawing((40, 20), &[
@@ -140,7 +140,7 @@ const KEPT: &[Drawing] = &[
 ];
 
 /// Inputs, and how many bytes the frame of each has, defensive and not: fewer where lines shrink,
-/// and otherwise at most four more, and four for each line.
+/// and otherwise at most four more for the frame and four for each line.
 #[rattlefmt::skip]
 const SIZES: &[(Ask, (usize, usize))] = &[
     (Show(&[("a long name", None), ("another long name", None)]), (48, 36)),

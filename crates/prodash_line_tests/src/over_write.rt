@@ -17,7 +17,7 @@ enum Outcome {
     Fails(ErrorKind),
 }
 
-/// A writer that does with its writes what a list says, the last of the list again and again.
+/// A writer whose writes do what a list says; after its end they do what its last entry says.
 #[derive(Drop)]
 struct FakeWriter {
     bytes: Vec<u8>,
@@ -137,8 +137,8 @@ fn assert_stays_broken(rt: &impl Abort, screen: &mut OverWrite<FakeWriter>) {
     assert_flush(rt, screen, UNFLUSHED);
 }
 
-/// Puts until one is refused or the list ends, then flushes. The screen calls its writer no more
-/// once it is broken.
+/// Puts until one is refused or the list ends, then flushes. Once the screen is broken, it no
+/// longer calls its writer.
 fn assert_row(rt: &impl Abort, alloc: Global, row: &Row) {
     let Row(outcomes, flushes, puts, flushed, bytes, calls) = *row;
     let mut screen = OverWrite::new(FakeWriter::new(alloc, outcomes, flushes));

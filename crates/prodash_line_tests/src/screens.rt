@@ -33,7 +33,7 @@ const BREAKS: &[(Ask, usize, bool, &str)] = &[
     (Quit, 2, true, "\x1b["),
 ];
 
-/// A new renderer breaks the screen, which has taken these bytes then, and takes no more.
+/// A new renderer breaks the screen, which by then has taken these bytes, and takes no more.
 fn assert_ends(rt: &impl Abort, alloc: Global, screen: &mut FakeScreen, first: Ask, want: &str) {
     let mut state = renderer(alloc, (40, 24));
     for ask in [first, SHOW_TASK, Ask::Hide(&[]), Quit] {

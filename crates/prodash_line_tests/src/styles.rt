@@ -124,7 +124,7 @@ fn the_plain_style_is_no_sign(rt: HostRuntime) {
 }
 
 /// The style, made code by code.
-fn made(spelled: &Spelled) -> Style {
+fn built_style(spelled: &Spelled) -> Style {
     let (bold, dim, color, on_yellow, _) = *spelled;
     let mut style = Style::new();
     if bold {
@@ -147,7 +147,7 @@ fn styles_are_made_code_by_code(rt: HostRuntime) {
     assert_same(&rt, Style::new().is_plain(), true, "plain");
     assert_same(&rt, Style::new(), Style::default(), "default");
     for spelled in STYLES {
-        let style = made(spelled);
+        let style = built_style(spelled);
         assert_same(&rt, style, style_of(spelled), spelled.4);
         assert_same(&rt, style.is_plain(), false, spelled.4);
     }
