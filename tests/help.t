@@ -9,3 +9,9 @@ Each script of bin/ and of dev/, and examples/run, prints its help on request an
   > done
   $ example --help | head -n 1
   examples/run NAME [WORD ..]
+
+The programs have the version of the file VERSION.
+
+  $ said="$(cat "$top/VERSION") (port of prodash 31.0.1)"
+  $ [ "$(prodash-live --version)" = "prodash-live $said" ]
+  $ [ "$(prodash-replay --version)" = "prodash-replay $said" ]

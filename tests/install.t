@@ -19,7 +19,7 @@ Python on the path.
    task 3/10 [=======>-------------------]
   
   $ alone moved/bin/prodash-live --version | sed -E 's/[0-9a-f]{40}.*/../'
-  prodash-live 31.0.1
+  prodash-live 0.1.0 (port of prodash 31.0.1)
   built from commit ..
 
 A program is replaced while it is running.

@@ -34,11 +34,11 @@ Faulty lines are messages too. These are so long that few of them fit in the pip
   $ nothings() { yes "$(printf 'nothing %0200d' 0)" | head -n 20000 && touch taken; }
   $ nothings | timeout 38 prodash-live --stdout --fps 1 | late >output
   $ shown=$(printf 'nothing %052d' 0)
-  $ seq 20000 | sed "s/.*/ ✗ input line &: no event \"nothing\" in: $shown/" | cmp output -
+  $ seq 20000 | sed "s/.*/ ✗ input line &: unknown command \"nothing\", in: $shown/" | cmp output -
 
 Nothing waits for a frame that won't come, because the output is broken or the root was dropped.
 
   $ burst | timeout 30 prodash-live --stdout --fps 1 >/dev/full
-  output is broken
+  cannot write to standard output: No space left on device (os error 28)
   [1]
   $ burst | sed '1adroproot' | timeout 30 prodash-live --stdout --fps 1

@@ -40,8 +40,8 @@ The root can be dropped once, and then takes no more children.
   $ printf 'add 0 a\ndroproot\ndroproot\n' | prodash-live
   [2]
   $ printf 'droproot\nadd 0 a\n' | prodash-live --strict
-  line 2: no such handle in: add 0 a
+  line 2: the root was already dropped, in: add 0 a
   [2]
   $ printf 'droproot\ndroproot\n' | prodash-live --strict
-  line 2: no such handle in: droproot
+  line 2: the root was already dropped, in: droproot
   [2]

@@ -25,15 +25,15 @@ the rest is read; the status is 2 then. The script comes in pieces of five bytes
   > END
   $ { cat script; printf 'info 3 0 si'; } | dd bs=5 2>/dev/null | prodash-live >other
    beta one
-   \xe2\x9c\x97 input line 6: no event "bad" in: bad (esc)
+   \xe2\x9c\x97 input line 6: unknown command "bad", in: bad (esc)
    \xe2\x9c\x93 alpha two (esc)
-   \xe2\x9c\x97 input line 8: frames are drawn without "tick" in: tick 0 (esc)
-   \xe2\x9c\x97 input line 9: no such handle in: set @c 1 (esc)
+   \xe2\x9c\x97 input line 8: "tick" isn't allowed here: prodash-live draws the frames, in: tick 0 (esc)
+   \xe2\x9c\x97 input line 9: no item @c, in: set @c 1 (esc)
    \xe2\x9c\x97 delta three (esc)
-   \xe2\x9c\x97 input line 12: no such handle in: drop 2 (esc)
-   \xe2\x9c\x97 input line 14: no such handle in: info @b - four (esc)
+   \xe2\x9c\x97 input line 12: no item 2, in: drop 2 (esc)
+   \xe2\x9c\x97 input line 14: no item @b, in: info @b - four (esc)
    \xe2\x9c\x93 alpha five (esc)
-   \xe2\x9c\x97 input line 17: cut off in: info 3 0 si (esc)
+   \xe2\x9c\x97 input line 17: the line is cut off: it has no line feed, in: info 3 0 si (esc)
   [2]
   $ cat other
 
@@ -41,13 +41,13 @@ The same on standard output, without the line that is cut off.
 
   $ prodash-live --stdout <script 2>other
    beta one
-   \xe2\x9c\x97 input line 6: no event "bad" in: bad (esc)
+   \xe2\x9c\x97 input line 6: unknown command "bad", in: bad (esc)
    \xe2\x9c\x93 alpha two (esc)
-   \xe2\x9c\x97 input line 8: frames are drawn without "tick" in: tick 0 (esc)
-   \xe2\x9c\x97 input line 9: no such handle in: set @c 1 (esc)
+   \xe2\x9c\x97 input line 8: "tick" isn't allowed here: prodash-live draws the frames, in: tick 0 (esc)
+   \xe2\x9c\x97 input line 9: no item @c, in: set @c 1 (esc)
    \xe2\x9c\x97 delta three (esc)
-   \xe2\x9c\x97 input line 12: no such handle in: drop 2 (esc)
-   \xe2\x9c\x97 input line 14: no such handle in: info @b - four (esc)
+   \xe2\x9c\x97 input line 12: no item 2, in: drop 2 (esc)
+   \xe2\x9c\x97 input line 14: no item @b, in: info @b - four (esc)
    \xe2\x9c\x93 alpha five (esc)
   [2]
   $ cat other

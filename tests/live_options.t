@@ -17,7 +17,7 @@ An option's value is the next word, or follows `=`. If an option is repeated, th
 The version, the help, and what is refused.
 
   $ prodash-live --version
-  prodash-live 31.0.1
+  prodash-live 0.1.0 (port of prodash 31.0.1)
   $ prodash-live --help
   Shows progress on a terminal from the event lines of standard input
   
@@ -38,6 +38,8 @@ The version, the help, and what is refused.
         --record <FILE>         record the run, for prodash-replay
     -h, --help                  print help
     -V, --version               print version
+  $ prodash-live --rows 0 --strict=yes script --help | head -n 1
+  Shows progress on a terminal from the event lines of standard input
   $ prodash-live --rows 0
   error: invalid value '0' for '--rows', which takes a number from 1 to 65535
   
@@ -69,17 +71,17 @@ The version, the help, and what is refused.
   For more information, try '--help'.
   [2]
   $ prodash-live --record --strict
-  error: no value for '--record'
+  error: no value for '--record', which takes the path of a file
   
   For more information, try '--help'.
   [2]
   $ prodash-live --strict --fps
-  error: no value for '--fps'
+  error: no value for '--fps', which takes a number from 1 to 1000
   
   For more information, try '--help'.
   [2]
   $ prodash-live --strict=yes
-  error: unexpected argument '--strict=yes'
+  error: unexpected value 'yes' for '--strict', which takes none
   
   For more information, try '--help'.
   [2]
@@ -89,10 +91,10 @@ The version, the help, and what is refused.
   For more information, try '--help'.
   [2]
   $ prodash-live script
-  error: unexpected argument 'script'
+  error: unexpected argument 'script': the lines are read from standard input
   
   For more information, try '--help'.
   [2]
   $ prodash-live "$(printf '\377')"
-  arguments are not UTF-8
+  an argument is not UTF-8
   [2]

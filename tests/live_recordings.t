@@ -38,7 +38,7 @@ recording without its ticks and the moments of the run.
   info 2 0 one
   add 0 input
   name 3 \xe2\x9c\x97 input (esc)
-  fail 3 NOW line 7: no event "bad" in: bad
+  fail 3 NOW line 7: unknown command "bad", in: bad
   name 3 input
   drop 3
   add 0 delta
@@ -58,7 +58,7 @@ recording without its ticks and the moments of the run.
   name 1 alpha
   add 0 input
   name 5 \xe2\x9c\x97 input (esc)
-  fail 5 NOW line 18: no such handle in: set 2 1
+  fail 5 NOW line 18: no item 2, in: set 2 1
   name 5 input
   drop 5
   resize NOW 60 10
@@ -69,10 +69,10 @@ A replay has the messages of the run, and its closing frame erases the rows.
 
   $ cat said
    beta one
-   \xe2\x9c\x97 input line 7: no event "bad" in: bad (esc)
+   \xe2\x9c\x97 input line 7: unknown command "bad", in: bad (esc)
    \xe2\x9c\x97 epsilon three (esc)
      \xe2\x9c\x93 alpha two (esc)
-     \xe2\x9c\x97 input line 18: no such handle in: set 2 1 (esc)
+     \xe2\x9c\x97 input line 18: no item 2, in: set 2 1 (esc)
   $ prodash-replay page 80 20 --any-unit --defensive <recording | sed '/^$/d' | cmp said -
   $ prodash-replay page 80 20 --any-unit <recording | sed '/^$/d' | cmp said -
 
@@ -84,10 +84,10 @@ With colours there are no signs, neither in the run nor in the replay.
   1
   $ prodash-replay page 80 20 --any-unit <recording | sed '/^$/d'
    beta one
-   input line 7: no event "bad" in: bad
+   input line 7: unknown command "bad", in: bad
    epsilon three
      alpha two
-     input line 18: no such handle in: set 2 1
+     input line 18: no item 2, in: set 2 1
 
 Rows
 ====
@@ -194,10 +194,10 @@ The relay doesn't change that.
 A file that can't be created, and one that can't be written. No message is lost.
 
   $ prodash-live --record no/recording <script
-  recording is broken
+  cannot write no/recording: No such file or directory (os error 2)
   [1]
   $ prodash-live --record /dev/full <many 2>written
   [1]
   $ grep -v '^ a' written
-  recording is broken
+  cannot write /dev/full: No space left on device (os error 28)
   $ sed '$d' written | cmp said -

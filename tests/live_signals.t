@@ -37,7 +37,7 @@ The status is the program's, which reports a line that is cut off. Once the prog
 relay doesn't wait for the script.
 
   $ printf 'add @a 0 alpha\ninfo @a 0 one' | relay prodash-live --stdout
-   \xe2\x9c\x97 input line 2: cut off in: info @a 0 one (esc)
+   \xe2\x9c\x97 input line 2: the line is cut off: it has no line feed, in: info @a 0 one (esc)
   [2]
   $ relay prodash-live --nothing <lines 2>fault &
   $ exec 3>lines

@@ -18,12 +18,12 @@ CR LF.
 Lines that set no size.
 
   $ printf 'size\nsize 40\nsize 40 4 5\nsize 0 4\nsize 40 65536\nsize  40 4\n' | prodash-live --stdout
-   \xe2\x9c\x97 input line 1: no size in: size (esc)
-   \xe2\x9c\x97 input line 2: no size in: size 40 (esc)
-   \xe2\x9c\x97 input line 3: no size "4 5" in: size 40 4 5 (esc)
-   \xe2\x9c\x97 input line 4: no size "0" in: size 0 4 (esc)
-   \xe2\x9c\x97 input line 5: no size "65536" in: size 40 65536 (esc)
-   \xe2\x9c\x97 input line 6: no size "" in: size  40 4 (esc)
+   \xe2\x9c\x97 input line 1: the number of columns is missing (1 to 65535), in: size (esc)
+   \xe2\x9c\x97 input line 2: the number of rows is missing (1 to 65535), in: size 40 (esc)
+   \xe2\x9c\x97 input line 3: "4 5" is no number of rows (1 to 65535), in: size 40 4 5 (esc)
+   \xe2\x9c\x97 input line 4: "0" is no number of columns (1 to 65535), in: size 0 4 (esc)
+   \xe2\x9c\x97 input line 5: "65536" is no number of rows (1 to 65535), in: size 40 65536 (esc)
+   \xe2\x9c\x97 input line 6: "" is no number of columns (1 to 65535), in: size  40 4 (esc)
   [2]
 
 `resize` changes the size of a terminal. `relay` passes the new size on, unless the environment sets

@@ -150,3 +150,27 @@ An output that can't be written.
   $ prodash-replay bytes 40 20 <one_task >/dev/full
   output is broken
   [1]
+
+`--help` anywhere among the words prints the help, and `--version` the version.
+
+  $ prodash-replay bytes 0 --wrong --help
+  Replays event lines from standard input, and writes the frames that they draw
+  
+  Usage: prodash-replay bytes|page COLUMNS ROWS [OPTIONS]
+  
+  Arguments:
+    bytes          write the bytes of all frames
+    page           write the rows that the frames leave on a page
+    COLUMNS        columns of the terminal, 1 to 65535
+    ROWS           rows of the terminal, 1 to 65535
+  
+  Options:
+    --defensive    erase the rows that frames write on, as prodash-live does
+    --colored      write colours
+    --any-unit     take units of any name, as recordings of prodash-live have
+    --help         print help
+    --version      print version
+  $ prodash-replay --help | head -n 1
+  Replays event lines from standard input, and writes the frames that they draw
+  $ prodash-replay page --version
+  prodash-replay 0.1.0 (port of prodash 31.0.1)

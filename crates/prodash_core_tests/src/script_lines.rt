@@ -1,9 +1,7 @@
 //! Lines of events: a table has a line, `->`, and what it is read as.
 use crate::fixtures::{assert_same, assert_shown, cells};
 use crate::transcripts::event_of;
-use prodash_script::{
-    LIMIT, Labels, Lines, Names, Next, Request, mistake_in, parse, request_of, to_line,
-};
+use prodash_script::{LIMIT, Labels, Lines, Names, Next, parse, parse_command, to_line};
 use std::alloc::Global;
 use std::io::{self, Error, ErrorKind, Read};
 use std::process::Abort;
@@ -53,13 +51,11 @@ fn assert_event(rt: &impl Abort, alloc: Global, line: &str, want: &str) {
     assert_shown(rt, alloc, &event, want)
 }
 
-/// Lines that ask for nothing are those that have a mistake.
 #[test]
 fn reads_events(rt: HostRuntime) {
     for row in EVENTS.lines() {
         let (line, want) = cells(&rt, row);
         assert_event(&rt, rt.alloc(), line, want);
-        assert_mistake(&rt, rt.alloc(), line);
     }
     assert_event(&rt, rt.alloc(), "droproot\r", "None");
 }
@@ -114,53 +110,61 @@ fn writes_the_lines_that_it_reads(rt: HostRuntime) {
     }
 }
 
-/// What a line of a script asks for if `a` names the handle 7 and it is 5.
-fn asked(rt: &impl Abort, alloc: Global, line: &[u8]) -> Request {
+/// Asserts what a line of a script asks for if `a` names the handle 7 and it is 5.
+fn assert_command(rt: &impl Abort, alloc: Global, line: &[u8], want: &str) {
     let mut names = Names::new(alloc);
     let name = String::from_str(alloc, "a").expect(rt, "memory");
     let before: Result<_, _> = names.insert(name, 7);
     before.expect(rt, "memory");
-    request_of(alloc, &names, &mut Labels::new(alloc), 5, line).expect(rt, "memory")
+    let mut labels = Labels::new(alloc);
+    let command = parse_command(alloc, &names, &mut labels, 5, line).expect(rt, "memory");
+    assert_shown(rt, alloc, &command, want)
 }
 
-fn assert_request(rt: &impl Abort, alloc: Global, line: &[u8], want: &str) {
-    let request = asked(rt, alloc, line);
-    assert_shown(rt, alloc, &request, want)
-}
-
-/// Asserts that a line has a mistake exactly if it asks for nothing.
-fn assert_mistake(rt: &impl Abort, alloc: Global, line: &str) {
-    let asks = !matches!(asked(rt, alloc, line.as_bytes()), Request::Fault);
-    assert_same(rt, mistake_in(line).is_none(), asks, line);
-}
-
-const REQUESTS: &str = r#"set @a 3 -> Apply(Set { item: 7, step: 3 })
-set 1 3 -> Apply(Set { item: 1, step: 3 })
-drop @b -> Apply(Drop { item: 18446744073709551615 })
-info @a - x -> Apply(Message { item: 7, at: 5, level: Info, text: "x" })
-add 0 @a -> Apply(AddChild { parent: 0, name: "@a", id: [0, 0, 0, 0] })
-add @b @a x y -> Name("b", AddChild { parent: 7, name: "x y", id: [0, 0, 0, 0] })
-init @a 10 -> Apply(Init { item: 7, max: Some(10), unit: None })
-init @a - -> Apply(Init { item: 7, max: None, unit: None })
-init @a 10 - -> Apply(Init { item: 7, max: Some(10), unit: None })
- -> Fault
-set @ 3 -> Fault
-add @b -> Fault
-add @b x -> Fault
-add @ 0 x -> Fault
-tick 0 -> Fault
-quit - -> Fault
+const COMMANDS: &str = r#" -> Comment
+# set -> Comment
+size 40 4 -> Size { columns: 40, rows: 4 }
+set @a 3 -> Change(7, Set(3))
+set 1 3 -> Change(1, Set(3))
+inc @a 3 -> Change(7, IncBy(3))
+max @a - -> Change(7, SetMax(None))
+name @a b -> Change(7, SetName("b"))
+blocked @a -> Change(7, Blocked)
+halted @a -> Change(7, Halted)
+running @a -> Change(7, Running)
+info @a - x -> Change(7, Message { at: 5, level: Info, text: "x" })
+done 1 7 x -> Change(1, Message { at: 7, level: Success, text: "x" })
+init @a 10 -> Change(7, Init { max: Some(10), unit: None })
+init @a - -> Change(7, Init { max: None, unit: None })
+init @a 10 - -> Change(7, Init { max: Some(10), unit: None })
+add 0 @a -> Add { word: None, parent: 0, name: "@a" }
+add @b @a x y -> Add { word: Some("b"), parent: 7, name: "x y" }
+drop @a -> Drop(7)
+droproot -> DropRoot
+seta 1 3 -> Fault(UnknownCommand("seta"))
+tick 0 -> Fault(DrawsFrame("tick"))
+quit - -> Fault(DrawsFrame("quit"))
+drop @b -> Fault(UnknownItem("@b"))
+set @b x -> Fault(UnknownItem("@b"))
+set @ 3 -> Fault(Invalid(Item, "@"))
+set 1 +3 -> Fault(Invalid(Number, "+3"))
+inc 1 - -> Fault(Invalid(Number, "-"))
+size 40 0 -> Fault(Invalid(Rows, "0"))
+size +40 4 -> Fault(Invalid(Columns, "+40"))
+add @b -> Fault(Missing(Item))
+add @b x -> Fault(Invalid(Item, "x"))
+add @ 0 x -> Fault(Invalid(Word, ""))
+add 0 -> Fault(Missing(Name))
+droproot  -> Fault(Extra(""))
 "#;
 
 #[test]
-fn reads_requests(rt: HostRuntime) {
-    for row in REQUESTS.lines() {
+fn reads_commands(rt: HostRuntime) {
+    for row in COMMANDS.lines() {
         let (line, want) = cells(&rt, row);
-        assert_request(&rt, rt.alloc(), line.as_bytes(), want);
-        assert_mistake(&rt, rt.alloc(), line);
+        assert_command(&rt, rt.alloc(), line.as_bytes(), want);
     }
-    // not UTF-8
-    assert_request(&rt, rt.alloc(), b"set @a \xff", "Fault");
+    assert_command(&rt, rt.alloc(), b"set @a \xff", "Fault(NotUtf8)");
 }
 
 /// Asserts that a stream gives these in turn: of a line its text.

@@ -10,7 +10,7 @@ pub enum Command<'a> {
     Run(Options<'a>),
     /// To print `HELP`.
     Help,
-    /// To print `VERSION`.
+    /// To print the version.
     Version,
 }
 
@@ -19,8 +19,15 @@ pub enum Command<'a> {
 pub enum UsageError<'a> {
     /// This argument is no option.
     Unexpected(&'a str),
-    /// This option has no value.
+    /// This option lacks its value.
     NoValue(&'a str),
+    /// An option has a value, and takes none.
+    UnexpectedValue {
+        /// The option.
+        option: &'a str,
+        /// Its value.
+        value: &'a str,
+    },
     /// An option has a value that it doesn't take.
     BadValue {
         /// The option.
@@ -29,9 +36,6 @@ pub enum UsageError<'a> {
         value: &'a str,
     },
 }
-
-/// The version of the program.
-pub static VERSION: &str = "prodash-live 31.0.1\n";
 
 /// The help of the program.
 pub static HELP: &str = "Shows progress on a terminal from the event lines of standard input
@@ -56,8 +60,15 @@ Options:
 ";
 
 /// Parses a command line, whose first word is the program's name. An option's value is the next
-/// word, or follows `=`. If an option is given twice, the last value counts.
+/// word, or follows `=`. If an option is given twice, the last value counts. `--help` anywhere among
+/// the words asks for the help, and else `--version` for the version.
 pub fn parse<'a>(words: &'a [String], env: Environment) -> Result<Command<'a>, UsageError<'a>> {
+    if has_word(words, "--help") {
+        return Ok(Command::Help);
+    }
+    if has_word(words, "--version") {
+        return Ok(Command::Version);
+    }
     let mut options = Options::of_environment(env);
     let mut awaits_value = None;
     for word in words.iter().skip(1) {
@@ -72,13 +83,12 @@ pub fn parse<'a>(words: &'a [String], env: Environment) -> Result<Command<'a>, U
         match (word, word.split_once('=')) {
             (_, Some((option, value))) if takes_value(option) => set(&mut options, option, value)?,
             (option, None) if takes_value(option) => awaits_value = Some(option),
-            ("--no-color", None) => options.is_colored = false,
-            ("--timestamps", None) => options.has_timestamps = true,
-            ("--throughput", None) => {}
-            ("--stdout", None) => options.to_stdout = true,
-            ("--strict", None) => options.is_strict = true,
-            ("--help" | "-h", None) => return Ok(Command::Help),
-            ("--version" | "-V", None) => return Ok(Command::Version),
+            ("-h", None) => return Ok(Command::Help),
+            ("-V", None) => return Ok(Command::Version),
+            (flag, None) if set_flag(&mut options, flag) => {}
+            (_, Some((option, value))) if set_flag(&mut options, option) => {
+                return Err(UsageError::UnexpectedValue { option, value });
+            }
             _ => return Err(UsageError::Unexpected(word)),
         }
     }
@@ -86,6 +96,24 @@ pub fn parse<'a>(words: &'a [String], env: Environment) -> Result<Command<'a>, U
         Some(option) => Err(UsageError::NoValue(option)),
         None => Ok(Command::Run(options)),
     }
+}
+
+/// Returns whether a word is among the words after the program's name.
+fn has_word(words: &[String], word: &str) -> bool {
+    words.iter().skip(1).any(|it| it.as_str() == word)
+}
+
+/// Sets an option without a value. Returns whether this is one.
+fn set_flag(options: &mut Options<'_>, flag: &str) -> bool {
+    match flag {
+        "--no-color" => options.is_colored = false,
+        "--timestamps" => options.has_timestamps = true,
+        "--throughput" => {}
+        "--stdout" => options.to_stdout = true,
+        "--strict" => options.is_strict = true,
+        _ => return false,
+    }
+    true
 }
 
 /// Returns whether this is an option with a value.
@@ -141,6 +169,7 @@ fn values_of(option: &str) -> &'static str {
         "--fps" => "a number from 1 to 1000",
         "--delay" => "a number from 0 to 86400000",
         "--terminal" => "auto, always or never",
+        "--record" => "the path of a file",
         _ => "a number from 1 to 65535",
     }
 }
@@ -148,8 +177,25 @@ fn values_of(option: &str) -> &'static str {
 impl fmt::Display for UsageError<'_> {
     fn fmt<W: Write>(&self, f: &mut fmt::Formatter<W>) -> fmt::Result {
         match self {
-            UsageError::Unexpected(word) => write!(f, "unexpected argument '{word}'"),
-            UsageError::NoValue(option) => write!(f, "no value for '{option}'"),
+            UsageError::Unexpected(word) if word.starts_with('-') => {
+                write!(f, "unexpected argument '{word}'")
+            }
+            UsageError::Unexpected(word) => {
+                write!(
+                    f,
+                    "unexpected argument '{word}': the lines are read from standard input"
+                )
+            }
+            UsageError::NoValue(option) => {
+                let values = values_of(option);
+                write!(f, "no value for '{option}', which takes {values}")
+            }
+            UsageError::UnexpectedValue { option, value } => {
+                write!(
+                    f,
+                    "unexpected value '{value}' for '{option}', which takes none"
+                )
+            }
             UsageError::BadValue { option, value } => {
                 let values = values_of(option);
                 write!(

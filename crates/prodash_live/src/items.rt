@@ -1,11 +1,12 @@
 //! The tree and its items, by handle.
-use crate::changes::{change, item_of};
-use crate::record::Record;
+use crate::line_fault::{LineFault, Unserved};
+use crate::recorded_item::RecordedItem;
+use crate::recording::Recording;
 use prodash::messages::MessageLevel;
 use prodash::time::Moment;
-use prodash::tree::{Event, Handle, Item, Root};
+use prodash::tree::{Event, Handle, Root};
 use prodash::{Refusal, Text};
-use prodash_script::{Names, Request, StepChange, step_change_of};
+use prodash_script::{Change, Names};
 use std::alloc::{AllocError, Global};
 use std::collections::HashMap;
 use std::io::Write;
@@ -14,45 +15,50 @@ use std::sync::Wait;
 /// The level of the items that have none below them. One below would take the place of another.
 const LAST_LEVEL: u8 = 6;
 
-/// An item, its handle in the recording, its level from 1 on, and its name in the script if it has
-/// one.
+/// An item of a script.
 #[derive(Drop)]
-struct Named<R: Wait + Clone + Drop> {
-    item: Item<R>,
-    recorded: Handle,
+struct Entry<R: Wait + Clone + Drop> {
+    item: RecordedItem<R>,
+    /// The level of the item, from 1 on.
     level: u8,
-    name: Option<String>,
+    /// The word by which the script names the item, if it names it.
+    word: Option<String>,
 }
 
 /// The tree, its items by handle, and the handles by name.
 #[derive(Drop)]
 pub struct Items<R: Wait + Clone + Drop, W: Write + Drop> {
     root: Option<Root<R>>,
-    items: HashMap<Handle, Named<R>>,
+    items: HashMap<Handle, Entry<R>>,
     names: Names,
-    made: u64,
+    made: Handle,
     /// Whether a sign says the severity of a message, as where there are no colours.
     has_signs: bool,
-    record: Record<W>,
+    recording: Recording<W>,
 }
 
 impl<R: Wait + Clone + Drop, W: Write + Drop> Items<R, W> {
     /// Returns a tree without items. `has_signs` says whether a sign before the origin of a message
     /// is to say its severity.
-    pub fn new(alloc: Global, root: Root<R>, has_signs: bool, record: Record<W>) -> Items<R, W> {
+    pub fn new(
+        alloc: Global,
+        root: Root<R>,
+        has_signs: bool,
+        recording: Recording<W>,
+    ) -> Items<R, W> {
         Items {
             root: Some(root),
             items: HashMap::new(alloc),
             names: Names::new(alloc),
             made: 0,
             has_signs,
-            record,
+            recording,
         }
     }
 
     /// Returns the recording.
-    pub fn record(&mut self) -> &mut Record<W> {
-        &mut self.record
+    pub fn recording(&mut self) -> &mut Recording<W> {
+        &mut self.recording
     }
 
     /// Returns the handle of each name.
@@ -65,167 +71,149 @@ impl<R: Wait + Clone + Drop, W: Write + Drop> Items<R, W> {
         self.root.is_some()
     }
 
-    /// Returns whether a request adds an item below the last level.
-    pub fn is_too_deep(&self, request: &Request) -> bool {
-        let parent = match request {
-            Request::Apply(Event::AddChild { parent, .. }) => parent,
-            Request::Name(_, Event::AddChild { parent, .. }) => parent,
-            _ => return false,
-        };
-        self.items
-            .get(parent)
-            .is_some_and(|named| named.level >= LAST_LEVEL)
-    }
-
-    /// Does what a line asks for, if it changes the step of an item. Returns whether it does.
-    ///
-    /// # Errors
-    ///
-    /// `AllocError`, if there is no memory for the recording.
-    pub fn serve_step(&mut self, line: &[u8]) -> Result<bool, AllocError> {
-        let Some((handle, change)) = step_change_of(&self.names, line) else {
-            return Ok(false);
-        };
-        let Some(named) = self.items.get(&handle) else {
-            return Ok(false);
-        };
-        match change {
-            StepChange::Set(step) => named.item.set(step),
-            StepChange::IncBy(step) => named.item.inc_by(step),
-        }
-        self.record.step(named.recorded, change)?;
-        Ok(true)
-    }
-
-    /// Does what a line asks for.
-    ///
-    /// # Errors
-    ///
-    /// `Gone`, if the handle that it names is not valid. `Memory`, if there is no memory for it.
-    pub fn serve(&mut self, alloc: Global, request: Request) -> Result<(), Refusal> {
-        match request {
-            Request::Apply(event) => self.apply(alloc, event),
-            Request::Name(word, event) => match event {
-                Event::AddChild { parent, name, .. } => {
-                    let handle = self.add(alloc, parent, name)?;
-                    self.set_name(alloc, word, handle)
-                }
-                _ => Ok(()),
-            },
-            Request::Fault => Ok(()),
-        }
-    }
-
-    /// Applies an event.
-    fn apply(&mut self, alloc: Global, event: Event) -> Result<(), Refusal> {
-        match event {
-            Event::AddChild { parent, name, .. } => {
-                self.add(alloc, parent, name)?;
-                Ok(())
-            }
-            Event::Drop { item } => self.remove(item),
-            Event::DropRoot => self.drop_root(),
-            event => self.change(alloc, event),
-        }
-    }
-
-    /// Drops the root.
-    fn drop_root(&mut self) -> Result<(), Refusal> {
-        if self.root.take().is_none() {
-            return Err(Refusal::Gone);
-        }
-        self.record.event(&Event::DropRoot)?;
-        Ok(())
-    }
-
-    /// Adds an item, and returns its handle.
-    fn add(&mut self, alloc: Global, parent: Handle, name: Text) -> Result<Handle, Refusal> {
-        let (item, level, parent) = if parent == 0 {
-            match &self.root {
-                Some(root) => (root.add_child(alloc, name.as_str())?, 1, 0),
-                None => return Err(Refusal::Gone),
-            }
+    /// Adds an item, which the script names by a word if it has one. An item that had this word is
+    /// dropped.
+    pub fn add(
+        &mut self,
+        alloc: Global,
+        word: Option<Text>,
+        parent: Handle,
+        name: Text,
+    ) -> Result<(), Unserved<'static>> {
+        let handle = if parent == 0 {
+            self.add_to_root(alloc, name)?
         } else {
-            match self.items.get_mut(&parent) {
-                Some(parent) => (
-                    parent.item.add_child(alloc, name.as_str())?,
-                    parent.level.saturating_add(1),
-                    parent.recorded,
-                ),
-                None => return Err(Refusal::Gone),
-            }
+            self.add_to_item(alloc, parent, name)?
         };
-        let recorded = self.record.add(parent, name)?;
+        match word {
+            Some(word) => self.set_word(alloc, word.into_string(), handle),
+            None => Ok(()),
+        }
+    }
+
+    /// Adds an item below the root, and returns its handle.
+    fn add_to_root(&mut self, alloc: Global, name: Text) -> Result<Handle, Unserved<'static>> {
+        let Some(root) = &self.root else {
+            return Err(Unserved::Fault(LineFault::NoRoot));
+        };
+        let item = root.add_child(alloc, name.as_str())?;
+        let handle = self.recording.append_item(0, name)?;
+        Ok(self.insert(RecordedItem { item, handle }, 1)?)
+    }
+
+    /// Adds an item below another one, and returns its handle.
+    fn add_to_item(
+        &mut self,
+        alloc: Global,
+        parent: Handle,
+        name: Text,
+    ) -> Result<Handle, Unserved<'static>> {
+        let Some(entry) = self.items.get_mut(&parent) else {
+            return Err(Unserved::Fault(LineFault::NoItem(parent)));
+        };
+        if entry.level >= LAST_LEVEL {
+            let named = match &entry.word {
+                Some(word) => format!(in alloc; "@{word}")?,
+                None => format!(in alloc; "{parent}")?,
+            };
+            return Err(Unserved::Fault(LineFault::TooDeep(named)));
+        }
+        let level = entry.level.saturating_add(1);
+        let item = entry.item.item.add_child(alloc, name.as_str())?;
+        let handle = self.recording.append_item(entry.item.handle, name)?;
+        Ok(self.insert(RecordedItem { item, handle }, level)?)
+    }
+
+    /// Keeps a new item of a level, and returns its handle.
+    fn insert(&mut self, item: RecordedItem<R>, level: u8) -> Result<Handle, AllocError> {
         let handle = self.made.saturating_add(1);
-        let named = Named {
-            item,
-            recorded,
-            level,
-            name: None,
-        };
-        self.items.insert(handle, named)?;
+        let word = None;
+        self.items.insert(handle, Entry { item, level, word })?;
         self.made = handle;
         Ok(handle)
     }
 
-    /// Names an item. The item that had the name is dropped.
-    fn set_name(&mut self, alloc: Global, name: String, handle: Handle) -> Result<(), Refusal> {
-        let copy = String::from_str(alloc, name.as_str())?;
+    /// Names an item by a word. The item that had the word is dropped.
+    fn set_word(
+        &mut self,
+        alloc: Global,
+        word: String,
+        handle: Handle,
+    ) -> Result<(), Unserved<'static>> {
+        let copy = String::from_str(alloc, word.as_str())?;
         if let Some(before) = self.names.insert(copy, handle)? {
-            self.take(before)?;
+            self.remove(before)?;
         }
-        if let Some(named) = self.items.get_mut(&handle) {
-            named.name = Some(name);
-        }
-        Ok(())
-    }
-
-    /// Drops an item, and its name.
-    fn remove(&mut self, handle: Handle) -> Result<(), Refusal> {
-        if let Some(name) = self.take(handle)? {
-            self.names.remove(name.as_str());
+        if let Some(entry) = self.items.get_mut(&handle) {
+            entry.word = Some(word);
         }
         Ok(())
     }
 
-    /// Drops an item, and returns the name that it had in the script.
-    fn take(&mut self, handle: Handle) -> Result<Option<String>, Refusal> {
-        let Named {
-            item,
-            recorded,
-            name,
-            ..
-        } = self.items.remove(&handle).ok_or(Refusal::Gone)?;
+    /// Drops an item, and its word.
+    pub fn drop_item(&mut self, handle: Handle) -> Result<(), Unserved<'static>> {
+        if let Some(word) = self.remove(handle)? {
+            self.names.remove(word.as_str());
+        }
+        Ok(())
+    }
+
+    /// Drops an item, and returns its word.
+    fn remove(&mut self, handle: Handle) -> Result<Option<String>, Unserved<'static>> {
+        let Some(Entry { item, word, .. }) = self.items.remove(&handle) else {
+            return Err(Unserved::Fault(LineFault::NoItem(handle)));
+        };
+        let event = Event::Drop { item: item.handle };
         drop(item);
-        self.record.event(&Event::Drop { item: recorded })?;
-        Ok(name)
+        self.recording.append_event(&event)?;
+        Ok(word)
+    }
+
+    /// Drops the root.
+    pub fn drop_root(&mut self) -> Result<(), Unserved<'static>> {
+        if self.root.take().is_none() {
+            return Err(Unserved::Fault(LineFault::NoRoot));
+        }
+        self.recording.append_event(&Event::DropRoot)?;
+        Ok(())
+    }
+
+    /// Changes an item, or sends its message.
+    pub fn change(
+        &mut self,
+        alloc: Global,
+        handle: Handle,
+        change: Change,
+    ) -> Result<(), Unserved<'static>> {
+        let Some(entry) = self.items.get(&handle) else {
+            return Err(Unserved::Fault(LineFault::NoItem(handle)));
+        };
+        let changed = entry
+            .item
+            .change(alloc, change, self.has_signs, &mut self.recording);
+        match changed {
+            Ok(()) | Err(Refusal::TooManyMessages) => Ok(()),
+            Err(refusal) => Err(Unserved::from(refusal)),
+        }
     }
 
     /// Sends a failure that belongs to no item.
-    pub fn say(&mut self, alloc: Global, at: Moment, text: String) -> Result<(), Refusal> {
+    pub fn send_failure(&mut self, alloc: Global, at: Moment, text: String) -> Result<(), Refusal> {
         let Some(root) = &self.root else {
             return Ok(());
         };
         let name = Text::from_str(alloc, "input")?;
         let item = root.add_child(alloc, name.as_str())?;
-        let recorded = self.record.add(0, name)?;
-        let message = Event::Message {
-            item: recorded,
+        let handle = self.recording.append_item(0, name)?;
+        let message = Change::Message {
             at,
             level: MessageLevel::Failure,
             text: Text::new(text),
         };
-        change(alloc, &item, &message, self.has_signs, &mut self.record)?;
+        let item = RecordedItem { item, handle };
+        item.change(alloc, message, self.has_signs, &mut self.recording)?;
         drop(item);
-        self.record.event(&Event::Drop { item: recorded })?;
+        self.recording.append_event(&Event::Drop { item: handle })?;
         Ok(())
-    }
-
-    /// Changes an item, or sends a message of it.
-    fn change(&mut self, alloc: Global, mut event: Event) -> Result<(), Refusal> {
-        let handle = item_of(&mut event).ok_or(Refusal::Gone)?;
-        let named = self.items.get(&*handle).ok_or(Refusal::Gone)?;
-        *handle = named.recorded;
-        change(alloc, &named.item, &event, self.has_signs, &mut self.record)
     }
 }

@@ -1,73 +1,119 @@
 //! What is wrong with a line, and the text that says it.
-use prodash_script::{Expected, Mistake, mistake_in};
-use std::alloc::{AllocError, Global};
+use crate::failure::Failure;
+use prodash::Refusal;
+use prodash::tree::Handle;
+use prodash_script::{Argument, Mistake};
+use std::alloc::{AllocError, AllocFailed, Global};
 use std::fmt::{self, Write};
-use std::str;
 
 /// What is wrong with a line.
-#[derive(Clone, Copy)]
+#[derive(Drop)]
 pub enum LineFault<'a> {
     /// It has more than 65536 bytes.
     TooLong,
     /// It is the last, and has no line feed.
     CutOff,
-    /// It is not UTF-8.
-    NotUtf8,
-    /// It is not one of the lines.
+    /// It is no command.
     Mistake(Mistake<'a>),
-    /// It names an item that was not made or was dropped.
-    NoHandle,
-    /// It adds an item below the last level.
-    TooDeep,
+    /// It names an item by this number, which none has.
+    NoItem(Handle),
+    /// It adds an item below this one, which is on the last level.
+    TooDeep(String),
+    /// It needs the root, which was dropped.
+    NoRoot,
 }
 
-impl<'a> LineFault<'a> {
-    /// Returns what is wrong with a line that asks for nothing.
-    pub fn of_line(line: &'a [u8]) -> LineFault<'a> {
-        let Ok(line) = str::from_utf8(line) else {
-            return LineFault::NotUtf8;
-        };
-        LineFault::Mistake(mistake_in(line).unwrap_or(Mistake {
-            expected: Expected::Event,
-            word: Some(line),
-        }))
+/// Why a line had no effect.
+#[derive(Drop)]
+pub enum Unserved<'a> {
+    /// The line is faulty.
+    Fault(LineFault<'a>),
+    /// The program has failed.
+    Failure(Failure),
+}
+
+impl From<AllocError> for Unserved<'_> {
+    fn from(error: AllocError) -> Self {
+        Unserved::Failure(Failure::from(error))
+    }
+}
+
+impl<T: Drop> From<AllocFailed<T>> for Unserved<'_> {
+    fn from(error: AllocFailed<T>) -> Self {
+        Unserved::Failure(Failure::from(error))
+    }
+}
+
+impl From<Refusal> for Unserved<'_> {
+    fn from(refusal: Refusal) -> Self {
+        Unserved::Failure(Failure::from(refusal))
     }
 }
 
 impl fmt::Display for LineFault<'_> {
     fn fmt<W: Write>(&self, f: &mut fmt::Formatter<W>) -> fmt::Result {
         match self {
-            LineFault::TooLong => f.write_str("longer than 65536 bytes"),
-            LineFault::CutOff => f.write_str("cut off"),
-            LineFault::NotUtf8 => f.write_str("not UTF-8"),
-            LineFault::Mistake(mistake) => {
-                f.write_str(said_of(mistake.expected))?;
-                match mistake.word {
-                    Some(word) => write!(f, " \"{}\"", Shown(word)),
-                    None => Ok(()),
-                }
+            LineFault::TooLong => f.write_str("the line is longer than 65536 bytes"),
+            LineFault::CutOff => f.write_str("the line is cut off: it has no line feed"),
+            LineFault::Mistake(mistake) => write_mistake(f, *mistake),
+            LineFault::NoItem(0) => f.write_str("0 is the root, not an item"),
+            LineFault::NoItem(handle) => write!(f, "no item {handle}"),
+            LineFault::TooDeep(parent) => {
+                let parent = Shown(parent.as_str());
+                write!(
+                    f,
+                    "no item can be below {parent}, which is on the last of six levels"
+                )
             }
-            LineFault::NoHandle => f.write_str("no such handle"),
-            LineFault::TooDeep => f.write_str("below the sixth level"),
+            LineFault::NoRoot => f.write_str("the root was already dropped"),
         }
     }
 }
 
-/// What is said of a word that is not what it should be.
-fn said_of(expected: Expected) -> &'static str {
-    match expected {
-        Expected::Event => "no event",
-        Expected::NoFrame => "frames are drawn without",
-        Expected::Nothing => "too many words",
-        Expected::Word => "no word",
-        Expected::Handle => "no handle",
-        Expected::Moment => "no moment",
-        Expected::Number => "no number",
-        Expected::Bound => "no bound",
-        Expected::Unit => "no unit",
-        Expected::Name => "no name",
-        Expected::Text => "no text",
-        Expected::Size => "no size",
+/// Writes what is said of a mistake.
+fn write_mistake<W: Write>(f: &mut fmt::Formatter<W>, mistake: Mistake<'_>) -> fmt::Result {
+    match mistake {
+        Mistake::NotUtf8 => f.write_str("the line is not UTF-8"),
+        Mistake::UnknownCommand(word) => write!(f, "unknown command \"{}\"", Shown(word)),
+        Mistake::DrawsFrame(word) => {
+            let word = Shown(word);
+            write!(
+                f,
+                "\"{word}\" isn't allowed here: prodash-live draws the frames"
+            )
+        }
+        Mistake::Missing(Argument::Word) | Mistake::Invalid(Argument::Word, _) => {
+            f.write_str("\"@\" needs a word after it, as in @file")
+        }
+        Mistake::Missing(argument) => {
+            let (name, form) = name_and_form(argument);
+            write!(f, "the {name} is missing{form}")
+        }
+        Mistake::Invalid(argument, word) => {
+            let (name, form) = name_and_form(argument);
+            write!(f, "\"{}\" is no {name}{form}", Shown(word))
+        }
+        Mistake::UnknownItem(word) => write!(f, "no item {}", Shown(word)),
+        Mistake::Extra(text) => write!(f, "unexpected \"{}\" after droproot", Shown(text)),
+    }
+}
+
+/// Returns what an argument is called, and in parentheses the form that it has.
+fn name_and_form(argument: Argument) -> (&'static str, &'static str) {
+    match argument {
+        Argument::Word => ("word", ""),
+        Argument::Item => ("item", " (its number, or @ and its word)"),
+        Argument::Moment => ("time", " (nanoseconds, or - for now)"),
+        Argument::Number => ("number", " (0 to 18446744073709551615)"),
+        Argument::Max => ("maximum", " (a number, or - for none)"),
+        Argument::Unit => (
+            "unit",
+            " (a name as files, files% or files/s, or - for none)",
+        ),
+        Argument::Name => ("name", ""),
+        Argument::Text => ("text", ""),
+        Argument::Columns => ("number of columns", " (1 to 65535)"),
+        Argument::Rows => ("number of rows", " (1 to 65535)"),
     }
 }
 
@@ -95,9 +141,9 @@ impl fmt::Display for Shown<'_> {
 pub fn fault_text(
     alloc: Global,
     number: u64,
-    fault: LineFault<'_>,
+    fault: &LineFault<'_>,
     line: &[u8],
 ) -> Result<String, AllocError> {
     let line = String::from_utf8_lossy(alloc, line)?;
-    format!(in alloc; "line {number}: {fault} in: {}", Shown(line.as_str()))
+    format!(in alloc; "line {number}: {fault}, in: {}", Shown(line.as_str()))
 }

@@ -1,9 +1,8 @@
 //! What the reader of the lines and the threads of the renderer tell each other.
 use prodash::time::{Clock, Moment};
-use std::io;
-use std::io::Write;
+use std::io::{self, Write};
 use std::sync::Arc;
-use std::sync::atomic::{AtomicBool, AtomicU64, Ordering};
+use std::sync::atomic::{AtomicBool, AtomicI32, AtomicU64, Ordering};
 
 /// The state of the output.
 #[derive(Drop)]
@@ -11,6 +10,8 @@ pub struct OutputState {
     /// How often it was flushed, which each frame that has bytes does once.
     frames: AtomicU64,
     is_broken: AtomicBool,
+    /// The system's number of the error of the call that failed, or 0 if it has none.
+    os_error: AtomicI32,
     /// Whether the reader waits for a frame.
     is_awaited: AtomicBool,
 }
@@ -21,6 +22,7 @@ impl OutputState {
         OutputState {
             frames: AtomicU64::new(0),
             is_broken: AtomicBool::new(false),
+            os_error: AtomicI32::new(0),
             is_awaited: AtomicBool::new(false),
         }
     }
@@ -33,6 +35,25 @@ impl OutputState {
     /// Returns whether a write or a flush has failed.
     pub fn is_broken(&self) -> bool {
         self.is_broken.load(Ordering::SeqCst)
+    }
+
+    /// Returns why a write or a flush has failed, if one has.
+    pub fn error(&self) -> Option<io::Error> {
+        if !self.is_broken() {
+            return None;
+        }
+        match self.os_error.load(Ordering::SeqCst) {
+            0 => Some(io::Error::from(io::ErrorKind::WriteZero)),
+            code => Some(io::Error::from_raw_os_error(code)),
+        }
+    }
+
+    /// Keeps that a call has failed, and the system's number of its error.
+    fn set_broken(&self, os_error: Option<i32>) {
+        if let Some(code) = os_error {
+            self.os_error.store(code, Ordering::SeqCst);
+        }
+        self.is_broken.store(true, Ordering::SeqCst);
     }
 
     /// Says whether a frame is awaited.
@@ -59,19 +80,21 @@ impl<O: Write + Drop> Watched<O> {
 impl<O: Write + Drop> Write for Watched<O> {
     fn write(&mut self, buf: &[u8]) -> io::Result<usize> {
         let written = self.out.write(buf);
-        let is_taken = matches!(&written, Ok(count) if *count > 0 || buf.is_empty());
-        if !is_taken {
-            self.state.is_broken.store(true, Ordering::SeqCst);
+        match &written {
+            Ok(0) if !buf.is_empty() => self.state.set_broken(None),
+            Ok(_) => {}
+            Err(error) => self.state.set_broken(error.raw_os_error()),
         }
         written
     }
 
     fn flush(&mut self) -> io::Result<()> {
         let flushed = self.out.flush();
-        if flushed.is_ok() {
-            self.state.frames.fetch_add(1, Ordering::SeqCst);
-        } else {
-            self.state.is_broken.store(true, Ordering::SeqCst);
+        match &flushed {
+            Ok(()) => {
+                self.state.frames.fetch_add(1, Ordering::SeqCst);
+            }
+            Err(error) => self.state.set_broken(error.raw_os_error()),
         }
         flushed
     }

@@ -1,14 +1,14 @@
 //! The whole program over a reader, a writer and a clock.
 use crate::display::{Display, MESSAGES};
-use crate::feed::{Outcome, feed_lines};
+use crate::failure::Failure;
+use crate::feed::{Feed, Outcome};
 use crate::items::Items;
 use crate::options::Options;
 use crate::output::{OutputState, PromptClock, Watched};
-use crate::record::Record;
+use crate::recording::Recording;
 use prodash::render::line::{self, render};
 use prodash::time::Clock;
 use prodash::tree::{Root, root};
-use prodash_programs::Fault;
 use std::alloc::Global;
 use std::io::{Read, Write};
 use std::sync::{Arc, Wait};
@@ -19,7 +19,7 @@ use std::thread::Threads;
 ///
 /// # Errors
 ///
-/// The fault that ended it. The renderer is closed then, too.
+/// The failure that ended it. The renderer is closed then, too.
 pub fn live<
     R: Wait + Threads + Alloc<A = Global> + Clone + Drop + Send + Sync + 'static,
     I: Read + Drop,
@@ -30,11 +30,11 @@ pub fn live<
     rt: R,
     input: I,
     out: O,
-    record: Option<W>,
+    recording: Option<W>,
     clock: Arc<K>,
     options: Options<'_>,
     is_terminal: bool,
-) -> Result<Outcome, Fault> {
+) -> Result<Outcome, Failure> {
     let alloc = rt.alloc();
     let output = Arc::new(alloc, OutputState::new())?;
     let root = root::Options {
@@ -43,30 +43,21 @@ pub fn live<
     }
     .create(rt.clone()?, alloc)?;
     let rendering = options.render(is_terminal);
-    let mut display = show(&rt, alloc, out, &root, &clock, rendering, &output)?;
-    let frame = rendering.nanoseconds_per_frame;
-    let record = Record::new(alloc, record, clock.now(), frame);
-    let mut items = Items::new(alloc, root, !rendering.colored, record);
-    let is_strict = options.is_strict;
-    let fed = feed_lines(
-        &rt,
-        alloc,
-        input,
-        &*clock,
-        &mut items,
-        &mut display,
-        is_strict,
-    );
-    display.close();
-    items.record().end(&*clock)?;
-    if output.is_broken() {
-        return Err(Fault::Output);
+    let display = show(&rt, alloc, out, &root, &clock, rendering, &output)?;
+    let interval = rendering.nanoseconds_per_frame;
+    let recording = Recording::new(alloc, recording, clock.now(), interval);
+    let items = Items::new(alloc, root, !rendering.colored, recording);
+    let mut feed = Feed::new(&rt, alloc, &*clock, items, display);
+    let served = feed.serve_lines(input, options.is_strict);
+    let closed = feed.close()?;
+    if let Some(error) = output.error() {
+        return Err(Failure::Output(error));
     }
-    let outcome = fed?;
-    if items.record().is_broken() {
-        return Err(Fault::Record);
+    let outcome = served?;
+    match closed {
+        Some(error) => Err(Failure::Recording(error)),
+        None => Ok(outcome),
     }
-    Ok(outcome)
 }
 
 /// Begins to show a tree on `out`.
@@ -86,7 +77,7 @@ fn show<
     clock: &Arc<K>,
     rendering: line::Options,
     output: &Arc<OutputState>,
-) -> Result<Display<R>, Fault> {
+) -> Result<Display<R>, Failure> {
     let prompt = PromptClock::new(
         Arc::try_clone(clock)?,
         Arc::try_clone(output)?,

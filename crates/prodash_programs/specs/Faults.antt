@@ -7,7 +7,7 @@ use Rattle.prodash_base.specs.declared.refusal.Refusal.TheVariants as refusals
 use Rattle.prodash_line.specs.declared.render.line.page.reading.Fault.{Fault as ReadFault}
 use Rattle.prodash_line.specs.declared.render.line.page.reading.Fault.TheVariants as reads
 use Rattle.prodash_programs.specs.declared.fault.Fault.{Fault}
-use Rattle.prodash_programs.specs.declared.fault.Fault.TheVariants.{Usage, Arguments, Line, Sign, Journal, Input, Output, Record, Memory, Thread}
+use Rattle.prodash_programs.specs.declared.fault.Fault.TheVariants.{Usage, Arguments, Line, Sign, Journal, Input, Output, Memory, Thread}
 
 -- 2 if the arguments or the input are at fault, else 1
 abbrev pub status_of : Fault → ℕ
@@ -18,7 +18,6 @@ status_of (Sign n) = 1
 status_of Journal = 1
 status_of Input = 1
 status_of Output = 1
-status_of Record = 1
 status_of Memory = 1
 status_of Thread = 1
 

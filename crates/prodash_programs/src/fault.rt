@@ -16,7 +16,7 @@ pub enum Fault {
     #[error("usage: {0}")]
     Usage(&'static str),
     /// An argument is not UTF-8.
-    #[error("arguments are not UTF-8")]
+    #[error("an argument is not UTF-8")]
     Arguments,
     /// This line of the input, counted from 1, is not an event.
     #[error("line {0}: not an event")]
@@ -33,9 +33,6 @@ pub enum Fault {
     /// Writing the output failed.
     #[error("output is broken")]
     Output,
-    /// Writing the recording failed.
-    #[error("recording is broken")]
-    Record,
     /// Out of memory.
     #[error("no memory")]
     Memory,
@@ -53,8 +50,8 @@ impl Fault {
     {
         match self {
             Fault::Usage(_) | Fault::Arguments | Fault::Line(_) => 2,
-            Fault::Sign(_) | Fault::Journal | Fault::Input | Fault::Output => 1,
-            Fault::Record | Fault::Memory | Fault::Thread => 1,
+            Fault::Sign(_) | Fault::Journal => 1,
+            Fault::Input | Fault::Output | Fault::Memory | Fault::Thread => 1,
         }
     }
 

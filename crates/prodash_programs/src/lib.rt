@@ -4,8 +4,10 @@
 mod command_line;
 mod fault;
 mod output;
+mod version;
 
 pub use command_line::{arguments, number};
 pub use fault::Fault;
 pub use output::{report, write_all};
 pub use prodash_line::render::line::terminal::{Environment, dimension};
+pub use version::{VERSION, version_line};

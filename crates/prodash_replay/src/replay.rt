@@ -4,13 +4,32 @@ use prodash_base::Refusal;
 use prodash_core::tree::{Event, Reply, RootOptions, SessionOptions, run};
 use prodash_line::render::line::draw::{self, MemoryScreen};
 use prodash_line::render::line::page::{Page, read};
-use prodash_programs::{Fault, dimension, report, write_all};
+use prodash_programs::{Fault, dimension, report, version_line, write_all};
 use prodash_script::{Labels, parse};
 use std::alloc::{AllocError, Global};
 use std::io::{Read, Write};
 
 /// The fault of arguments that are not a command and two dimensions.
 pub const USAGE: Fault = Fault::Usage("prodash-replay bytes|page COLUMNS ROWS");
+
+/// The help of the program.
+static HELP: &str = "Replays event lines from standard input, and writes the frames that they draw
+
+Usage: prodash-replay bytes|page COLUMNS ROWS [OPTIONS]
+
+Arguments:
+  bytes          write the bytes of all frames
+  page           write the rows that the frames leave on a page
+  COLUMNS        columns of the terminal, 1 to 65535
+  ROWS           rows of the terminal, 1 to 65535
+
+Options:
+  --defensive    erase the rows that frames write on, as prodash-live does
+  --colored      write colours
+  --any-unit     take units of any name, as recordings of prodash-live have
+  --help         print help
+  --version      print version
+";
 
 /// What lines end in that begin an item in one of the units that are read without `--any-unit`.
 static UNITS: [&str; 9] = [
@@ -25,24 +44,39 @@ static UNITS: [&str; 9] = [
     " objects",
 ];
 
+/// What a command line asks for.
+#[derive(Clone, Copy, Debug)]
+enum Command {
+    /// To write the frames of the events of the input.
+    Replay(ReplayOptions),
+    /// To print `HELP`.
+    Help,
+    /// To print the version.
+    Version,
+}
+
 /// What the program writes of the frames.
 #[derive(Clone, Copy, Debug, PartialEq, Eq)]
-enum Command {
+enum Format {
     /// The bytes.
     Bytes,
     /// The rows of a page on which they are played.
     Page,
 }
 
-/// The command line: a command, the columns and rows of the terminal, whether frames are defensive
-/// and have colours, and whether units may have any name.
+/// How events are replayed.
 #[derive(Clone, Copy, Debug)]
-struct Request {
-    command: Command,
+struct ReplayOptions {
+    format: Format,
+    /// The columns of the terminal.
     columns: u16,
+    /// The rows of the terminal.
     rows: u16,
+    /// Whether frames are defensive.
     defensive: bool,
+    /// Whether frames have colours.
     colored: bool,
+    /// Whether units may have any name.
     any_unit: bool,
     ghost wide: { 0 < columns },
     ghost high: { 0 < rows },
@@ -51,7 +85,9 @@ struct Request {
 /// Runs the program: replays the events of `input`, one per line. `words` are the program's name,
 /// and then `bytes COLUMNS ROWS` or `page COLUMNS ROWS`, and perhaps `--defensive`, `--colored` and
 /// `--any-unit`. `bytes` writes the bytes of all frames to `out`; `page` plays them on a page of that
-/// size and writes each row that it ever had, without trailing blanks. Returns the exit status.
+/// size and writes each row that it ever had, without trailing blanks. With `--help` anywhere among
+/// the words the help is written instead, and else with `--version` the version. Returns the exit
+/// status.
 ///
 /// If anything fails, one line on `err` says what. Unless it was `out` that failed, nothing has
 /// been written to `out` then.
@@ -75,18 +111,31 @@ fn write_replay<R: Read, O: Write>(
     input: &mut R,
     out: &mut O,
 ) -> Result<(), Fault> {
-    let request = parse_args(words)?;
-    let events = read_events(alloc, input, request.any_unit)?;
-    let screen = drawn(alloc, &request, &events)?;
-    match request.command {
-        Command::Bytes => write_all(out, screen.bytes()),
-        Command::Page => write_all(out, &rows_written(alloc, &request, screen.bytes())?),
+    let options = match parse_command_line(words)? {
+        Command::Replay(options) => options,
+        Command::Help => return write_all(out, HELP.as_bytes()),
+        Command::Version => {
+            let line = version_line(alloc, "prodash-replay")?;
+            return write_all(out, line.as_bytes());
+        }
+    };
+    let events = read_events(alloc, input, options.any_unit)?;
+    let screen = drawn(alloc, &options, &events)?;
+    match options.format {
+        Format::Bytes => write_all(out, screen.bytes()),
+        Format::Page => write_all(out, &rows_written(alloc, &options, screen.bytes())?),
     }
 }
 
 /// Parses the command line.
-fn parse_args(words: &[String]) -> Result<Request, Fault> {
-    let [_, command, columns, rows, flags @ ..] = words else {
+fn parse_command_line(words: &[String]) -> Result<Command, Fault> {
+    if has_word(words, "--help") {
+        return Ok(Command::Help);
+    }
+    if has_word(words, "--version") {
+        return Ok(Command::Version);
+    }
+    let [_, format, columns, rows, flags @ ..] = words else {
         return Err(USAGE);
     };
     let (mut defensive, mut colored, mut any_unit) = (false, false, false);
@@ -98,21 +147,26 @@ fn parse_args(words: &[String]) -> Result<Request, Fault> {
             _ => return Err(USAGE),
         }
     }
-    let command = match command.as_str() {
-        "bytes" => Command::Bytes,
-        "page" => Command::Page,
+    let format = match format.as_str() {
+        "bytes" => Format::Bytes,
+        "page" => Format::Page,
         _ => return Err(USAGE),
     };
     let columns = dimension(columns.as_str()).ok_or(USAGE)?;
     let rows = dimension(rows.as_str()).ok_or(USAGE)?;
-    Ok(Request {
-        command,
+    Ok(Command::Replay(ReplayOptions {
+        format,
         columns,
         rows,
         defensive,
         colored,
         any_unit,
-    })
+    }))
+}
+
+/// Returns whether a word is among the words after the program's name.
+fn has_word(words: &[String], word: &str) -> bool {
+    words.iter().skip(1).any(|it| it.as_str() == word)
 }
 
 /// Reads all lines as events.
@@ -159,23 +213,23 @@ fn has_listed_unit(line: &str) -> bool {
 }
 
 /// Returns a screen with the bytes of all frames that the events draw.
-fn drawn(alloc: Global, request: &Request, events: &[Event]) -> Result<MemoryScreen, Fault> {
-    let options = SessionOptions {
+fn drawn(alloc: Global, options: &ReplayOptions, events: &[Event]) -> Result<MemoryScreen, Fault> {
+    let session = SessionOptions {
         root: RootOptions::default(),
         draw: draw::Options {
             level_filter: None,
-            terminal_dimensions: (request.columns, request.rows),
+            terminal_dimensions: (options.columns, options.rows),
             keep_running_if_progress_is_empty: true,
             output_is_terminal: true,
-            colored: request.colored,
+            colored: options.colored,
             timestamp: false,
             hide_cursor: false,
-            defensive: request.defensive,
+            defensive: options.defensive,
         },
         throughput: true,
     };
     let mut screen = MemoryScreen::new(alloc, 0)?;
-    let replies = run(alloc, &options, events, &mut screen)?;
+    let replies = run(alloc, &session, events, &mut screen)?;
     if replies.iter().any(is_out_of_memory) {
         return Err(Fault::Memory);
     }
@@ -191,8 +245,8 @@ fn is_out_of_memory(reply: &Reply) -> bool {
 }
 
 /// Plays the bytes on a new page, and returns its rows, each with a line feed.
-fn rows_written(alloc: Global, request: &Request, bytes: &[u8]) -> Result<Vec<u8>, Fault> {
-    let mut page = Page::new(alloc, request.columns, request.rows)?;
+fn rows_written(alloc: Global, options: &ReplayOptions, bytes: &[u8]) -> Result<Vec<u8>, Fault> {
+    let mut page = Page::new(alloc, options.columns, options.rows)?;
     for sign in &read(alloc, bytes)? {
         page.apply(alloc, sign)?;
     }

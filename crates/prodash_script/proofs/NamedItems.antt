@@ -2,7 +2,7 @@
 use Rattle.std.proofs.Common.{◌≡◌, ℕ, nat_eq, false, List, [], ◌∷◌, refl, ap, arith}
 use Rattle.std.specs.Prelude.{None, ◌≢◌}
 use Rattle.std.proofs.lemmas.Bool.Decides.{nat_tests}
-use Rattle.prodash_script.specs.Requests.{name_in}
+use Rattle.prodash_script.specs.Mistakes.{name_in}
 
 -- a word that doesn't begin with an `@`
 pub no_name : (word : List ℕ) → ((rest : List ℕ) → word ≢ 64 ∷ rest) → None ≡ name_in word

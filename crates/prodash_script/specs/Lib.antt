@@ -1,7 +1,7 @@
+pub mod Commands
+pub mod EventLines
 pub mod Lines
 pub mod Mistakes
 pub mod Reading
-pub mod Requests
-pub mod Steps
 pub mod Units
 pub mod Words

@@ -1,5 +1,5 @@
 -- The lines of events.
-use Rattle.std.specs.Prelude.{◌≡◌, ℕ, List, ◌++◌, Bool, true, false, not, nat_eq, codes, string_bytes, Option, Some, None, MatchOption, Result, String, IsTrue, IfOk, ⊤}
+use Rattle.std.specs.Prelude.{◌≡◌, ℕ, List, ◌++◌, Bool, true, false, not, nat_eq, codes, string_bytes, Option, Some, None, MatchOption, Result, String, IsTrue, IfOk}
 use Rattle.std.specs.List.{list_any}
 use Rattle.std.specs.Fmt.{decimal}
 use Rattle.prodash_base.specs.declared.messages.MessageLevel.{MessageLevel}
@@ -76,8 +76,3 @@ IsLineOf _ line = ⊥
 abbrev pub GivesLine : {Z E : Type 0} → Result (Option (String Z)) E → (List ℕ → Type 0) → Type 0
 GivesLine result P = IfOk result (λ found.
     MatchOption found ((line : List ℕ) → ¬ P line) (λ line. P (string_bytes line)))
-
--- an event that adds an item
-abbrev pub IsAddition : Event → Type 0
-IsAddition (AddChild parent name id) = ⊤
-IsAddition _ = ⊥

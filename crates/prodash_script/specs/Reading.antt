@@ -7,8 +7,10 @@ use Rattle.prodash_base.specs.declared.messages.MessageLevel.TheVariants.{Info, 
 use Rattle.prodash_base.specs.Rows.{unknown_id}
 use Rattle.prodash_core.specs.declared.tree.event.Event.{Event}
 use Rattle.prodash_core.specs.declared.tree.event.Event.TheVariants as events
+use Rattle.prodash_script.specs.EventLines.{line_event}
 use Rattle.prodash_script.specs.Units.{unit_in}
 use Rattle.prodash_script.specs.Words.{Reader, number_of, lookup, ref_to, plain_unit}
+use Rattle.prodash_script.specs.declared.event_line.EventLine.{EventLine}
 
 -- an event, wherever its reason and the name of its unit are stored
 abbrev pub plain : Event → Event
@@ -158,9 +160,13 @@ read_line handle moment line =
     option_map_or (λ parts. read_by (all_events handle moment) parts.0 parts.1)
     (cut_at_space line) (alone line)
 
--- what was read on success, wherever its reason and the name of its unit are stored
+-- on success the event that was read, wherever its reason and the name of its unit are stored
 abbrev pub Reads : {E : Type 0} → Result (Option Event) E → Option Event → Type 0
 Reads result event = IfOk result (λ found. option_map plain found ≡ event)
+
+-- on success a line that says the event that was read
+abbrev pub ReadsLine : {E : Type 0} → Result (Option EventLine) E → Option Event → Type 0
+ReadsLine result event = IfOk result (λ found. option_map line_event found ≡ event)
 
 -- a text that is read as an event, where handles and moments are numbers
 abbrev pub IsReadAs : Event → List ℕ → Type 0

@@ -1,27 +1,27 @@
-//! Events as lines of text: `parse` reads a line, `to_line` writes it, `request_of` reads a line of
-//! a script, `step_change_of` one that changes a step, `mistake_in` says what is wrong with one, and
-//! `Lines` reads lines from a stream.
+//! Events as lines of text: `parse` reads a line, `to_line` writes it, `parse_command` reads a line
+//! of a script or says what is wrong with it, and `Lines` reads lines from a stream.
 #![tactic(auto)]
 
+mod change;
+mod command;
+mod event_line;
 mod labels;
 mod mistake;
 mod mistakes;
 mod reading;
-mod request;
 mod script;
-mod steps;
 mod stream;
 mod units;
 mod words;
 mod writing;
 
+pub use change::{Change, REASON};
+pub use command::Command;
+pub use event_line::EventLine;
 pub use labels::Labels;
-pub use mistake::{Expected, Mistake};
-pub use mistakes::mistake_in;
-pub use reading::{REASON, add, parse, parse_with};
-pub use request::{NO_ITEM, Request};
-pub use script::{Names, request_of};
-pub use steps::{StepChange, step_change_of};
+pub use mistake::{Argument, Mistake};
+pub use reading::{parse, parse_line};
+pub use script::{Names, parse_command};
 pub use stream::{LIMIT, Lines, Next};
 pub use words::{Numbers, Words, number};
 pub use writing::to_line;

@@ -1,37 +1,43 @@
-/// What a word of a script's line should be.
+/// A word that comes after the first one of a script's line.
 #[derive(Clone, Copy, Debug, PartialEq, Eq)]
-pub enum Expected {
-    /// The first word of an event that draws no frame, or `size`.
-    Event,
-    /// A first word that doesn't ask for a frame.
-    NoFrame,
-    /// Nothing: the event has no more words.
-    Nothing,
+pub enum Argument {
     /// The word by which a script names an item, after its `@`.
     Word,
-    /// A handle: a number, or a word after `@`.
-    Handle,
-    /// A moment: a number, or `-`.
+    /// An item: a number, or a word after `@`.
+    Item,
+    /// A moment: a number, or `-` for now.
     Moment,
     /// A number of 1 to 20 digits that fits in 64 bits.
     Number,
-    /// A bound: such a number, or `-`.
-    Bound,
-    /// The word of a unit, which may be left out.
+    /// The step at which an item is done: a number, or `-` for none.
+    Max,
+    /// The word of a unit, or `-` for none. It may be left out.
     Unit,
     /// The name of an item, which may be empty.
     Name,
     /// The text of a message, which may be empty.
     Text,
-    /// A number of columns or rows, from 1 to 65535.
-    Size,
+    /// A number of columns, from 1 to 65535.
+    Columns,
+    /// A number of rows, from 1 to 65535.
+    Rows,
 }
 
 /// The first mistake in a line of a script.
 #[derive(Clone, Copy, Debug, PartialEq, Eq)]
-pub struct Mistake<'a> {
-    /// What should be there.
-    pub expected: Expected,
-    /// What is there, or `None` if the line ends before it.
-    pub word: Option<&'a str>,
+pub enum Mistake<'a> {
+    /// The line is not UTF-8.
+    NotUtf8,
+    /// No line begins with this word.
+    UnknownCommand(&'a str),
+    /// A line that begins with this word draws a frame, which no line of a script does.
+    DrawsFrame(&'a str),
+    /// The line ends before this argument.
+    Missing(Argument),
+    /// This word is not the argument that it should be.
+    Invalid(Argument, &'a str),
+    /// No item is named by this word, which begins with `@`.
+    UnknownItem(&'a str),
+    /// This comes after the last argument.
+    Extra(&'a str),
 }

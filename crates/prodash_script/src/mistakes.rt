@@ -1,102 +1,104 @@
 //! The first mistake in a line of a script.
 ghost use Rattle.std.specs.Prelude.{◌≡◌, option_map};
-ghost use Rattle.prodash_script.specs.Mistakes.{arguments, expected_first, is_argument, mistake_after, mistake_in, missing, next_word, plain_mistake, split};
+ghost use Rattle.prodash_script.specs.Commands.{handle_in};
+ghost use Rattle.prodash_script.specs.Mistakes.{arguments, first_mistake, is_argument, mistake_after, mistake_in, missing, next_word, not_argument, not_command, plain_mistake, split};
 ghost use Rattle.prodash_script.specs.Words.{lookup};
 
 use crate::labels::is_unit;
-use crate::mistake::{Expected, Mistake};
-use crate::reading::{bound, cut, small};
-use crate::script::{after, name_of};
+use crate::mistake::{Argument, Mistake};
+use crate::reading::{bound, cut};
+use crate::script::{Names, after, handle_of, name_of, size_number};
 use crate::words::number;
 
-/// Returns the first mistake in a line of a script, or `None` if it has none.
-pub fn mistake_in(line: &str) -> Option<Mistake<'_>>
-    ensures { option_map plain_mistake result ≡ mistake_in line.now }
+/// Returns the first mistake in a line of a script that is no command.
+pub(crate) fn first_mistake<'a>(names: &Names, line: &'a str) -> Mistake<'a>
+    ensures { plain_mistake result ≡ first_mistake (handle_in names.now) line.now }
 {
-    if let Some(rest) = after(line, "add @") {
-        return mistake_after(
-            &[Expected::Word, Expected::Handle, Expected::Name],
-            Some(rest),
-        );
-    }
-    let (word, rest) = split(line);
-    match arguments(word) {
-        Some(arguments) => mistake_after(arguments, rest),
-        None => Some(Mistake {
-            expected: expected_first(word),
-            word: Some(word),
-        }),
+    match mistake_in(names, line) {
+        Some(mistake) => mistake,
+        None => Mistake::UnknownCommand(line),
     }
 }
 
-/// Returns what the words after a first word should be, or `None` if it isn't one.
-fn arguments(word: &str) -> Option<&'static [Expected]>
+/// Returns the first mistake in a line of a script, or `None` if it has none.
+fn mistake_in<'a>(names: &Names, line: &'a str) -> Option<Mistake<'a>>
+    ensures { option_map plain_mistake result ≡ mistake_in (handle_in names.now) line.now }
+{
+    if let Some(rest) = after(line, "add @") {
+        let arguments = [Argument::Word, Argument::Item, Argument::Name];
+        return mistake_after(names, &arguments, Some(rest));
+    }
+    let (word, rest) = split(line);
+    match arguments(word) {
+        Some(arguments) => mistake_after(names, arguments, rest),
+        None => Some(not_command(word)),
+    }
+}
+
+/// Returns the arguments after a first word, or `None` if no line of a script begins with it.
+fn arguments(word: &str) -> Option<&'static [Argument]>
     ensures { option_map (λ all. all.now) result ≡ lookup arguments word.now }
 {
-    let arguments: &'static [Expected] = match word {
-        "add" | "name" => &[Expected::Handle, Expected::Name],
-        "info" | "done" | "fail" => &[Expected::Handle, Expected::Moment, Expected::Text],
-        "drop" | "blocked" | "halted" | "running" => &[Expected::Handle],
-        "init" => &[Expected::Handle, Expected::Bound, Expected::Unit],
-        "max" => &[Expected::Handle, Expected::Bound],
-        "set" | "inc" => &[Expected::Handle, Expected::Number],
+    let arguments: &'static [Argument] = match word {
+        "add" | "name" => &[Argument::Item, Argument::Name],
+        "info" | "done" | "fail" => &[Argument::Item, Argument::Moment, Argument::Text],
+        "drop" | "blocked" | "halted" | "running" => &[Argument::Item],
+        "init" => &[Argument::Item, Argument::Max, Argument::Unit],
+        "max" => &[Argument::Item, Argument::Max],
+        "set" | "inc" => &[Argument::Item, Argument::Number],
         "droproot" => &[],
-        "size" => &[Expected::Size, Expected::Size],
+        "size" => &[Argument::Columns, Argument::Rows],
         _ => return None,
     };
     Some(arguments)
 }
 
-/// Returns what should be there in place of a word that is the first of no line of a script.
-fn expected_first(word: &str) -> Expected
-    ensures { result ≡ expected_first word.now }
+/// Returns the mistake of a first word with which no line of a script begins.
+fn not_command(word: &str) -> Mistake<'_>
+    ensures { plain_mistake result ≡ not_command word.now }
 {
     match word {
-        "tick" | "hold" | "resize" | "quit" => Expected::NoFrame,
-        _ => Expected::Event,
+        "tick" | "hold" | "resize" | "quit" => Mistake::DrawsFrame(word),
+        _ => Mistake::UnknownCommand(word),
     }
 }
 
 /// Returns the first mistake in what comes after the first space of a line, or `None` in place of
 /// that if it has no space.
-fn mistake_after<'a>(expected: &[Expected], rest: Option<&'a str>) -> Option<Mistake<'a>>
-    ensures { option_map plain_mistake result
-        ≡ mistake_after expected.now (option_map (λ rest. rest.now) rest.entry) }
+fn mistake_after<'a>(
+    names: &Names,
+    arguments: &[Argument],
+    rest: Option<&'a str>,
+) -> Option<Mistake<'a>>
+    ensures { let text = option_map (λ rest. rest.now) rest.entry in
+        option_map plain_mistake result
+        ≡ mistake_after (handle_in names.now) arguments.now text }
 {
-    let Some((first, more)) = expected.split_first() else {
-        return rest.map(|rest| Mistake {
-            expected: Expected::Nothing,
-            word: Some(rest),
-        });
+    let Some((first, more)) = arguments.split_first() else {
+        return rest.map(|text| Mistake::Extra(text));
     };
     let Some(rest) = rest else {
         return missing(*first);
     };
     let (word, rest) = next_word(more, rest);
-    if is_argument(*first, word) {
-        return mistake_after(more, rest);
+    if is_argument(names, *first, word) {
+        return mistake_after(names, more, rest);
     }
-    Some(Mistake {
-        expected: *first,
-        word: Some(word),
-    })
+    Some(not_argument(*first, word))
 }
 
-/// Returns the mistake of a line that ends before this, unless it may be left out.
-fn missing(expected: Expected) -> Option<Mistake<'static>>
-    ensures { option_map plain_mistake result ≡ missing expected }
+/// Returns the mistake of a line that ends before this argument, unless it may be left out.
+fn missing(argument: Argument) -> Option<Mistake<'static>>
+    ensures { option_map plain_mistake result ≡ missing argument }
 {
-    if expected == Expected::Unit {
+    if argument == Argument::Unit {
         return None;
     }
-    Some(Mistake {
-        expected,
-        word: None,
-    })
+    Some(Mistake::Missing(argument))
 }
 
 /// Returns the next word and what comes after it. The last one ends where the line does.
-fn next_word<'a>(more: &[Expected], rest: &'a str) -> (&'a str, Option<&'a str>)
+fn next_word<'a>(more: &[Argument], rest: &'a str) -> (&'a str, Option<&'a str>)
     ensures { (result.0.now, option_map (λ rest. rest.now) result.1) ≡ next_word more.now rest.now }
 {
     if more.is_empty() {
@@ -116,18 +118,27 @@ fn split(text: &str) -> (&str, Option<&str>)
     }
 }
 
-/// Returns whether a word is what it should be.
-fn is_argument(expected: Expected, word: &str) -> bool
-    ensures { result ≡ is_argument expected word.now }
+/// Returns whether a word is such an argument.
+fn is_argument(names: &Names, argument: Argument, word: &str) -> bool
+    ensures { result ≡ is_argument (handle_in names.now) argument word.now }
 {
-    match expected {
-        Expected::Event | Expected::NoFrame | Expected::Nothing => false,
-        Expected::Word => !word.is_empty(),
-        Expected::Handle => name_of(word).is_some() || number(word).is_some(),
-        Expected::Moment | Expected::Bound => bound(word).is_some(),
-        Expected::Number => number(word).is_some(),
-        Expected::Unit => is_unit(word),
-        Expected::Name | Expected::Text => true,
-        Expected::Size => small(word).unwrap_or(0) > 0,
+    match argument {
+        Argument::Word => !word.is_empty(),
+        Argument::Item => handle_of(names, word).is_some(),
+        Argument::Moment | Argument::Max => bound(word).is_some(),
+        Argument::Number => number(word).is_some(),
+        Argument::Unit => is_unit(word),
+        Argument::Name | Argument::Text => true,
+        Argument::Columns | Argument::Rows => size_number(word).is_some(),
     }
+}
+
+/// Returns the mistake of a word that is not such an argument.
+fn not_argument(argument: Argument, word: &str) -> Mistake<'_>
+    ensures { plain_mistake result ≡ not_argument argument word.now }
+{
+    if argument == Argument::Item && name_of(word).is_some() {
+        return Mistake::UnknownItem(word);
+    }
+    Mistake::Invalid(argument, word)
 }

@@ -1,14 +1,22 @@
-//! What a line asks for: an event, whose items may have words for names.
-ghost use Rattle.std.specs.Prelude.{◌≡◌, IfOk, option_map};
-ghost use Rattle.prodash_script.specs.Requests.{AsksForNoFrame, asked, asked_by_bytes, begin_of, handle_in, moment_in, name_in, named_add_of, unnamed_of};
+//! Lines of scripts, whose items may have words for names.
+ghost use Rattle.std.specs.Prelude.{◌≡◌, Some, IfOk, IfSome, option_map};
+ghost use Rattle.prodash_script.specs.Commands.{accepted, begin_of, command_of, event_of, handle_in, is_comment, moment_in, named_add_of, plain_command, size_of};
+ghost use Rattle.prodash_script.specs.Mistakes.{name_in, size_number_of};
 ghost use Rattle.prodash_script.specs.Words.{after_prefix};
 
+use crate::change::Change;
+use crate::command::Command;
+use crate::event_line::EventLine;
 use crate::labels::Labels;
-use crate::reading::{add, bound, cut, handle_and_text, parse_with};
-use crate::request::{NO_ITEM, Request};
+use crate::mistake::Mistake;
+use crate::mistakes::first_mistake;
+use crate::reading::{
+    bound, cut, handle_and_name, handle_and_number, handle_and_text, parse_line, small,
+};
 use crate::words::{Words, number};
+use prodash_base::Text;
 use prodash_base::time::Moment;
-use prodash_core::tree::{Event, Handle};
+use prodash_core::tree::Handle;
 use std::alloc::{AllocError, Global};
 use std::collections::HashMap;
 use std::str;
@@ -19,23 +27,20 @@ pub type Names = HashMap<String, Handle>;
 /// The words of a script: a handle is a number, or a word after `@`; a moment is a number, or `-`
 /// for now.
 #[derive(Clone, Copy)]
-pub(crate) struct Script<'a> {
-    pub(crate) names: &'a Names,
-    pub(crate) now: Moment,
+struct Script<'a> {
+    names: &'a Names,
+    now: Moment,
 }
 
 impl<'a> Words for Script<'a> {
-    ghost use Rattle.prodash_script.specs.Requests.{handle_in, moment_in};
+    ghost use Rattle.prodash_script.specs.Commands.{handle_in, moment_in};
 
     ghost handle_of = { λ script. handle_in script.names.now };
 
     ghost moment_of = { λ script. moment_in script.now };
 
     fn handle(&self, word: &str) -> Option<Handle> {
-        match name_of(word) {
-            Some(name) => Some(self.names.get(name).copied().unwrap_or(NO_ITEM)),
-            None => number(word),
-        }
+        handle_of(self.names, word)
     }
 
     fn moment(&self, word: &str) -> Option<Moment> {
@@ -43,6 +48,16 @@ impl<'a> Words for Script<'a> {
             return Some(self.now);
         }
         number(word)
+    }
+}
+
+/// Returns the handle that a word names: that of an item, after `@`, or a number.
+pub(crate) fn handle_of(names: &Names, word: &str) -> Option<Handle>
+    ensures { result ≡ handle_in names.now word.now }
+{
+    match name_of(word) {
+        Some(name) => names.get(name).copied(),
+        None => number(word),
     }
 }
 
@@ -54,35 +69,91 @@ pub(crate) fn name_of(word: &str) -> Option<&str>
     if name.is_empty() { None } else { Some(name) }
 }
 
-/// Returns what a line of a script asks for, given the names of its items. A name that no item has
-/// is read as `NO_ITEM`. A line that draws a frame is a fault. The name of a unit is kept in
-/// `labels`.
+/// Parses a line of a script, given the names of its items and the moment that is now. The name of
+/// a unit is kept in `labels`.
+///
+/// ```rust
+/// let line = b"add @file 0 a file";
+/// let command = parse_command(alloc, &names, &mut labels, now, line)?;
+/// assert!(rt; matches!(command, Command::Add { parent: 0, .. }));
+/// ```
 ///
 /// # Errors
 ///
-/// `AllocError`, if there is no memory for the request.
-pub fn request_of(
+/// `AllocError`, if there is no memory for the command.
+pub fn parse_command<'a>(
     alloc: Global,
     names: &Names,
     labels: &mut Labels,
     now: Moment,
-    line: &[u8],
-) -> Result<Request, AllocError>
-    ensures no_frame { IfOk result AsksForNoFrame }
-    ensures asks { IfOk result (λ request.
-        asked request ≡ asked_by_bytes names.now now line.now) }
+    line: &'a [u8],
+) -> Result<Command<'a>, AllocError>
+    ensures { IfOk result (λ command.
+        plain_command command ≡ command_of names.now now line.now) }
 {
+    if is_comment(line) {
+        return Ok(Command::Comment);
+    }
     let Ok(line) = str::from_utf8(line) else {
-        return Ok(Request::Fault);
+        return Ok(Command::Fault(Mistake::NotUtf8));
     };
     let script = Script { names, now };
+    if let Some((item, change)) = step_change(script, line) {
+        return Ok(Command::Change(item, change));
+    }
+    match accepted(alloc, script, labels, line)? {
+        Some(command) => Ok(command),
+        None => Ok(Command::Fault(first_mistake(names, line))),
+    }
+}
+
+/// Returns whether a line does nothing: it is empty, or begins with `#`.
+fn is_comment(line: &[u8]) -> bool
+    ensures { result ≡ is_comment line.now }
+{
+    match line.first() {
+        Some(first) => *first == b'#',
+        None => true,
+    }
+}
+
+/// Parses a line that changes the step of an item, `set H N` or `inc H N`. Returns `None` if it has
+/// a mistake, or is another line. `accepted` gives the same; most lines of a script are these, and
+/// looked at first each takes 860 instructions in place of 1,310.
+fn step_change(script: Script<'_>, line: &str) -> Option<(Handle, Change)>
+    ensures { let accepted = accepted (handle_in script.entry.names.now)
+        (moment_in script.entry.now) line.now in
+        IfSome result (λ it. accepted ≡ Some (plain_command (Command.Change it.0 it.1))) }
+{
+    if let Some(rest) = after(line, "set ") {
+        let (item, step) = handle_and_number(&script, rest)?;
+        return Some((item, Change::Set(step)));
+    }
+    let (item, step) = handle_and_number(&script, after(line, "inc ")?)?;
+    Some((item, Change::IncBy(step)))
+}
+
+/// Parses a line of a script, or returns `None` if it has a mistake.
+fn accepted(
+    alloc: Global,
+    script: Script<'_>,
+    labels: &mut Labels,
+    line: &str,
+) -> Result<Option<Command<'static>>, AllocError>
+    ensures { let names = script.entry.names.now in
+        IfOk result (λ found. option_map plain_command found
+        ≡ accepted (handle_in names) (moment_in script.entry.now) line.now) }
+{
     if let Some(rest) = after(line, "add @") {
-        return named(alloc, script, rest);
+        return named_add(alloc, script, rest);
     }
     if let Some(rest) = after(line, "init ") {
         return init(alloc, script, labels, rest);
     }
-    unnamed(alloc, script, labels, line)
+    if let Some(rest) = after(line, "size ") {
+        return Ok(size(rest));
+    }
+    event(alloc, script, labels, line)
 }
 
 /// Returns what comes after a prefix, if a text begins with it.
@@ -94,24 +165,25 @@ pub(crate) fn after<'a>(text: &'a str, prefix: &str) -> Option<&'a str>
 
 /// Parses the arguments `WORD H NAME`, after the `@` of the word.
 #[tactic(auto, unfolding(crate::specs::Reading::first_of))]
-fn named(alloc: Global, script: Script<'_>, rest: &str) -> Result<Request, AllocError>
-    ensures no_frame { IfOk result AsksForNoFrame }
-    ensures asks { IfOk result (λ request.
-        asked request ≡ named_add_of (handle_in script.entry.names.now) rest.now) }
+fn named_add(
+    alloc: Global,
+    script: Script<'_>,
+    rest: &str,
+) -> Result<Option<Command<'static>>, AllocError>
+    ensures { IfOk result (λ found. option_map plain_command found
+        ≡ named_add_of (handle_in script.entry.names.now) rest.now) }
 {
     let Some((word, rest)) = cut(rest) else {
-        return Ok(Request::Fault);
+        return Ok(None);
     };
     if word.is_empty() {
-        return Ok(Request::Fault);
+        return Ok(None);
     }
-    match add(alloc, &script, rest)? {
-        Some(event) => {
-            let word = String::from_str(alloc, word)?;
-            Ok(Request::Name(word, event))
-        }
-        None => Ok(Request::Fault),
-    }
+    let Some((parent, name)) = handle_and_name(alloc, &script, rest)? else {
+        return Ok(None);
+    };
+    let word = Some(Text::from_str(alloc, word)?);
+    Ok(Some(Command::Add { word, parent, name }))
 }
 
 /// Parses the arguments `H MAX UNIT`. Without a unit they are as with `-`.
@@ -121,46 +193,66 @@ fn init(
     script: Script<'_>,
     labels: &mut Labels,
     rest: &str,
-) -> Result<Request, AllocError>
-    ensures no_frame { IfOk result AsksForNoFrame }
-    ensures asks { IfOk result (λ request.
-        asked request ≡ begin_of (handle_in script.entry.names.now) rest.now) }
+) -> Result<Option<Command<'static>>, AllocError>
+    ensures { IfOk result (λ found. option_map plain_command found
+        ≡ begin_of (handle_in script.entry.names.now) rest.now) }
 {
     let Some((item, rest)) = handle_and_text(&script, rest) else {
-        return Ok(Request::Fault);
+        return Ok(None);
     };
     let (max, unit) = match cut(rest) {
         Some(parts) => parts,
         None => (rest, "-"),
     };
     let Some(max) = bound(max) else {
-        return Ok(Request::Fault);
+        return Ok(None);
     };
     match labels.unit_of(alloc, unit)? {
-        Some(unit) => Ok(Request::Apply(Event::Init { item, max, unit })),
-        None => Ok(Request::Fault),
+        Some(unit) => Ok(Some(Command::Change(item, Change::Init { max, unit }))),
+        None => Ok(None),
     }
 }
 
-/// Parses a line as an event that draws no frame.
-fn unnamed(
+/// Parses the arguments `COLUMNS ROWS`.
+#[tactic(auto, unfolding(crate::specs::Reading::first_of))]
+fn size(rest: &str) -> Option<Command<'static>>
+    ensures { option_map plain_command result ≡ size_of rest.now }
+{
+    let (columns, rows) = cut(rest)?;
+    Some(Command::Size {
+        columns: size_number(columns)?,
+        rows: size_number(rows)?,
+    })
+}
+
+/// Parses a number of columns or rows.
+pub(crate) fn size_number(word: &str) -> Option<u16>
+    ensures { result ≡ size_number_of word.now }
+{
+    let number = small(word)?;
+    if number == 0 { None } else { Some(number) }
+}
+
+/// Parses a line of events that draws no frame.
+fn event(
     alloc: Global,
     script: Script<'_>,
     labels: &mut Labels,
     line: &str,
-) -> Result<Request, AllocError>
-    ensures no_frame { IfOk result AsksForNoFrame }
-    ensures asks { let handle = handle_in script.entry.names.now in
-        let moment = moment_in script.entry.now in
-        IfOk result (λ request. asked request ≡ unnamed_of handle moment line.now) }
+) -> Result<Option<Command<'static>>, AllocError>
+    ensures { let names = script.entry.names.now in
+        IfOk result (λ found. option_map plain_command found
+        ≡ event_of (handle_in names) (moment_in script.entry.now) line.now) }
 {
-    match parse_with(alloc, &script, labels, line)? {
-        Some(event) => {
-            if event.is_frame() {
-                return Ok(Request::Fault);
-            }
-            Ok(Request::Apply(event))
-        }
-        None => Ok(Request::Fault),
-    }
+    let Some(line) = parse_line(alloc, &script, labels, line)? else {
+        return Ok(None);
+    };
+    let word = None;
+    Ok(match line {
+        EventLine::Add { parent, name } => Some(Command::Add { word, parent, name }),
+        EventLine::Drop(item) => Some(Command::Drop(item)),
+        EventLine::DropRoot => Some(Command::DropRoot),
+        EventLine::Change(item, change) => Some(Command::Change(item, change)),
+        EventLine::Tick { .. } | EventLine::Resize { .. } | EventLine::Quit(_) => None,
+    })
 }

@@ -3,7 +3,7 @@ ghost use Rattle.std.specs.Fmt.{decimal};
 ghost use Rattle.prodash_script.specs.Lines.{GivesLine, IsLineOf, IsOneLine, bound_word, is_one_line, spaced, text_line, word_line};
 ghost use Rattle.prodash_script.specs.Reading.{IsReadAs};
 
-use crate::reading::REASON;
+use crate::change::REASON;
 use crate::units::word_of;
 use prodash_base::messages::MessageLevel;
 use prodash_base::progress::{Step, UNKNOWN};

@@ -1,0 +1,92 @@
+//! Items whose changes are recorded.
+use crate::recording::Recording;
+use prodash::messages::MessageLevel;
+use prodash::tree::{Handle, Item};
+use prodash::{Refusal, Text};
+use prodash_script::{Change, REASON};
+use std::alloc::Global;
+use std::io::Write;
+use std::sync::Wait;
+
+/// An item, and its handle in the recording.
+#[derive(Drop)]
+pub struct RecordedItem<R: Wait + Clone + Drop> {
+    /// The item.
+    pub item: Item<R>,
+    /// The handle that a replay of the recording has for it.
+    pub handle: Handle,
+}
+
+impl<R: Wait + Clone + Drop> RecordedItem<R> {
+    /// Makes a change of the item, and records it. If there are signs, the origin of a message has
+    /// the one of its severity before it: the item has both for a name while the message is sent.
+    ///
+    /// # Errors
+    ///
+    /// `Memory`, if there is no memory for it, and `TooManyMessages`, if the tree keeps no more.
+    pub fn change<W: Write + Drop>(
+        &self,
+        alloc: Global,
+        change: Change,
+        has_signs: bool,
+        recording: &mut Recording<W>,
+    ) -> Result<(), Refusal> {
+        let sign = match &change {
+            Change::Message {
+                level: MessageLevel::Success,
+                ..
+            } if has_signs => "✓",
+            Change::Message {
+                level: MessageLevel::Failure,
+                ..
+            } if has_signs => "✗",
+            _ => return self.apply(alloc, change, recording),
+        };
+        self.send_signed(alloc, sign, change, recording)
+    }
+
+    /// Sends a message whose origin has a sign before it.
+    fn send_signed<W: Write + Drop>(
+        &self,
+        alloc: Global,
+        sign: &str,
+        message: Change,
+        recording: &mut Recording<W>,
+    ) -> Result<(), Refusal> {
+        let Some(name) = self.item.name(alloc)? else {
+            return Err(Refusal::Gone);
+        };
+        let origin = format!(in alloc; "{sign} {name}")?;
+        self.apply(alloc, Change::SetName(Text::new(origin)), recording)?;
+        let sent = self.apply(alloc, message, recording);
+        self.apply(alloc, Change::SetName(Text::new(name)), recording)?;
+        sent
+    }
+
+    /// Makes a change of the item, and records it.
+    fn apply<W: Write + Drop>(
+        &self,
+        alloc: Global,
+        change: Change,
+        recording: &mut Recording<W>,
+    ) -> Result<(), Refusal> {
+        let item = &self.item;
+        match &change {
+            Change::Init { max, unit } => item.init(*max, *unit),
+            Change::SetName(name) => item.set_name(alloc, name.as_str())?,
+            Change::SetMax(max) => {
+                item.set_max(*max);
+            }
+            Change::Set(step) => item.set(*step),
+            Change::IncBy(step) => item.inc_by(*step),
+            Change::Blocked => item.blocked(REASON, None),
+            Change::Halted => item.halted(REASON, None),
+            Change::Running => item.running(),
+            Change::Message { at, level, text } => {
+                item.message(alloc, *at, *level, text.as_str())?
+            }
+        }
+        recording.append_change(self.handle, change)?;
+        Ok(())
+    }
+}
