@@ -43,8 +43,8 @@ HasRows rows tree = ListsTasks tree rows
 abbrev pub HasMessages : List Message → LockedTree → Type 0
 HasMessages messages tree = messages ≡ tree.ring.messages
 
--- The messages are those of the tree since this many were sent, or all of them without that
--- number; so many were sent by now.
+-- The messages are those that the tree keeps of the ones sent after the first `previous`, or all
+-- that it keeps if there is no such number. By now `sent` messages have been sent.
 abbrev pub HasNews : Option ℕ → List Message → ℕ → LockedTree → Type 0
 HasNews previous messages sent tree =
     (messages ≡ messages_since tree.ring previous) × (sent ≡ tree.ring.pushed)

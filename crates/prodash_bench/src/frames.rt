@@ -9,7 +9,7 @@ use std::alloc::Global;
 use std::io;
 use std::sync::Wait;
 
-/// The nanoseconds from frame to frame.
+/// The nanoseconds between two frames.
 const PERIOD: u64 = 100_000_000;
 
 /// What frames of 80 columns show.
@@ -19,7 +19,7 @@ pub(crate) struct Scene {
     has_groups: bool,
     colored: bool,
     throughput: bool,
-    /// Whether each frame has another step of each task.
+    /// Whether the step of each task changes before each frame.
     changes: bool,
     /// How many messages are sent before each frame.
     messages: u64,

@@ -24,9 +24,9 @@ struct Counts {
     refused: u64,
 }
 
-/// Makes calls of many kinds on a recorded tree, and prints how many were refused for want of
-/// memory. The journal must have just the accepted calls: as many as the item counts, with the same
-/// sum and replies. It must agree with the receipt of each.
+/// Makes calls of many kinds on a recorded tree, and prints how many were refused for lack of
+/// memory. The journal must have exactly the accepted calls: as many as the item counts, with the
+/// same sum and replies. It must agree with the receipt of each.
 pub(crate) fn run<R: Wait + Print>(rt: &R, alloc: Global) -> Result<(), Fault> {
     let counts = make_calls_on_tree::<Brand, Brand, R>(rt, alloc, Ledgers::new())?;
     match println!(rt; "{} refused", counts.refused) {

@@ -1,5 +1,5 @@
-//! Calls of the libraries that need memory. One that is refused it must have changed nothing, and
-//! is made again. `dev/fail-each` refuses each allocation of a case in turn.
+//! Calls of the libraries that need memory. A call that is refused memory must have changed
+//! nothing, and is made again. `dev/fail-each` refuses each allocation of a case in turn.
 mod engines;
 mod logs;
 mod messages;

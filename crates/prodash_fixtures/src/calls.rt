@@ -3,14 +3,14 @@ ghost use Rattle.prodash_base.specs.declared.refusal.Refusal.TheVariants.{Memory
 
 use prodash_base::Refusal;
 
-/// What the calls of a program have done so far, some of which may be out of memory.
+/// What a program's calls have done so far, some of which may run out of memory.
 #[derive(Drop)]
 pub struct Calls {
     /// The name of the latest.
     pub name: &'static str,
     /// How many were refused.
     pub refused: u64,
-    /// The name of the first that did something else than it should.
+    /// The name of the first that did something other than it should.
     pub wrong: Option<&'static str>,
 }
 
@@ -35,7 +35,7 @@ impl Calls {
         self.name = name;
     }
 
-    /// Notes that the call is wrong unless this holds.
+    /// Notes that the call is wrong unless `holds`.
     pub fn expect(&mut self, holds: bool)
         ensures right { holds ≡ true → self.new ≡ self.old }
         ensures wrong { holds ≡ false → is_some self.new.wrong ≡ true }

@@ -1,6 +1,6 @@
 //! What the crates of tests build their inputs with: short forms of rows and messages, frames that
-//! more than one of them expects, options, and a screen that breaks. And a record of calls, some of
-//! which may be out of memory.
+//! more than one of them expects, options, and a screen that breaks; and a record of calls, some of
+//! which may run out of memory.
 #![tactic(auto)]
 
 ghost use Rattle.std.specs.Prelude.{take};

@@ -50,7 +50,7 @@ impl Orders {
     }
 }
 
-/// What finds the root of a tree, or does what it is told to do.
+/// A weak root that finds the root of a tree, or does what it is told to do.
 #[derive(Drop)]
 struct Told<R: Host> {
     weak: WeakHandle<R>,
@@ -171,7 +171,7 @@ fn steps_draw_or_are_refused(rt: HostRuntime) {
     }
 }
 
-/// The nanoseconds from one frame to the next.
+/// The nanoseconds between two frames.
 const FRAME: u64 = 1_000_000;
 
 /// Frames of 40 columns and 20 rows.
@@ -418,12 +418,12 @@ fn a_wait_ends_nothing(rt: HostRuntime) {
     assert_same(&rt, worker.join(&rt), true, "drawn before the end");
 }
 
-/// Waits until a root was looked for this often.
+/// Waits until the root has been looked for this many times.
 fn assert_asked<R: Host>(rt: &R, orders: &Orders, count: u64) {
     assert_soon(rt, &Reaches(&orders.asked, count), "looked for a root");
 }
 
-/// Ticks that find no memory, and a root of too many owners, draw nothing and end nothing.
+/// Ticks without memory, or with a root that has too many owners, draw nothing and end nothing.
 #[test]
 fn refused_ticks_are_skipped(rt: HostRuntime) {
     let alloc: Global = rt.alloc();

@@ -188,7 +188,7 @@ ERROR 𐄂main::other → done 10 parts in 2.50s (4 parts/s)\n\
 ERROR 𐄂main::other → sent\n\
 ERROR 𐄂main::other → done 10 parts in 2.50s (4 parts/s)\n";
 
-/// Makes each call on a progress, and asserts that it is where that leaves it.
+/// Makes each call on a progress, and asserts the step, the name and the unit that it then has.
 fn assert_each_call<P: Progress>(rt: &impl Abort, alloc: Global, progress: &mut P) {
     call_each(rt, alloc, progress);
     let counter = progress.counter(alloc).expect(rt, "no refusal");

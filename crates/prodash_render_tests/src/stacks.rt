@@ -1,5 +1,5 @@
-//! Threads that can't be started, since no stack is as large as theirs is to be. What they were
-//! handed is dropped.
+//! Threads that can't be started, since their stacks would be too large. What they were given is
+//! dropped.
 use crate::engine::assert_frames;
 use crate::fixtures::{Host, assert_same, downgrade, make_tree, share};
 use crate::waiting::{Collected, Collector, SteppedClock};

@@ -1,5 +1,5 @@
-//! What the tests of threads wait with: a loop, a clock, and a writer and logger that keeps what it
-//! gets.
+//! What the tests of threads wait with: a loop, a clock, and a writer that is also a logger and
+//! keeps what it gets.
 use crate::fixtures::{Host, arc, assert_same, share};
 use log::kv::Source;
 use log::span::Spans;
@@ -14,12 +14,12 @@ use std::sync::{Arc, Mutex, Wait};
 use std::time::Duration;
 use std::{rt, thread};
 
-/// What a test waits for. A closure in its place would be four functions to prove.
+/// A condition that a test waits for. A closure in its place would be four functions to prove.
 pub(crate) trait Awaited {
     fn holds(&self) -> bool;
 }
 
-/// Waits until this is so, at most 10000 turns of a millisecond. Returns whether it is.
+/// Waits until the condition holds, for at most ten seconds, and returns whether it does.
 pub(crate) fn holds_soon<R: rt::Clock, A: Awaited>(rt: &R, awaited: &A) -> bool {
     for _ in 0..10000u32 {
         if awaited.holds() {
@@ -30,7 +30,7 @@ pub(crate) fn holds_soon<R: rt::Clock, A: Awaited>(rt: &R, awaited: &A) -> bool 
     awaited.holds()
 }
 
-/// Asserts that this is so soon; `of` says what is awaited.
+/// Asserts that the condition holds soon; `of` says what is awaited.
 pub(crate) fn assert_soon<R: rt::Clock + Abort, A: Awaited>(rt: &R, awaited: &A, of: &str) {
     assert_same(rt, holds_soon(rt, awaited), true, of);
 }

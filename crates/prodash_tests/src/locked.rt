@@ -45,7 +45,7 @@ fn options_have_defaults(rt: HostRuntime) {
     }
 }
 
-/// Asserts that a weak handle finds a tree of so many tasks, or none.
+/// Asserts that a weak handle finds a tree with this many tasks, or none.
 fn assert_finds<R: Wait + Clone + Drop>(
     rt: &impl Abort,
     weak: &WeakHandle<R>,
@@ -122,7 +122,7 @@ fn send_info<R: Wait + Clone + Drop>(rt: &impl Abort, alloc: Global, item: &Item
         .expect(rt, "no refusal");
 }
 
-/// Asserts that an item whose entry is gone has a step alone, and that its message has no origin.
+/// Asserts that an item whose entry is gone has only a step, and that its message has no origin.
 fn assert_gone<R: Wait + Clone + Drop + Send + Sync>(
     rt: &impl Abort,
     alloc: Global,
@@ -154,7 +154,7 @@ fn a_child_of_the_sixth_level_loses_its_entry_with_its_parent(rt: HostRuntime) {
     assert_gone(&rt, alloc, &root, &last);
 }
 
-/// Adds so many children to the root, and returns their items.
+/// Adds this many children to the root, and returns their items.
 fn add_children<R: Wait + Clone + Drop>(
     rt: &impl Abort,
     alloc: Global,
@@ -203,7 +203,7 @@ fn the_child_after_65536_has_a_place_of_its_own(rt: HostRuntime) {
     assert_last_row(&rt, alloc, &root, 65536);
 }
 
-/// Adds so many children to an item, and drops each before the next.
+/// Adds this many children to an item, and drops each before the next.
 fn add_and_drop_below<R: Wait + Clone + Drop>(
     rt: &impl Abort,
     alloc: Global,
@@ -311,7 +311,7 @@ fn add_and_drop<R: Wait + Clone + Drop>(rt: &impl Abort, alloc: Global, root: &R
     }
 }
 
-/// Adds 3 to a counter, in a function that has no leave to wait.
+/// Adds 3 to a counter, in a function that may not wait.
 fn add_three(steps: &Steps) {
     steps.inc_by(2);
     steps.inc();

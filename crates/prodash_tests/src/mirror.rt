@@ -229,7 +229,7 @@ Name Id Step Max Unit NumTasks Snapshot CopyMessages CopyNew";
 const CALLS: &str = "Root::add_child Root::add_child_with_id Item::add_child \
 Item::add_child_with_id Item::message Item::info Item::done Item::fail";
 
-/// Asserts that each of these names came at least that often.
+/// Asserts that each of these names occurs at least `least` times.
 fn assert_called(rt: &impl Abort, calls: &[&str], names: &str, least: usize) {
     for name in names.split(' ') {
         let mut count: usize = 0;

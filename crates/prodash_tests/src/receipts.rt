@@ -45,7 +45,7 @@ fn assert_found<C: TreeLedger>(rt: &impl Abort, journal: &Journal<C>, receipt: &
     assert_same(rt, is_found, true, number);
 }
 
-/// Asserts that the numbers of a worker's receipts rise.
+/// Asserts that the numbers of a worker's receipts ascend.
 pub(crate) fn assert_rising<C: TreeLedger>(rt: &impl Abort, receipts: &[Receipt<C>]) {
     let mut least = 0u64;
     for receipt in receipts {
@@ -64,7 +64,7 @@ fn assert_all(rt: &impl Abort, mut numbers: Vec<u64>) {
     }
 }
 
-/// Asserts that there is one receipt for each of so many entries of a journal.
+/// Asserts that a journal has this many entries, and one receipt for each.
 pub(crate) fn assert_receipts<C: TreeLedger>(
     rt: &impl Abort,
     alloc: Global,

@@ -160,7 +160,7 @@ fn a_refused_call_does_not_count(rt: HostRuntime) {
 }
 
 /// Makes the calls of these rounds on a new tree, whose ledgers have types of their own, and
-/// asserts that its journal has so many entries, and what its replay ends with.
+/// asserts how many entries its journal has, and what its replay ends with.
 pub(crate) fn run_on_new_tree<R: Threads + Wait + Abort + Copy + Send + Sync + 'static>(
     rt: R,
     alloc: Global,
@@ -314,7 +314,7 @@ fn do_work<C: TreeLedger, S: Ledger, R: Wait + Abort>(
 /// A worker's share and its receipts.
 type WorkerResult<C, S> = (Share<C, S>, Vec<Receipt<C>>);
 
-/// What workers hand back.
+/// The threads of workers, each of which returns a result.
 type RunningWorkers<C, S> = Vec<JoinHandle<WorkerResult<C, S>>>;
 
 /// A worker in a thread of its own.
@@ -364,7 +364,7 @@ fn collect_result<C: TreeLedger, S: Ledger>(
     receipts.append(&mut given).expect(rt, "memory");
 }
 
-/// Waits for the workers of a round, and takes what they hand back.
+/// Waits for the workers of a round, and collects their results.
 fn join_round<C: TreeLedger, S: Ledger, R: Threads + Wait + Abort>(
     rt: &R,
     round: &Round,
@@ -377,7 +377,7 @@ fn join_round<C: TreeLedger, S: Ledger, R: Threads + Wait + Abort>(
     }
 }
 
-/// Has workers make the calls of each round, and takes what they hand back.
+/// Has workers make the calls of each round, and collects their results.
 fn work_in_rounds<
     C: TreeLedger + Send + Sync + 'static,
     S: Ledger + Send + Sync + 'static,

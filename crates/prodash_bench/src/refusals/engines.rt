@@ -9,7 +9,7 @@ use std::alloc::Global;
 use std::sync::Arc;
 use std::sync::atomic::{AtomicU64, Ordering};
 
-/// The room of a screen, which takes all frames.
+/// The bytes that a screen has room for: those of all frames.
 const ROOM: usize = 8192;
 
 /// How many turns of the tree are drawn before the size changes.
@@ -24,8 +24,8 @@ const TURN: u64 = 400_000_000;
 /// An engine that draws on a screen in memory.
 type Drawing = Engine<MemoryScreen, WeakScene>;
 
-/// Draws the same frames by two engines. At least one of them is refused no memory, and the other
-/// one must write what it does.
+/// Draws the same frames with two engines. At most one of them is refused memory, and both must
+/// write the same.
 pub(crate) fn run(alloc: Global, calls: &mut Calls) -> Result<(), Fault> {
     let turn = Arc::new(alloc, AtomicU64::new(0))?;
     let mut first = new_engine(alloc, &turn, calls)?;

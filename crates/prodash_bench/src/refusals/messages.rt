@@ -83,7 +83,7 @@ fn have_texts(messages: &[Message], texts: &[&str]) -> bool {
             .all(|(it, text)| it.message.as_str() == *text)
 }
 
-/// Copies all messages to a list that has the oldest alone.
+/// Copies all messages into a list that holds only the oldest.
 fn copy_all(alloc: Global, ring: &MessageRingBuffer, calls: &mut Calls) -> Result<(), Fault> {
     calls.begin("MessageRingBuffer::copy_all");
     let mut messages = contents(alloc, ring)?;
@@ -98,7 +98,7 @@ fn copy_all(alloc: Global, ring: &MessageRingBuffer, calls: &mut Calls) -> Resul
     Ok(())
 }
 
-/// Copies the messages after the third to a list that has the oldest alone.
+/// Copies the messages after the third into a list that holds only the oldest.
 fn copy_new(alloc: Global, ring: &MessageRingBuffer, calls: &mut Calls) -> Result<(), Fault> {
     calls.begin("MessageRingBuffer::copy_new");
     let mut messages = contents(alloc, ring)?;

@@ -5,7 +5,7 @@ use prodash_fixtures::Calls;
 use prodash_programs::Fault;
 use std::alloc::Global;
 
-/// What is written: rows that the page hasn't got, one of them wider than it is.
+/// What is written: more rows than the page has, one of them wider than the page.
 const BYTES: &[u8] = b"ab\n\x1b[31mlonger\x1b[0m\nc\r\x1b[1A\x1b[2Kd\n\n\ne";
 
 /// The rows of the page at the end.
@@ -51,7 +51,7 @@ fn new(alloc: Global, calls: &mut Calls) -> Result<Page, Fault> {
     }
 }
 
-/// Writes a sign on a page, which is like `twin` before it.
+/// Writes a sign on a page that equals `twin` beforehand.
 fn apply(
     alloc: Global,
     page: &mut Page,

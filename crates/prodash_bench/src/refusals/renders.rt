@@ -49,7 +49,7 @@ pub(crate) fn run<R: Threads + Wait + rt::Clock + Clone + Drop + Send + Sync + '
     Ok(())
 }
 
-/// Drops two tasks. A refused report is left out, and then the other one is whole.
+/// Drops two tasks. A refused report is skipped, and the other one is complete.
 fn report<R: Wait + rt::Clock + Clone + Drop + Send + Sync>(
     alloc: Global,
     root: &Root<R>,

@@ -1,5 +1,4 @@
-//! A tree that is made up: it has a row, which changes from turn to turn, and a message of each
-//! turn.
+//! A made-up tree: it has a row, which changes from turn to turn, and a message of each turn.
 ghost use Rattle.std.specs.Prelude.{IsOkUnless};
 
 use prodash::messages::{Message, MessageCopyState, MessageLevel, Messages};

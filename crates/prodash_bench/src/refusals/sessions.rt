@@ -11,7 +11,7 @@ use prodash_fixtures::Calls;
 use prodash_programs::Fault;
 use std::alloc::Global;
 
-/// The room of a screen, which takes all frames.
+/// The bytes that a screen has room for: those of all frames.
 const ROOM: usize = 8192;
 
 /// How many events are applied.
@@ -60,8 +60,8 @@ fn apply_all(
     Ok(())
 }
 
-/// Applies an event to two sessions. At least one of them is refused no memory, and the other one
-/// must reply and write what it does.
+/// Applies an event to two sessions. At most one of them is refused memory, and both must reply and
+/// write the same.
 fn apply_to_both(
     alloc: Global,
     event: &Event,
@@ -122,7 +122,7 @@ fn is_refused(reply: &Reply) -> bool {
     matches!(reply, Reply::Refused(_))
 }
 
-/// Replaces a session by a copy.
+/// Replaces a session with a copy of it.
 fn replace_by_copy(alloc: Global, session: &mut Session, calls: &mut Calls) -> Result<(), Fault> {
     *session = copy_session(alloc, session, calls)?;
     Ok(())

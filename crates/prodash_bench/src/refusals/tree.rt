@@ -43,7 +43,7 @@ fn make_calls<R: Wait + Clone + Drop>(
     copies::make_calls(root, alloc, item, calls)
 }
 
-/// Makes a tree, which must keep so many messages.
+/// Makes a tree without tasks, which must keep this many messages.
 fn make_empty_tree<R: Wait + Clone + Drop>(
     rt: &R,
     alloc: Global,

@@ -21,14 +21,14 @@ const JOBS: [&str; 8] = [
 /// The steps of a job.
 const STEPS: u64 = 15;
 
-/// What a worker hands back: its share of the tree, and the receipts of its calls, in order.
+/// What a worker returns: its share of the tree, and the receipts of its calls, in order.
 #[derive(Drop)]
 pub(super) struct WorkerResult<C: TreeLedger, S: Ledger> {
     pub(super) share: Share<C, S>,
     pub(super) receipts: Vec<Receipt<C>>,
 }
 
-/// Runs a worker for each job, and returns what they hand back.
+/// Runs a worker for each job, and returns their results.
 pub(super) fn run_workers<
     C: TreeLedger + Send + Sync + 'static,
     S: Ledger + Send + Sync + 'static,

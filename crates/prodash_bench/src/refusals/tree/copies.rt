@@ -42,7 +42,7 @@ fn sorted_snapshot<R: Wait + Clone + Drop>(
     Ok(())
 }
 
-/// Copies the messages to a list that has the oldest alone.
+/// Copies the messages into a list that holds only the oldest.
 fn copy_messages<R: Wait + Clone + Drop>(
     root: &Root<R>,
     alloc: Global,
@@ -64,8 +64,8 @@ fn copy_messages<R: Wait + Clone + Drop>(
     Ok(())
 }
 
-/// Copies the messages after the second to a list that has the oldest alone. The ring has lost the
-/// first.
+/// Copies the messages after the second into a list that holds only the oldest. The ring has lost
+/// the first.
 fn copy_new_messages<R: Wait + Clone + Drop>(
     root: &Root<R>,
     alloc: Global,
