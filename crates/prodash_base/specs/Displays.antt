@@ -5,6 +5,8 @@ use Rattle.prodash_base.specs.Shown.{Shown}
 use Rattle.prodash_base.specs.declared.unit.display.Amount.{Amount}
 use Rattle.prodash_base.specs.declared.unit.display.Throughput.{Throughput}
 use Rattle.prodash_base.specs.declared.unit.display.Mode.{Mode}
+use Rattle.prodash_base.specs.declared.unit.display.Part.{Part}
+use Rattle.prodash_base.specs.declared.unit.display.Part.TheVariants.{All, Values, UnitAlone}
 use Rattle.prodash_base.specs.declared.unit.display.Location.{Location}
 use Rattle.prodash_base.specs.declared.unit.display.Location.TheVariants.{BeforeValue, AfterUnit}
 
@@ -30,25 +32,26 @@ throughput_at (Some mode) location throughput =
     if mode.throughput && same_location mode.location location then throughput else None
 throughput_at None _ _ = None
 
--- a percentage and a space; nothing if there is none
-abbrev pub percentage_before : Shown → Option ℕ → List ℕ
-percentage_before s None = []
-percentage_before s (Some p) = s.percentage p ++ codes " "
+-- a text with the space between it and the value or the unit
+abbrev pub placed : Location → List ℕ → List ℕ
+placed BeforeValue text = text ++ codes " "
+placed AfterUnit text = codes " " ++ text
 
--- a throughput and a space; nothing if there is none
-abbrev pub throughput_before : Shown → Option Throughput → List ℕ
-throughput_before s None = []
-throughput_before s (Some t) = s.throughput t ++ codes " "
+-- a percentage at a location; nothing if there is none
+abbrev pub placed_percentage : Shown → Location → Option ℕ → List ℕ
+placed_percentage s location None = []
+placed_percentage s location (Some percentage) = placed location (s.percentage percentage)
 
--- a space and a percentage; nothing if there is none
-abbrev pub percentage_after : Shown → Option ℕ → List ℕ
-percentage_after s None = []
-percentage_after s (Some p) = codes " " ++ s.percentage p
+-- a throughput at a location; nothing if there is none
+abbrev pub placed_throughput : Shown → Location → Option Throughput → List ℕ
+placed_throughput s location None = []
+placed_throughput s location (Some throughput) = placed location (s.throughput throughput)
 
--- a space and a throughput; nothing if there is none
-abbrev pub throughput_after : Shown → Option Throughput → List ℕ
-throughput_after s None = []
-throughput_after s (Some t) = codes " " ++ s.throughput t
+-- the percentage and the throughput that are shown at a location
+abbrev pub text_at : Shown → Option Mode → Location → Amount → List ℕ
+text_at s mode location a =
+    placed_percentage s location (percentage_at mode location a.value a.bound)
+    ++ placed_throughput s location (throughput_at mode location a.throughput)
 
 -- the separator and the bound; nothing if there is no bound
 abbrev pub bound_text : Shown → ℕ → Option ℕ → List ℕ
@@ -58,20 +61,11 @@ bound_text s value (Some bound) = s.separator value (Some bound) ++ s.upper_boun
 -- the value with its bound, and what is shown before it
 abbrev pub values_text : Shown → Option Mode → Amount → List ℕ
 values_text s mode a =
-    percentage_before s (percentage_at mode BeforeValue a.value a.bound)
-    ++ throughput_before s (throughput_at mode BeforeValue a.throughput)
-    ++ s.value a.value a.bound
-    ++ bound_text s a.value a.bound
-
--- what is shown after the unit
-abbrev pub after_text : Shown → Option Mode → Amount → List ℕ
-after_text s mode a =
-    percentage_after s (percentage_at mode AfterUnit a.value a.bound)
-    ++ throughput_after s (throughput_at mode AfterUnit a.throughput)
+    text_at s mode BeforeValue a ++ s.value a.value a.bound ++ bound_text s a.value a.bound
 
 -- the unit, and what is shown after it
 abbrev pub unit_text : Shown → Option Mode → Amount → List ℕ
-unit_text s mode a = s.unit a.value ++ after_text s mode a
+unit_text s mode a = s.unit a.value ++ text_at s mode AfterUnit a
 
 -- a space and a text; nothing if the text is empty
 abbrev pub spaced : List ℕ → List ℕ
@@ -80,4 +74,11 @@ spaced (c ∷ cs) = 32 ∷ c ∷ cs
 
 -- the values, the unit, and what is shown after it
 abbrev pub all_text : Shown → Option Mode → Amount → List ℕ
-all_text s mode a = values_text s mode a ++ spaced (s.unit a.value) ++ after_text s mode a
+all_text s mode a =
+    values_text s mode a ++ spaced (s.unit a.value) ++ text_at s mode AfterUnit a
+
+-- a part of a value
+abbrev pub part_text : Part → Shown → Option Mode → Amount → List ℕ
+part_text All = all_text
+part_text Values = values_text
+part_text UnitAlone = unit_text

@@ -3,7 +3,7 @@ use Rattle.std.specs.Prelude.{◌≡◌, ⊤}
 use Rattle.std.specs.Borrow.{follows_so, MutBor, Fml}
 use mathlib.Core.Option.{none}
 use Rattle.prodash_base.specs.declared.unit.units.UnitDisplay.{UnitDisplay}
-use Rattle.prodash_base.specs.declared.unit.units.Part.{Part}
+use Rattle.prodash_base.specs.declared.unit.display.Part.{Part}
 use Rattle.prodash_base.specs.contracts.unit.units.UnitDisplay.{the_row}
 
 -- the display shows this part from then on

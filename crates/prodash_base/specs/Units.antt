@@ -5,13 +5,12 @@ use Rattle.std.specs.Option.{option_eq}
 use Rattle.std.specs.declared.alloc.Global.{Global}
 use Rattle.prodash_base.specs.Shown.{Shown, label_shown}
 use Rattle.prodash_base.specs.Kinds.{Quantity, quantity_of, same_quantity, kind_shown}
-use Rattle.prodash_base.specs.Displays.{all_text, values_text, unit_text, same_location}
+use Rattle.prodash_base.specs.Displays.{all_text, part_text, same_location}
 use Rattle.prodash_base.specs.declared.unit.display.Amount.{Amount}
 use Rattle.prodash_base.specs.declared.unit.display.Mode.{Mode}
 use Rattle.prodash_base.specs.declared.unit.units.Unit.{Unit}
 use Rattle.prodash_base.specs.declared.unit.units.UnitDisplay.{UnitDisplay}
-use Rattle.prodash_base.specs.declared.unit.units.Part.{Part}
-use Rattle.prodash_base.specs.declared.unit.units.Part.TheVariants.{All, Values, UnitAlone}
+use Rattle.prodash_base.specs.declared.unit.display.Part.TheVariants.{All}
 
 -- what a unit says: its quantity, and how a percentage and a throughput are shown with it, if they are
 pub record Measure : Type 0 where
@@ -41,16 +40,10 @@ unit_shown (Some unit) = kind_shown unit.kind
 abbrev pub all_text_of : Unit → Amount → List ℕ
 all_text_of unit = all_text (kind_shown unit.kind) unit.mode
 
--- the text of a part of a value in a unit
-abbrev pub part_text : Part → Unit → Amount → List ℕ
-part_text All unit = all_text_of unit
-part_text Values unit = values_text (kind_shown unit.kind) unit.mode
-part_text UnitAlone unit = unit_text (kind_shown unit.kind) unit.mode
-
 -- the display of a value in a unit in full; the allocator serves `Display` alone
 abbrev pub display_of : Unit → Global → Amount → UnitDisplay
 display_of unit alloc a = record { unit = unit; amount = a; part = All; alloc = alloc }
 
 -- the text of a display
 abbrev pub display_text : UnitDisplay → List ℕ
-display_text d = part_text d.part d.unit d.amount
+display_text d = part_text d.part (kind_shown d.unit.kind) d.unit.mode d.amount

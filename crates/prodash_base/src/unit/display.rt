@@ -46,6 +46,17 @@ pub(super) struct Amount {
     pub(super) throughput: Option<Throughput>,
 }
 
+/// The part of a value that is displayed.
+#[derive(Clone, Copy)]
+pub(super) enum Part {
+    /// The value with its bound, and the unit.
+    All,
+    /// The value with its bound.
+    Values,
+    /// The unit.
+    UnitAlone,
+}
+
 /// Whether a percentage and a throughput are shown with a value, and at which place.
 ///
 /// ```rust

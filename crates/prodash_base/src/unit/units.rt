@@ -4,7 +4,8 @@ ghost use Rattle.prodash_base.specs.Displays.{amount};
 ghost use Rattle.prodash_base.specs.Units.{display_of, display_text};
 
 use super::Kind;
-use super::display::{Amount, Mode, Throughput, append, append_unit, append_values};
+use super::display::values::{amount, append_part};
+use super::display::{Amount, Mode, Part, Throughput};
 use crate::progress::Step;
 use crate::refusal::Refusal;
 use std::alloc::Global;
@@ -70,14 +71,9 @@ impl Unit {
     ) -> UnitDisplay
         ensures { result ≡ display_of self.now alloc (amount value bound throughput) }
     {
-        let amount = Amount {
-            value,
-            bound,
-            throughput,
-        };
         UnitDisplay {
             unit: *self,
-            amount,
+            amount: amount(value, bound, throughput),
             part: Part::All,
             alloc,
         }
@@ -89,14 +85,6 @@ impl Unit {
     {
         &self.kind
     }
-}
-
-/// The part of a value that is displayed.
-#[derive(Clone, Copy)]
-enum Part {
-    All,
-    Values,
-    UnitAlone,
 }
 
 /// A value in a unit, as it is displayed.
@@ -150,17 +138,8 @@ impl UnitDisplay {
         ensures err { OnErr result (string_bytes out.new ≡ string_bytes out.old) }
         ensures reason { IsOkUnless result Refusal.Memory }
     {
-        let (kind, mode) = (&self.unit.kind, self.unit.mode);
-        let Amount {
-            value,
-            bound,
-            throughput,
-        } = self.amount;
-        match self.part {
-            Part::All => append(out, kind, mode, value, bound, throughput),
-            Part::Values => append_values(out, kind, mode, value, bound, throughput),
-            Part::UnitAlone => append_unit(out, kind, mode, value, bound, throughput),
-        }
+        let Unit { kind, mode } = &self.unit;
+        append_part(out, kind, self.part, *mode, self.amount)
     }
 }
 

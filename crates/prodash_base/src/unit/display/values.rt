@@ -1,9 +1,9 @@
 //! Values of any kind, with their bounds, units, percentages and throughputs, appended to a string.
 ghost use Rattle.std.specs.Prelude.{◌≡◌, OnOk, OnErr, string_bytes, IsOkUnless};
 ghost use Rattle.prodash_base.specs.Appending.{Appends, Pushes};
-ghost use Rattle.prodash_base.specs.Displays.{amount, same_location, percentage_at, throughput_at, percentage_before, throughput_before, percentage_after, throughput_after, bound_text, values_text, after_text, unit_text, spaced, all_text};
+ghost use Rattle.prodash_base.specs.Displays.{amount, same_location, percentage_at, throughput_at, placed_percentage, placed_throughput, text_at, bound_text, values_text, unit_text, spaced, all_text, part_text};
 
-use super::{Amount, Location, Mode, Throughput};
+use super::{Amount, Location, Mode, Part, Throughput};
 use crate::appending::{push_ascii, undo_if_refused};
 use crate::progress::Step;
 use crate::refusal::Refusal;
@@ -32,10 +32,7 @@ pub fn append<K: DisplayValue>(
     ensures err { OnErr result (string_bytes out.new ≡ string_bytes out.old) }
     ensures reason { IsOkUnless result Refusal.Memory }
 {
-    let length = out.len();
-    let appended = push_all(kind, out, mode, amount(value, bound, throughput));
-    undo_if_refused(out, length, appended)?;
-    Ok(())
+    append_part(out, kind, Part::All, mode, amount(value, bound, throughput))
 }
 
 /// Appends a value of any kind with its bound, after the percentage and the throughput if `mode`
@@ -59,10 +56,13 @@ pub fn append_values<K: DisplayValue>(
     ensures err { OnErr result (string_bytes out.new ≡ string_bytes out.old) }
     ensures reason { IsOkUnless result Refusal.Memory }
 {
-    let length = out.len();
-    let appended = push_values(kind, out, mode, amount(value, bound, throughput));
-    undo_if_refused(out, length, appended)?;
-    Ok(())
+    append_part(
+        out,
+        kind,
+        Part::Values,
+        mode,
+        amount(value, bound, throughput),
+    )
 }
 
 /// Appends the unit of a value of any kind, before the percentage and the throughput if `mode`
@@ -86,14 +86,45 @@ pub fn append_unit<K: DisplayValue>(
     ensures err { OnErr result (string_bytes out.new ≡ string_bytes out.old) }
     ensures reason { IsOkUnless result Refusal.Memory }
 {
+    append_part(
+        out,
+        kind,
+        Part::UnitAlone,
+        mode,
+        amount(value, bound, throughput),
+    )
+}
+
+/// Appends a part of a value of any kind, as the call for that part does.
+///
+/// # Errors
+///
+/// `Refusal::Memory` if out of memory. Then `out` is unchanged.
+#[inline(always)]
+pub(in crate::unit) fn append_part<K: DisplayValue>(
+    out: &mut String,
+    kind: &K,
+    part: Part,
+    mode: Option<Mode>,
+    amount: Amount,
+) -> Result<(), Refusal>
+    ensures ok { OnOk result
+        (Appends out.old (part_text part (K.shown kind.now) mode amount) out.new) }
+    ensures err { OnErr result (string_bytes out.new ≡ string_bytes out.old) }
+    ensures reason { IsOkUnless result Refusal.Memory }
+{
     let length = out.len();
-    let appended = push_unit(kind, out, mode, amount(value, bound, throughput));
+    let appended = push_part(kind, out, part, mode, amount);
     undo_if_refused(out, length, appended)?;
     Ok(())
 }
 
 /// Returns a value with its bound and its throughput.
-fn amount(value: Step, bound: Option<Step>, throughput: Option<Throughput>) -> Amount
+pub(in crate::unit) fn amount(
+    value: Step,
+    bound: Option<Step>,
+    throughput: Option<Throughput>,
+) -> Amount
     ensures { result ≡ amount value bound throughput }
 {
     Amount {
@@ -147,64 +178,75 @@ fn throughput_at(
     }
 }
 
-/// Appends a percentage and a space, if there is a percentage.
-fn push_percentage_before<K: DisplayValue>(
+/// Appends a percentage, if there is one, and the space beside it.
+fn push_percentage<K: DisplayValue>(
     kind: &K,
     out: &mut String,
+    location: Location,
     percentage: Option<u64>,
 ) -> Result<(), AllocError>
-    ensures { Pushes result out.old (percentage_before (K.shown kind.now) percentage) out.new }
+    ensures { Pushes result out.old
+        (placed_percentage (K.shown kind.now) location percentage) out.new }
 {
     let Some(percentage) = percentage else {
         return Ok(());
     };
-    kind.display_percentage(out, percentage)?;
-    push_ascii(out, b' ')
+    match location {
+        Location::BeforeValue => {
+            kind.display_percentage(out, percentage)?;
+            push_ascii(out, b' ')
+        }
+        Location::AfterUnit => {
+            push_ascii(out, b' ')?;
+            kind.display_percentage(out, percentage)
+        }
+    }
 }
 
-/// Appends a throughput and a space, if there is a throughput.
-fn push_throughput_before<K: DisplayValue>(
+/// Appends a throughput, if there is one, and the space beside it.
+fn push_throughput<K: DisplayValue>(
     kind: &K,
     out: &mut String,
+    location: Location,
     throughput: Option<Throughput>,
 ) -> Result<(), AllocError>
-    ensures { Pushes result out.old (throughput_before (K.shown kind.now) throughput) out.new }
+    ensures { Pushes result out.old
+        (placed_throughput (K.shown kind.now) location throughput) out.new }
 {
     let Some(throughput) = throughput else {
         return Ok(());
     };
-    kind.display_throughput(out, &throughput)?;
-    push_ascii(out, b' ')
+    match location {
+        Location::BeforeValue => {
+            kind.display_throughput(out, &throughput)?;
+            push_ascii(out, b' ')
+        }
+        Location::AfterUnit => {
+            push_ascii(out, b' ')?;
+            kind.display_throughput(out, &throughput)
+        }
+    }
 }
 
-/// Appends a space and a percentage, if there is a percentage.
-fn push_percentage_after<K: DisplayValue>(
+/// Appends the percentage and the throughput that are shown at a location.
+#[inline(always)]
+fn push_at<K: DisplayValue>(
     kind: &K,
     out: &mut String,
-    percentage: Option<u64>,
+    mode: Option<Mode>,
+    location: Location,
+    amount: Amount,
 ) -> Result<(), AllocError>
-    ensures { Pushes result out.old (percentage_after (K.shown kind.now) percentage) out.new }
+    ensures { Pushes result out.old (text_at (K.shown kind.now) mode location amount) out.new }
 {
-    let Some(percentage) = percentage else {
-        return Ok(());
-    };
-    push_ascii(out, b' ')?;
-    kind.display_percentage(out, percentage)
-}
-
-/// Appends a space and a throughput, if there is a throughput.
-fn push_throughput_after<K: DisplayValue>(
-    kind: &K,
-    out: &mut String,
-    throughput: Option<Throughput>,
-) -> Result<(), AllocError>
-    ensures { Pushes result out.old (throughput_after (K.shown kind.now) throughput) out.new }
-{
-    let Some(throughput) = throughput else {
-        return Ok(());
-    };
-    push_ascii(out, b' ')?;
-    kind.display_throughput(out, &throughput)
+    let percentage = percentage_at(mode, location, amount.value, amount.bound);
+    push_percentage(kind, out, location, percentage)?;
+    push_throughput(
+        kind,
+        out,
+        location,
+        throughput_at(mode, location, amount.throughput),
+    )
 }
 
 /// Appends the separator and the bound, if there is a bound.
@@ -246,28 +288,9 @@ fn push_values<K: DisplayValue>(
 ) -> Result<(), AllocError>
     ensures { Pushes result out.old (values_text (K.shown kind.now) mode amount) out.new }
 {
-    let before = Location::BeforeValue;
-    let (value, bound) = (amount.value, amount.bound);
-    push_percentage_before(kind, out, percentage_at(mode, before, value, bound))?;
-    push_throughput_before(kind, out, throughput_at(mode, before, amount.throughput))?;
-    push_value(kind, out, value, bound)?;
-    push_bound(kind, out, value, bound)
-}
-
-/// Appends what is shown after the unit.
-#[inline(always)]
-fn push_after<K: DisplayValue>(
-    kind: &K,
-    out: &mut String,
-    mode: Option<Mode>,
-    amount: Amount,
-) -> Result<(), AllocError>
-    ensures { Pushes result out.old (after_text (K.shown kind.now) mode amount) out.new }
-{
-    let after = Location::AfterUnit;
-    let percentage = percentage_at(mode, after, amount.value, amount.bound);
-    push_percentage_after(kind, out, percentage)?;
-    push_throughput_after(kind, out, throughput_at(mode, after, amount.throughput))
+    push_at(kind, out, mode, Location::BeforeValue, amount)?;
+    push_value(kind, out, amount.value, amount.bound)?;
+    push_bound(kind, out, amount.value, amount.bound)
 }
 
 /// Appends the unit, and what is shown after it.
@@ -281,7 +304,7 @@ fn push_unit<K: DisplayValue>(
     ensures { Pushes result out.old (unit_text (K.shown kind.now) mode amount) out.new }
 {
     kind.display_unit(out, amount.value)?;
-    push_after(kind, out, mode, amount)
+    push_at(kind, out, mode, Location::AfterUnit, amount)
 }
 
 /// Appends a space and the unit; nothing if the unit is empty.
@@ -313,5 +336,23 @@ fn push_all<K: DisplayValue>(
 {
     push_values(kind, out, mode, amount)?;
     push_spaced_unit(kind, out, amount.value)?;
-    push_after(kind, out, mode, amount)
+    push_at(kind, out, mode, Location::AfterUnit, amount)
+}
+
+/// Appends a part of a value.
+#[inline(always)]
+fn push_part<K: DisplayValue>(
+    kind: &K,
+    out: &mut String,
+    part: Part,
+    mode: Option<Mode>,
+    amount: Amount,
+) -> Result<(), AllocError>
+    ensures { Pushes result out.old (part_text part (K.shown kind.now) mode amount) out.new }
+{
+    match part {
+        Part::All => push_all(kind, out, mode, amount),
+        Part::Values => push_values(kind, out, mode, amount),
+        Part::UnitAlone => push_unit(kind, out, mode, amount),
+    }
 }

@@ -1,5 +1,0 @@
-use Rattle.prodash_base.proofs.Prefixes.{split_at_prefix}
-use Rattle.prodash_base.proofs.unit.display.values.append.Goals as goal
-
-pub undo_if_refused-requires : goal.undo_if_refused-requires
-undo_if_refused-requires g c = split_at_prefix c.args.out.now c.push_all-appended.new.out c.len-length.result c.push_all-appended.ensures.1 c.len-length.ensures
