@@ -3,7 +3,8 @@ use Rattle.std.specs.Prelude.{ℕ, List, Option}
 use Rattle.prodash_base.specs.declared.messages.MessageLevel.{MessageLevel}
 use Rattle.prodash_base.specs.declared.messages.MessageLevel.TheVariants.{Info}
 use Rattle.prodash_base.specs.declared.unit.units.Unit.{Unit}
-use Rattle.prodash_core.specs.Traits.{throughput_text, SendsThroughput}
+use Rattle.prodash_base.specs.ThroughputMessages.{done_message}
+use Rattle.prodash_core.specs.Traits.{SendsThroughput}
 use Rattle.prodash.specs.declared.progress.utils.reporter.Reporter.{Reporter}
 
 -- what it means that a message was sent from a progress: at a moment, with a severity and a text
@@ -17,7 +18,7 @@ SendsAtSomeMoment was_sent progress level text = (at : ℕ) × was_sent progress
 -- At some moment the progress sends how fast this many steps were done since `start`.
 abbrev pub ReportsSteps : {P : Type 0} → WasSent P → P → MessageLevel → Option Unit → ℕ → ℕ → Type 0
 ReportsSteps was_sent progress level unit step start =
-    (at : ℕ) × was_sent progress at level (throughput_text unit step start at)
+    (at : ℕ) × was_sent progress at level (done_message unit step start at)
 
 -- At some moment the progress sends how fast the steps that it may show were done since `start`.
 abbrev pub ReportsThroughput : {P : Type 0} → (P → ℕ → Type 0) → (P → Option Unit → Type 0)

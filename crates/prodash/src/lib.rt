@@ -64,6 +64,7 @@
 //! without a tree.
 #![tactic(auto)]
 
+pub mod laws;
 pub mod messages;
 pub mod progress;
 pub mod render;

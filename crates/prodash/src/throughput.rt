@@ -1,2 +1,2 @@
 //! The throughput of the tasks that a renderer draws.
-pub use prodash_base::throughput::{FrameThroughput, Throughput, rates_are_over_the_shortest_end};
+pub use prodash_base::throughput::{FrameThroughput, Throughput};

@@ -2,7 +2,6 @@
 mod system;
 
 pub use prodash_base::time::{
-    Clock, DATE_TIME_HMS, Moment, days_have_one_date, format_now_datetime_seconds,
-    format_time_for_messages,
+    Clock, DATE_TIME_HMS, Moment, format_now_datetime_seconds, format_time_for_messages,
 };
 pub use system::SystemClock;

@@ -12,7 +12,7 @@ use Rattle.std.proofs.lemmas.Cmp.{nat_list_cmp_total}
 use Rattle.std.proofs.lemmas.List.{take_more_set, drop_all}
 use Rattle.std.proofs.lemmas.List.Elements.{all_zip_more}
 use Rattle.prodash_base.specs.Path.{Path, path_cmp}
-use Rattle.prodash_base.specs.Summaries.{Summary, Summaries, Summarize, summary, summary_after}
+use Rattle.prodash_base.specs.plumbing.Summaries.{Summary, Summaries, Summarize, summary, summary_after}
 use Rattle.prodash_base.specs.Trackers.{Observations, observations_of, with_observation}
 use Rattle.prodash_base.specs.plumbing.KeptTables.{summary_of, entry_of, summaries_of, AreSorted, Keeps, KeepsBoth, before_of, with_entry, entries_before, IsKept, IsTakenBack, IsCopy, IsAt, IsNewAt}
 use Rattle.prodash_base.specs.declared.throughput.kept.Kept.{Kept}
@@ -175,7 +175,7 @@ keeps-more m kept new path o h sorted e = record {
 -- nothing was observed
 pub both-none : KeepsBoth finite.empty finite.empty false []
 both-none = record {
-  ahead_kept = record { sorted = tt; summaries = summarize-none };
+  pending_kept = record { sorted = tt; summaries = summarize-none };
   before_kept = λ path. sym (ap (λ (o : Option (List Observation)). summary (unwrap_or o [])) (finite.get-empty path_cmp path));
   settled = λ _. refl;
 }
@@ -183,19 +183,19 @@ both-none = record {
 -- all observations are kept
 pub both-kept : (m : Observations) (kept new : List Kept) → Keeps m kept → AllZip (λ k l. IsKept k l) kept new → KeepsBoth m m false new
 both-kept m kept new h z = record {
-  ahead_kept = keeps-same m kept new h (kept-entries kept new z);
+  pending_kept = keeps-same m kept new h (kept-entries kept new z);
   before_kept = λ path. ap (find path_cmp path) (kept-before kept new z) ∙ summarize-entries m kept h.summaries path;
   settled = λ _. refl;
 }
 
 -- and taken back
-pub both-taken : (before ahead : Observations) (is_pending : Bool) (kept new : List Kept) → KeepsBoth before ahead is_pending kept
+pub both-taken : (before pending : Observations) (is_pending : Bool) (kept new : List Kept) → KeepsBoth before pending is_pending kept
     → AllZip (λ k l. IsTakenBack k l) (filter (λ k. is_some (before_of k)) kept) new → KeepsBoth before before false new
-both-taken before ahead is_pending kept new h z =
+both-taken before pending is_pending kept new h z =
     let entries = taken-entries kept new z in
     record {
-      ahead_kept = record {
-        sorted = subst (λ (es : List (Path × Summary)). T (is_sorted path_cmp es)) (sym entries) (sorted-before kept h.ahead_kept.sorted);
+      pending_kept = record {
+        sorted = subst (λ (es : List (Path × Summary)). T (is_sorted path_cmp es)) (sym entries) (sorted-before kept h.pending_kept.sorted);
         summaries = λ path. get-from_entries nat_list_cmp_total (map entry_of new) path ∙ ap (find path_cmp path) entries ∙ h.before_kept path;
       };
       before_kept = λ path. ap (find path_cmp path) (taken-before (filter (λ k. is_some (before_of k)) kept) new z ∙ before-filter kept) ∙ h.before_kept path;
@@ -210,10 +210,10 @@ cloned-before (x ∷ kept) (y ∷ copies) h =
     let rest = cloned-before kept copies h.1 in
     λ i. with_entry (h.0.entry i).0 (h.0.before i) (rest i)
 
-pub both-cloned : (before ahead : Observations) (is_pending : Bool) (kept copies : List Kept) → KeepsBoth before ahead is_pending kept → AllZip (λ k l. IsCopy k l) kept copies
-    → KeepsBoth before ahead is_pending copies
-both-cloned before ahead is_pending kept copies h z = record {
-  ahead_kept = keeps-same ahead kept copies h.ahead_kept (entries-cloned kept copies z);
+pub both-cloned : (before pending : Observations) (is_pending : Bool) (kept copies : List Kept) → KeepsBoth before pending is_pending kept → AllZip (λ k l. IsCopy k l) kept copies
+    → KeepsBoth before pending is_pending copies
+both-cloned before pending is_pending kept copies h z = record {
+  pending_kept = keeps-same pending kept copies h.pending_kept (entries-cloned kept copies z);
   before_kept = λ path. ap (find path_cmp path) (cloned-before kept copies z) ∙ h.before_kept path;
   settled = h.settled;
 }

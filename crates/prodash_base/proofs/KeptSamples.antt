@@ -2,7 +2,7 @@
 use Rattle.std.proofs.Common.{◌≡◌, ℕ, suc, ◌+◌, ◌-◌, ◌<◌, ◌≤◌, Bool, true, false, cond, List, [], ◌∷◌, ◌++◌, Option, Some, refl, sym, ap, ◌∙◌, arith, length, take, drop, take_all, take-append-drop, length-drop, subst}
 use Rattle.std.specs.Prelude.{nat_lt}
 use Rattle.prodash_base.specs.Samples.{one_second, duration, rate_over, per_second}
-use Rattle.prodash_base.specs.Summaries.{Summary, next_summary}
+use Rattle.prodash_base.specs.plumbing.Summaries.{Summary, next_summary}
 use Rattle.prodash_base.specs.declared.throughput.sample.Observation.{Observation}
 use Rattle.prodash_base.specs.declared.throughput.sample.Sample.{Sample}
 use Rattle.prodash_base.specs.declared.throughput.totals.Totals.{Totals}

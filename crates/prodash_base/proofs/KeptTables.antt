@@ -12,7 +12,7 @@ use Rattle.std.specs.FinMap.Entries.{by_order, below_all, find-put, is_sorted-pu
 use Rattle.std.proofs.lemmas.Cmp.{nat_list_cmp_total, tied_itself}
 use Rattle.std.proofs.lemmas.List.Sorted.{searchable_from_sorted}
 use Rattle.prodash_base.specs.Path.{Path, path_cmp}
-use Rattle.prodash_base.specs.Summaries.{Summary}
+use Rattle.prodash_base.specs.plumbing.Summaries.{Summary}
 use Rattle.prodash_base.specs.plumbing.KeptTables.{summary_of, entry_of, summaries_of, AreSorted, IsCopy}
 use Rattle.prodash_base.specs.declared.throughput.kept.Kept.{Kept}
 use Rattle.prodash_base.proofs.BranchLaws.{turned}

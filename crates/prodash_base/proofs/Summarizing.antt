@@ -6,7 +6,7 @@ use Rattle.std.specs.BTreeMap.{is_at}
 use Rattle.std.specs.FinMap as finite
 use Rattle.prodash_base.specs.Path.{Path, path_cmp}
 use Rattle.prodash_base.specs.Samples.{one_second, duration, rate_over, per_second, samples_of, sample_of, after_mark, to_mark, rate_at, rate}
-use Rattle.prodash_base.specs.Summaries.{Summary, Summaries, Summarize, summary, summary_after}
+use Rattle.prodash_base.specs.plumbing.Summaries.{Summary, Summaries, Summarize, summary, summary_after}
 use Rattle.prodash_base.specs.Trackers.{Observations, observations_of}
 use Rattle.prodash_base.specs.declared.throughput.sample.Observation.{Observation}
 use Rattle.prodash_base.specs.declared.throughput.sample.Sample.{Sample}

@@ -6,7 +6,7 @@ use Rattle.prodash_base.specs.Numerals.{last_digits}
 use Rattle.prodash_base.specs.Quantities.{percentage_of, bytes_text, human_text, duration_text}
 use Rattle.prodash_base.specs.Shown.{Shown, label_shown, range_shown, bytes_shown, duration_shown, human_shown, label_fraction, throughput_text}
 use Rattle.prodash_base.specs.Displays.{amount, all_text, values_text, unit_text}
-use Rattle.prodash_base.specs.ThroughputMessages.{throughput_message, seconds_text}
+use Rattle.prodash_base.specs.ThroughputMessages.{message_text, seconds_text}
 use Rattle.prodash_base.specs.declared.unit.display.Mode.{Mode}
 use Rattle.prodash_base.specs.declared.unit.display.Throughput.{Throughput}
 use Rattle.prodash_base.specs.declared.unit.display.Location.TheVariants.{BeforeValue, AfterUnit}
@@ -149,15 +149,15 @@ pub at_most_six_decimals : human_text 200 2540000 ≡ codes "2.540000M"
 unfolding digits last_digits
 at_most_six_decimals = refl
 
-pub plain_message : throughput_message items 10 2_500_000_000 ≡ codes "done 10 items in 2.50s (4 items/s)"
+pub plain_message : message_text items 10 2_500_000_000 ≡ codes "done 10 items in 2.50s (4 items/s)"
 unfolding digits last_digits
 plain_message = refl
 
-pub bytes_message : throughput_message bytes_shown 1999 1_000_000_000 ≡ codes "done 1.9kB in 1.00s (1.9kB/s)"
+pub bytes_message : message_text bytes_shown 1999 1_000_000_000 ≡ codes "done 1.9kB in 1.00s (1.9kB/s)"
 unfolding digits last_digits
 bytes_message = refl
 
-pub message_of_no_time : throughput_message items 0 0 ≡ codes "done 0 items in 0.00s (0 items/s)"
+pub message_of_no_time : message_text items 0 0 ≡ codes "done 0 items in 0.00s (0 items/s)"
 unfolding digits last_digits
 message_of_no_time = refl
 

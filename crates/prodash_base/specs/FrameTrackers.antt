@@ -8,21 +8,21 @@ use Rattle.prodash_base.specs.Trackers.{Tracker, new_tracker, update_elapsed, re
 pub record FrameTracker : Type 0 where
   -- the tracker after the frames that were kept
   pub kept : Tracker
-  -- and after what the frame that is drawn has observed so far
-  pub ahead : Tracker
+  -- the tracker with what the frame being drawn has observed so far
+  pub pending : Tracker
 
 -- a tracker before its first frame
 abbrev pub new_frame_tracker : FrameTracker
-new_frame_tracker = record { kept = new_tracker; ahead = new_tracker }
+new_frame_tracker = record { kept = new_tracker; pending = new_tracker }
 
--- at the beginning of a frame, which takes back what a frame that wasn't kept has observed
+-- the tracker when a frame begins: what a frame that wasn't kept had observed is forgotten
 abbrev pub begin : FrameTracker → ℕ → FrameTracker
-begin t at = record { kept = t.kept; ahead = update_elapsed t.kept at }
+begin t at = record { kept = t.kept; pending = update_elapsed t.kept at }
 
--- after a value of a path
-abbrev pub observe_ahead : FrameTracker → Path → Option ℕ → FrameTracker
-observe_ahead t path value = record { kept = t.kept; ahead = trackers.observe t.ahead path value }
+-- the tracker after a value of a path
+abbrev pub observe_pending : FrameTracker → Path → Option ℕ → FrameTracker
+observe_pending t path value = record { kept = t.kept; pending = trackers.observe t.pending path value }
 
--- the tracker that keeps what was observed of the paths of these rows
+-- the tracker once the frame is kept, with the observations of these rows' paths alone
 abbrev pub keep : FrameTracker → List PathRow → FrameTracker
-keep t rows = record { kept = reconcile t.ahead rows; ahead = reconcile t.ahead rows }
+keep t rows = record { kept = reconcile t.pending rows; pending = reconcile t.pending rows }

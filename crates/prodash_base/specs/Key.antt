@@ -21,6 +21,7 @@ pub record IsKey (k : Inside) : Type 0 where
 abbrev pub key_of_path : Path → Inside
 key_of_path p = record { numbers = p ++ replicate (max_level - length p) 0; level = length p }
 
+-- a key is that of its path
 pub key_of_path-path_of_key : (k : Inside) → IsKey k → key_of_path (path_of_key k) ≡ k
 key_of_path-path_of_key k h =
     let level : length (take k.level k.numbers) ≡ k.level = length-take-le k.level k.numbers (omega arith) in

@@ -20,5 +20,4 @@ pub mod Moments
 pub mod Samples
 pub mod Trackers
 pub mod FrameTrackers
-pub mod Summaries
 pub mod plumbing

@@ -1,8 +1,7 @@
 -- Moments as dates and times of day in UTC. A moment is a number of nanoseconds since
 -- 1970-01-01T00:00:00.
-use Rattle.std.specs.Prelude.{◌≡◌, ℕ, zero, suc, ◌+◌, ◌-◌, ◌/◌, ◌%◌, ◌≤◌, nat_eq, Bool, not, ◌&&◌, ◌||◌, List, ◌++◌, codes, unsigned_abs, if◌then◌else◌}
+use Rattle.std.specs.Prelude.{◌≡◌, ℕ, zero, suc, ◌+◌, ◌-◌, ◌/◌, ◌%◌, ◌≤◌, nat_eq, Bool, not, ◌&&◌, ◌||◌, List, ◌++◌, codes, if◌then◌else◌}
 use Rattle.std.specs.Int.{IsInRange}
-use Rattle.jiff_core.specs.declared.civil.date.Date.{Date}
 use Rattle.prodash_base.specs.Numerals.{last_digits}
 
 -- the whole seconds of a number of nanoseconds, rounded down
@@ -47,10 +46,6 @@ pub record CalendarDate : Type 0 where
   pub year : ℕ
   pub month : ℕ
   pub day : ℕ
-
--- a date of `jiff` that is not before year 0
-abbrev pub calendar_date : Date → CalendarDate
-calendar_date d = record { year = unsigned_abs d.year; month = d.month; day = d.day }
 
 -- the days from 1970-01-01 to a date
 abbrev pub day_number : CalendarDate → ℕ

@@ -26,7 +26,17 @@ abbrev pub messages_since : Ring → Option ℕ → List Message
 messages_since r None = r.messages
 messages_since r (Some seen) = keep_last (r.pushed - seen) r.messages
 
--- the ring after the pushes of these messages
+-- the ring of these messages, which were pushed one after another
 abbrev pub ring_of : ℕ → List Message → Ring
 ring_of capacity all =
     record { capacity = capacity; messages = keep_last capacity all; pushed = length all }
+
+-- the messages of a copy of that ring, by a state that has seen the first `seen` pushes
+abbrev pub copied_since : ℕ → List Message → ℕ → List Message
+copied_since capacity all seen = messages_since (ring_of capacity all) (Some seen)
+
+-- the messages of a second copy, with the state of the first: `before` were pushed before the first,
+-- and `after` between the two
+abbrev pub copied_again : ℕ → List Message → List Message → List Message
+copied_again capacity before after =
+    messages_since (ring_of capacity (before ++ after)) (Some (ring_of capacity before).pushed)

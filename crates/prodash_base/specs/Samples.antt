@@ -31,10 +31,6 @@ abbrev pub samples_of : List Observation → List Sample
 samples_of [] = []
 samples_of (o ∷ older) = sample_of o older ∷ samples_of older
 
--- the samples of observations from an index on
-abbrev pub samples_from : ℕ → List Observation → List Sample
-samples_from index observations = drop index (samples_of observations)
-
 -- the samples after the last mark: the first sample is a mark, and so is each that takes more than a
 -- second together with those after the previous mark
 abbrev pub after_mark : List Sample → List Sample
@@ -71,9 +67,14 @@ rate_at (s ∷ older) = Some (rate_over (s ∷ older))
 abbrev pub rate : List Observation → Option ℕ
 rate observations = rate_at (to_mark (samples_of observations))
 
--- `part` is the shortest of the ends of the samples that take more than `span` nanoseconds
+-- `part` is the fewest of the latest samples that take more than `span` nanoseconds together
 pub record IsShortestOver (span : ℕ) (samples : List Sample) (part : List Sample) : Type 0 where
   pub older : List Sample
   pub is_end : samples ≡ part ++ older
   pub over : span < duration part
   pub least : (n : ℕ) → n < length part → duration (take n part) ≤ span
+
+-- samples that take more than a second have their rate over the fewest of the latest that do
+abbrev pub IsRatedOverShortest : List Sample → Type 0
+IsRatedOverShortest samples = one_second < duration samples
+    → IsShortestOver one_second samples (latest_over one_second samples)

@@ -7,8 +7,9 @@ use Rattle.std.specs.FinMap as finite
 use Rattle.prodash_base.specs.Numbers.{same_numbers}
 use Rattle.prodash_base.specs.Path.{Path, path_cmp}
 use Rattle.prodash_base.specs.Rows.{PathRow}
-use Rattle.prodash_base.specs.Samples.{one_second, rate}
+use Rattle.prodash_base.specs.Samples.{one_second, samples_of, after_mark, rate}
 use Rattle.prodash_base.specs.declared.throughput.sample.Observation.{Observation}
+use Rattle.prodash_base.specs.declared.throughput.sample.Sample.{Sample}
 use Rattle.prodash_base.specs.declared.unit.display.Throughput.{Throughput}
 
 -- from a path to all its observations, the latest first
@@ -48,6 +49,10 @@ observations_of m path = unwrap_or (finite.get m path) []
 abbrev pub with_observation : Observations → Path → Option Observation → Observations
 with_observation m path None = m
 with_observation m path (Some o) = finite.insert m path (o ∷ observations_of m path)
+
+-- the samples of a path after its last mark
+abbrev pub kept_samples : Observations → Path → List Sample
+kept_samples m path = after_mark (samples_of (observations_of m path))
 
 -- the rate of a path after one more observation; none without one
 abbrev pub rate_after : Observations → Path → Option Observation → Option ℕ

@@ -6,6 +6,9 @@ pub mod SameRows
 pub mod SameMessages
 pub mod Branches
 pub mod ObservationCodes
+pub mod Pushing
+pub mod Dates
 pub mod Changes
+pub mod Summaries
 pub mod KeptSamples
 pub mod KeptTables

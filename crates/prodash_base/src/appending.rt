@@ -1,9 +1,10 @@
 //! Texts and numerals that are appended to a string.
 //!
-//! A call named `push_..` may have appended a part of its text if it is out of memory: what was in
-//! the string is a prefix of what is in it then. A call named `append_..` appends all or nothing.
+//! A call named `push_..` that runs out of memory may have appended a part of its text, and leaves
+//! what the string held before. A call named `append_..` appends its whole text or nothing.
 ghost use Rattle.std.specs.Prelude.{◌≡◌, ◌+◌, ◌*◌, ◌/◌, ◌%◌, ◌^◌, ◌<◌, ◌≤◌, ◌∷◌, [], max, min, OnOk, OnErr, string_bytes, take};
-ghost use Rattle.prodash_base.specs.Appending.{Appends, Pushes};
+ghost use Rattle.prodash_base.specs.Appending.{Appends};
+ghost use Rattle.prodash_base.specs.plumbing.Pushing.{Pushes};
 ghost use Rattle.std.specs.Fmt.{decimal};
 ghost use Rattle.std.specs.String.Boundary.{IsSplitPoint};
 ghost use Rattle.prodash_base.specs.Numerals.{last_digits, without_zeros, after_point, cut, fraction_text};
@@ -51,7 +52,7 @@ pub(crate) fn push_decimal(out: &mut String, n: u64) -> Result<(), AllocError>
     push_text(out, Buffer::new().format(n))
 }
 
-/// Appends a number in decimal digits, or nothing.
+/// Appends a number in decimal digits, or nothing if out of memory.
 #[inline(always)]
 pub(crate) fn append_decimal(out: &mut String, n: u128) -> Result<(), AllocError>
     ensures ok { OnOk result (Appends out.old (decimal n) out.new) }

@@ -3,6 +3,7 @@
 #![tactic(auto)]
 
 mod appending;
+pub mod laws;
 pub mod messages;
 pub mod progress;
 mod refusal;

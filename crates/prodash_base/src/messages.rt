@@ -5,10 +5,7 @@ mod ring;
 use crate::text::Text;
 use crate::time::Moment;
 pub use list::Messages;
-pub use ring::{
-    MessageCopyState, MessageRingBuffer, copies_give_what_is_new, no_push_is_given_twice,
-    rings_keep_the_last,
-};
+pub use ring::{MessageCopyState, MessageRingBuffer};
 use std::fmt;
 
 /// How severe a message is.

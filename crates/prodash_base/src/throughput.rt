@@ -1,11 +1,9 @@
 //! The throughput of the tasks that a renderer draws.
-ghost use Rattle.std.specs.Prelude.{◌≡◌, ◌<◌, ◌≤◌, List, length, OnOk, OnErr, IfOk, IsSome, IsOkUnless};
+ghost use Rattle.std.specs.Prelude.{◌≡◌, ◌≤◌, length, OnOk, OnErr, IfOk, IsSome, IsOkUnless};
 ghost use Rattle.std.specs.Map.{keys_of};
 ghost use Rattle.prodash_base.specs.Rows.{rows_of};
-ghost use Rattle.prodash_base.specs.Samples.{one_second, duration, latest_over, IsShortestOver};
-ghost use Rattle.prodash_base.specs.Trackers.{new_tracker, elapsed_since, update_elapsed, observation_of, observe, throughput_of, reconcile, KeepsOnly};
-ghost use Rattle.prodash_base.specs.Summaries.{kept_samples};
-ghost use Rattle.prodash_base.specs.declared.throughput.sample.Sample.{Sample};
+ghost use Rattle.prodash_base.specs.Samples.{one_second, duration};
+ghost use Rattle.prodash_base.specs.Trackers.{new_tracker, elapsed_since, update_elapsed, observation_of, observe, throughput_of, kept_samples, reconcile, KeepsOnly};
 
 mod frames;
 mod history;
@@ -34,8 +32,8 @@ use std::marker::Model;
 ///
 /// The first observation of a key is a mark, and so is each one that comes more than a second after
 /// the previous mark. The throughput changes at marks only: it is the rise over the fewest of the
-/// latest observations that take more than a second together. From one moment to the next no
-/// samples of a key are kept but those after its last mark.
+/// latest observations that together take more than a second. Between two moments only the samples
+/// after the last mark of a key are kept.
 ///
 /// ```rust
 /// let mut tracker = Throughput::new(alloc);
@@ -52,7 +50,7 @@ pub struct Throughput {
     elapsed: Option<u64>,
     /// What is kept of each key, sorted by key.
     kept: Vec<Kept>,
-    /// Where the next key is looked for first.
+    /// The index at which the next key is expected.
     next: usize,
     /// All observations of these keys.
     history: History,
@@ -109,8 +107,8 @@ impl Throughput {
         })
     }
 
-    /// Sets the moment of the values that are observed next. The elapsed time is that since the
-    /// previous moment. There is none at the first moment, or if the clock went back.
+    /// Sets the moment of the values that are observed next, and the elapsed time since the previous
+    /// moment. There is no elapsed time at the first moment, or if the clock went back.
     pub fn update_elapsed(&mut self, at: Moment)
         ensures { self.new ≡ update_elapsed self.old at }
     {
@@ -149,8 +147,7 @@ impl Throughput {
         Ok(rate.map(|change| display::Throughput::new(change, ONE_SECOND)))
     }
 
-    /// Returns the number of samples that the next throughputs of a key need, which are those after
-    /// its last mark.
+    /// Returns how many samples of a key are kept, which are those after its last mark.
     pub fn kept_samples(&self, key: &Key) -> usize
         ensures { result ≡ length (kept_samples self.now.observations key.now) }
     {
@@ -197,10 +194,3 @@ fn observation_of(elapsed: Option<u64>, value: Option<Step>) -> Option<Observati
         _ => None,
     }
 }
-
-/// A law of rates: a rate is measured over the shortest of the ends of the samples that take more
-/// than a second.
-pub fn rates_are_over_the_shortest_end()
-    ensures { (samples : List Sample) → one_second < duration samples
-        → IsShortestOver one_second samples (latest_over one_second samples) }
-{}

@@ -1,8 +1,9 @@
 //! Moments, clocks, and moments as texts.
-ghost use Rattle.std.specs.Prelude.{◌≡◌, ℕ, ◌/◌, pos, length, unsigned_abs, OnOk, IfOk, string_bytes, IsOkUnless};
-ghost use Rattle.prodash_base.specs.Appending.{Pushes};
+ghost use Rattle.std.specs.Prelude.{◌≡◌, ◌/◌, pos, length, unsigned_abs, OnOk, IfOk, string_bytes, IsOkUnless};
+ghost use Rattle.prodash_base.specs.plumbing.Pushing.{Pushes};
+ghost use Rattle.prodash_base.specs.plumbing.Dates.{calendar_date};
 ghost use Rattle.jiff_core.specs.Date.{epoch_day};
-ghost use Rattle.prodash_base.specs.Moments.{HasOneDate, IsDateTimeText, calendar_date, seconds_of, day_of, date_text, clock_text, time_text};
+ghost use Rattle.prodash_base.specs.Moments.{IsDateTimeText, seconds_of, day_of, date_text, clock_text, time_text};
 
 use crate::appending::{push_ascii, push_last_digits};
 use crate::refusal::Refusal;
@@ -15,13 +16,13 @@ pub type Moment = u64;
 /// The length in bytes of the text of a time of day, such as `23:34:33`.
 pub const DATE_TIME_HMS: usize = 8;
 
-/// Tells the time and waits. Contracts say neither which moment a clock returns nor how long it
-/// waits.
+/// Tells the time and sleeps. Contracts say neither which moment a clock returns nor how long it
+/// sleeps.
 pub trait Clock {
     /// Returns the moment now.
     fn now(&self) -> Moment;
 
-    /// Waits for `nanoseconds`.
+    /// Sleeps for `nanoseconds`.
     fn sleep(&self, nanoseconds: u64);
 }
 
@@ -87,8 +88,3 @@ fn push_clock(out: &mut String, seconds: u64) -> Result<(), AllocError>
     push_ascii(out, b':')?;
     push_last_digits(out, 2, u128::from(seconds % 60))
 }
-
-/// A law of dates: no two dates have one day number.
-pub fn days_have_one_date()
-    ensures { (number : ℕ) → HasOneDate number }
-{}

@@ -8,7 +8,8 @@ use Rattle.prodash_base.specs.Path.{Path, child}
 use Rattle.prodash_base.specs.Rings.{Ring}
 use Rattle.prodash_core.specs.Tables.{new_entry, Table}
 use Rattle.prodash_core.specs.declared.tree.slot.Slot.{Slot}
-use Rattle.prodash_core.specs.Trees.{Tree, Outcome, if_valid, or_gone, new_slot, with_child, add_child, for_slot, with_handle}
+use Rattle.prodash_core.specs.Trees.{Tree, Outcome, if_valid, new_slot, with_child, add_child, for_slot, with_handle}
+use Rattle.prodash_core.specs.plumbing.Handles.{or_gone}
 use Rattle.prodash_core.specs.declared.tree.event.Reply.TheVariants as replies
 
 found : (o : Option Slot) (slot : Slot) → Ok slot ≡ or_gone o → o ≡ Some slot

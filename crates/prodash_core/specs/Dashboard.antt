@@ -65,9 +65,11 @@ down n offset = min (offset + n) 65535
 abbrev pub up : ℕ → ℕ → ℕ
 up n offset = offset - n
 
+-- the messages scrolled
 abbrev pub scroll_messages : (ℕ → ℕ) → State → State
 scroll_messages move s = record s { message_offset = move s.message_offset }
 
+-- the tasks scrolled
 abbrev pub scroll_tasks : (ℕ → ℕ) → State → State
 scroll_tasks move s = record s { task_offset = move s.task_offset }
 
@@ -88,6 +90,7 @@ key_effects =
     ∷ ("u", scroll_tasks (up 10))
     ∷ []
 
+-- what a key does, if it does something
 abbrev pub key_effect : KeyCode → Option (State → State)
 key_effect (Character c) = option_map (λ row. row.1) (find (λ row. code row.0 == c) key_effects)
 key_effect Esc = None
@@ -100,11 +103,12 @@ interrupts_by (Character c) control =
     (c == code "q") || (control && ((c == code "c") || (c == code "[")))
 interrupts_by Other control = false
 
--- whether requests to interrupt are deferred, and whether there was one since then
+-- whether requests to interrupt are deferred
 abbrev pub is_deferred : InterruptMode → Bool
 is_deferred Instantly = false
 is_deferred (Deferred requested) = true
 
+-- whether there was a request since they are deferred
 abbrev pub is_requested : InterruptMode → Bool
 is_requested Instantly = false
 is_requested (Deferred requested) = requested

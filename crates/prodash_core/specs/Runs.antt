@@ -29,6 +29,7 @@ result_of replies.Ended = Ok answers.Ended
 result_of (replies.Refused refusal) = Err refusal
 result_of _ = Err refusals.Memory
 
+-- the session after an event with this effect and reply
 abbrev pub next_by : Effect → SessionState → Reply → SessionState
 next_by (OnTree memory outcome) w reply =
     if is_memory reply then w else record w { tree = tree_after w.tree outcome }
@@ -105,6 +106,7 @@ abbrev pub sent_by : Tree → Event → List Message
 sent_by t (events.Message n at level text) = sent_from t (item_at t n) at level text
 sent_by t _ = []
 
+-- the test of the reply `Done`
 abbrev pub is_done : Reply → Bool
 is_done replies.Done = true
 is_done _ = false
@@ -123,6 +125,7 @@ KeepsMessages options es rs =
     ≡ ring_of options.root.message_buffer_capacity
     (accepted_messages (new_session options) (take j es) (take j rs))
 
+-- what a frame with this effect and reply renders; nothing for another event
 abbrev pub rendering_by : Effect → SessionState → Reply → List Rendering
 rendering_by (OnTree memory outcome) w reply = []
 rendering_by (OnRenderer input) w reply =
@@ -135,6 +138,7 @@ renderings_from w (e ∷ es) [] = []
 renderings_from w (e ∷ es) (r ∷ rs) =
     rendering_by (effect_of w.tree e) w r ++ renderings_from (next_session w e r) es rs
 
+-- the same for a new session
 abbrev pub renderings_of : SessionOptions → List Event → List Reply → List Rendering
 renderings_of options es rs = renderings_from (new_session options) es rs
 

@@ -13,6 +13,7 @@ use Rattle.prodash_core.specs.declared.tree.event.Event.{Event}
 use Rattle.prodash_core.specs.declared.tree.event.Reply.{Reply}
 use Rattle.prodash_core.specs.declared.tree.event.Reply.TheVariants as replies
 
+-- the tree and the renderer of a session
 pub record SessionState : Type 0 where
   pub tree : Tree
   pub renderer : Renderer
@@ -23,14 +24,6 @@ new_session options = record {
   tree = new_tree options.root.message_buffer_capacity;
   renderer = new_renderer options.draw options.throughput;
 }
-
-abbrev pub input_by : SessionState → Effect → Option Input
-input_by w (OnTree memory outcome) = None
-input_by w (OnRenderer input) = Some (input w.renderer.seen)
-
--- the input for the renderer, if the event is a frame
-abbrev pub input_at : SessionState → Event → Option Input
-input_at w e = input_by w (effect_of w.tree e)
 
 -- the reply with what the renderer returned
 abbrev pub frame_reply : Result Answer Refusal → Reply
@@ -78,12 +71,14 @@ abbrev pub is_memory : Reply → Bool
 is_memory (replies.Refused refusals.Memory) = true
 is_memory _ = false
 
+-- an event on the tree: it is applied, or runs out of memory if that is the reply
 abbrev pub StepsOnTree : SessionState → ScreenState → Bool → Outcome → Reply → SessionState
     → ScreenState → Type 0
 StepsOnTree w s memory outcome reply w' s' =
     MatchBool (is_memory reply) (RunsOutOfMemory w s memory outcome w' s')
     (AppliesToTree w s outcome reply w' s')
 
+-- the step of an event with this effect
 abbrev pub StepsBy : Effect → SessionState → ScreenState → Reply → SessionState → ScreenState
     → Type 0
 StepsBy (OnTree memory outcome) w s reply w' s' = StepsOnTree w s memory outcome reply w' s'

@@ -6,12 +6,10 @@ use Rattle.std.specs.Option.{option_map, option_and_then, option_map_or}
 use Rattle.std.specs.FinMap as finite
 use Rattle.prodash_base.specs.Path.{Path, path_cmp}
 use Rattle.prodash_base.specs.Adjacency.{IsAscending}
-use Rattle.prodash_base.specs.Rows.{Entry, Progress, Phase, RowProgress, PathRow, phase_of, progress_of, rows_of, unknown_id}
+use Rattle.prodash_base.specs.Rows.{Entry, Progress, Phase, RowProgress, PathRow, phase_of, unknown_id}
 use Rattle.prodash_base.specs.Rows as phases
 use Rattle.prodash_base.specs.Units.{measure_of}
 use Rattle.prodash_base.specs.declared.unit.units.Unit.{Unit}
-use Rattle.prodash_base.specs.declared.progress.Row.{Row}
-use Rattle.prodash_base.specs.declared.progress.Value.{Value}
 use Rattle.prodash_core.specs.declared.tree.table.Task.{Task}
 use Rattle.prodash_core.specs.declared.tree.table.Counted.{Counted}
 
@@ -37,16 +35,20 @@ new_progress counter None None = None
 new_progress counter max unit =
     Some (record { counter = counter; bound = max; unit = unit; phase = phases.Running })
 
+-- the progress of a task, as definitions have it
 abbrev pub counted_of : {C : Type 0} → Counted C → TaskProgress C
 counted_of p =
     record { counter = p.counter; bound = p.done_at; unit = p.unit; phase = phase_of p.state }
 
+-- the entry of a task
 abbrev pub entry_of : {C : Type 0} → Task C → TaskEntry C
 entry_of t = record { name = t.name; id = t.id; progress = option_map counted_of t.progress }
 
+-- a path with the entry of its task
 abbrev pub pair_of : {C : Type 0} → Path × Task C → Path × TaskEntry C
 pair_of e = (e.0, entry_of e.1)
 
+-- the table with a change of the entry that was found at a path, if one was
 abbrev pub change_found : {C : Type 0} → Table C → Path → (TaskEntry C → TaskEntry C) → Option (TaskEntry C)
     → Table C
 change_found m path f None = m
@@ -103,11 +105,6 @@ ProgressShows shows None shown = shown ≡ None
 ProgressShows shows (Some p) shown =
     (number : ℕ) × shows p.counter number × (shown ≡ Some (progress_at number p))
 
--- the value that a row shows is that of the task's progress
-abbrev pub ValueShows : {C : Type 0} → (C → ℕ → Type 0) → Option (Counted C) → Option Value → Type 0
-ValueShows shows progress value =
-    ProgressShows shows (option_map counted_of progress) (option_map progress_of value)
-
 -- a row shows a path and its entry
 pub record RowShows {C : Type 0} (shows : C → ℕ → Type 0) (e : Path × TaskEntry C) (row : PathRow)
     : Type 0 where
@@ -115,10 +112,6 @@ pub record RowShows {C : Type 0} (shows : C → ℕ → Type 0) (e : Path × Tas
   pub name : row.1.name ≡ e.1.name
   pub id : row.1.id ≡ e.1.id
   pub progress : ProgressShows shows e.1.progress row.1.progress
-
--- the rows show these tasks, in their order
-abbrev pub RowsShowTasks : {C : Type 0} → (C → ℕ → Type 0) → List (Path × Task C) → List Row → Type 0
-RowsShowTasks shows tasks rows = AllZip (RowShows shows) (map pair_of tasks) (rows_of rows)
 
 -- the rows show the entries, in the order of their paths
 abbrev pub RowsShow : {C : Type 0} → (C → ℕ → Type 0) → Table C → List PathRow → Type 0

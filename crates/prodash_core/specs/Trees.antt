@@ -39,6 +39,7 @@ abbrev pub new_tree : ℕ → Tree
 new_tree capacity =
     record { table = finite.empty; slots = new_slot [] ∷ []; ring = new_ring capacity }
 
+-- the slot, if its handle is valid
 abbrev pub if_valid : Option Slot → Option Slot
 if_valid None = None
 if_valid (Some slot) = if slot.is_valid then Some slot else None
@@ -56,6 +57,7 @@ abbrev pub counter_of : Option Slot → ℕ
 counter_of None = 0
 counter_of (Some slot) = slot.counter
 
+-- the number of the counter of a handle
 abbrev pub counter_at : List Slot → ℕ → ℕ
 counter_at slots n = counter_of (slice_get slots n)
 
@@ -63,13 +65,7 @@ counter_at slots n = counter_of (slice_get slots n)
 abbrev pub tree_rows : Tree → List PathRow
 tree_rows t = rows_at (counter_at t.slots) t.table
 
--- the slot of a valid handle is changed, and nothing if the handle isn't valid
-abbrev pub SetsSlot : List Slot → ℕ → (Slot → Slot) → Bool → List Slot → Type 0
-SetsSlot slots n f found after =
-    MatchOption (if_valid (slice_get slots n)) ((found ≡ false) × (after ≡ slots))
-    (λ slot. (found ≡ true) × (after ≡ slice_set slots n (f slot)))
-
--- the slot after it got a child
+-- the slot after a child was added to it
 abbrev pub with_child : Slot → Slot
 with_child slot = record slot { next_child = next_id slot.next_child }
 
@@ -100,6 +96,7 @@ abbrev pub set_counter : Tree → ℕ → Slot → ℕ → Tree
 set_counter t n slot step =
     record t { slots = slice_set t.slots n (record slot { counter = step }) }
 
+-- the entry of a slot begins its progress, and the counter is 0; nothing without an entry
 abbrev pub init_at : Tree → ℕ → Slot → Option ℕ → Option Unit → Option (TaskEntry ℕ) → Tree
 init_at t n slot max unit None = t
 init_at t n slot max unit (Some e) = record (set_counter t n slot 0) {
@@ -119,7 +116,7 @@ name_of (Some e) = e.name
 abbrev pub message_by : Tree → Slot → ℕ → MessageLevel → List ℕ → Message
 message_by t slot at level text = message_of at level (name_of (entry_at t slot)) text
 
--- the counter of the handle n is higher by this step, modulo 2^64
+-- the counter of the handle n is raised by this step, modulo 2^64
 abbrev pub inc_counter : Tree → ℕ → Slot → ℕ → Tree
 inc_counter t n slot step = set_counter t n slot ((slot.counter + step) % 2 ^ 64)
 
@@ -137,29 +134,27 @@ push_message t m =
 abbrev pub drop_root : Tree → Slot → Tree
 drop_root t slot = record t { slots = slice_set t.slots 0 (record slot { is_valid = false }) }
 
+-- the same with the root's slot, if it has one
 abbrev pub snapshot_by : Option Slot → Tree → Option ℕ → Seen
 snapshot_by None t previous = None
 snapshot_by (Some root) t previous =
     Some (tree_rows t, messages_since t.ring previous, t.ring.pushed)
 
--- what a frame sees: the rows, the messages since as many pushes, and how many pushes there were;
+-- what a frame sees: the rows, the messages since `previous` pushes, and the number of pushes;
 -- nothing without a root
 abbrev pub snapshot_of : Tree → Option ℕ → Seen
 snapshot_of t previous = snapshot_by (slot_at t 0) t previous
 
--- the slot, or the refusal if there is none
-abbrev pub or_gone : Option Slot → Result Slot Refusal
-or_gone None = Err refusals.Gone
-or_gone (Some slot) = Ok slot
-
+-- what an event on a slot does; without one the event is refused
 abbrev pub for_slot : Option Slot → (Slot → Outcome) → Outcome
 for_slot None f = Err refusals.Gone
 for_slot (Some slot) f = f slot
 
--- an event on a handle, and one on an item: refused if the handle isn't valid
+-- an event on a handle, which is refused if the handle isn't valid
 abbrev pub with_handle : Tree → ℕ → (Slot → Outcome) → Outcome
 with_handle t n f = for_slot (slot_at t n) f
 
+-- an event on an item, which is refused if it is the root or its handle isn't valid
 abbrev pub with_item : Tree → ℕ → (Slot → Outcome) → Outcome
 with_item t n f = for_slot (item_at t n) f
 
@@ -257,8 +252,3 @@ AppliesEffect (OnRenderer input) t result t' = ⊥
 -- applied to a tree, an event that is no frame returns this result and leaves this tree
 abbrev pub Applies : Tree → Event → Result Reply Refusal → Tree → Type 0
 Applies t e result t' = AppliesEffect (effect_of t e) t result t'
-
--- what an event returns whose reply is `Done`, if it isn't refused
-abbrev pub done_if_ok : {A : Type 0} → Result A Refusal → Result Reply Refusal
-done_if_ok (Ok x) = Ok replies.Done
-done_if_ok (Err refusal) = Err refusal

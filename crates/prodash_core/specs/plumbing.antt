@@ -1,1 +1,5 @@
 pub mod MissingNames
+pub mod Handles
+pub mod Inputs
+pub mod MessageRefusals
+pub mod TaskRows

@@ -2,6 +2,7 @@
 //! a dashboard; and the traits of progress.
 #![tactic(auto)]
 
+pub mod laws;
 pub mod render;
 pub mod traits;
 pub mod tree;

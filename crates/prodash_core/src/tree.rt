@@ -1,10 +1,10 @@
 //! The tree of tasks, sessions of events on it, and whole runs.
 mod event;
+mod handles;
 mod options;
 mod runs;
 mod session;
 mod slot;
-mod slots;
 mod state;
 mod table;
 

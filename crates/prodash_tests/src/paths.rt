@@ -7,10 +7,17 @@ mod top {
     };
 }
 
+mod laws {
+    pub use prodash::laws::{
+        copies_have_what_is_new, days_have_one_date, deferred_requests_wait,
+        no_message_is_copied_twice, one_spelling, rates_are_over_the_latest_second,
+        rings_keep_the_last,
+    };
+}
+
 mod messages {
     pub use prodash::messages::{
         Message, MessageCopyState, MessageLevel, MessageRingBuffer, Messages,
-        copies_give_what_is_new, no_push_is_given_twice, rings_keep_the_last,
     };
 }
 
@@ -53,25 +60,23 @@ mod engine {
 }
 
 mod page {
-    pub use prodash::render::line::page::{
-        Color, Fault, Page, Sign, Style, one_spelling, read, spell,
-    };
+    pub use prodash::render::line::page::{Color, Fault, Page, Sign, Style, read, spell};
 }
 
 mod tui {
     pub use prodash::render::tui::{
         Answer, Event, Interrupt, InterruptMode, Key, KeyCode, Line, Options, Rect, State,
-        VERTICAL_LINE, deferred_requests_wait, level_prefix,
+        VERTICAL_LINE, level_prefix,
     };
 }
 
 mod throughput {
-    pub use prodash::throughput::{FrameThroughput, Throughput, rates_are_over_the_shortest_end};
+    pub use prodash::throughput::{FrameThroughput, Throughput};
 }
 
 mod time {
     pub use prodash::time::{
-        Clock, DATE_TIME_HMS, Moment, SystemClock, days_have_one_date, format_now_datetime_seconds,
+        Clock, DATE_TIME_HMS, Moment, SystemClock, format_now_datetime_seconds,
         format_time_for_messages,
     };
 }

@@ -1,4 +1,4 @@
--- The observations with what is observed.
+-- The observations after one more, if there is one.
 use Rattle.std.specs.Prelude.{Some}
 use Rattle.prodash_base.specs.Trackers.{Observations, with_observation}
 use Rattle.prodash_base.specs.declared.throughput.history.Change.{Change}

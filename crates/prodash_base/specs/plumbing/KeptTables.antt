@@ -1,26 +1,37 @@
 -- A list of what is kept of each key, as the map that it is seen as.
-use Rattle.std.specs.Prelude.{◌≡◌, ℕ, T, ◌<◌, ◌≤◌, List, [], ◌∷◌, Bool, false, map, length, true, Option, Some, None, IfSome, slice_index_or}
-use Rattle.std.specs.List.{AllAdjacentBelow}
+use Rattle.std.specs.Prelude.{◌≡◌, ℕ, T, ◌<◌, ◌≤◌, List, [], ◌∷◌, Bool, false, map, length, true, Option, Some, None, IfSome, is_some, slice_set, slice_index_or}
+use Rattle.std.specs.List.{AllAdjacentBelow, filter}
 use Rattle.std.specs.List.Sorted.{IsPartitionPoint}
 use Rattle.std.specs.Option.{option_map}
 use Rattle.std.specs.Ordering.{is_le}
 use Rattle.std.specs.declared.cmp.Ordering.TheVariants.{Less, Greater}
 use Rattle.std.specs.FinMap as finite
 use Rattle.prodash_base.specs.Path.{Path, path_cmp}
-use Rattle.prodash_base.specs.Summaries.{Summary, Summaries, Summarize, summary}
+use Rattle.prodash_base.specs.plumbing.Summaries.{Summary, Summaries, Summarize, summary, next_summary, summary_after}
 use Rattle.prodash_base.specs.Trackers.{Observations, observations_of}
 use Rattle.prodash_base.specs.declared.progress.Row.{Row}
 use Rattle.prodash_base.specs.declared.throughput.kept.Kept.{Kept}
+use Rattle.prodash_base.specs.declared.throughput.sample.Observation.{Observation}
 use Rattle.prodash_base.specs.plumbing.KeptSamples.{summary_at, earliest}
 
+-- what is kept of a key
 abbrev pub summary_of : Kept → Summary
 summary_of k = summary_at k.latest k.samples.items
 
 abbrev pub entry_of : Kept → Path × Summary
 entry_of k = (k.key, summary_of k)
 
+-- what is kept of all keys
 abbrev pub summaries_of : List Kept → Summaries
 summaries_of kept = finite.from_entries (map entry_of kept)
+
+-- what is kept of a key after one more observation
+abbrev pub summary_with : List Kept → Path → Observation → Summary
+summary_with kept key o = summary_after (finite.get (summaries_of kept) key) o
+
+-- what is kept of all keys after one more observation of a key
+abbrev pub summaries_with : List Kept → Path → Observation → Summaries
+summaries_with kept key o = finite.insert (summaries_of kept) key (summary_with kept key o)
 
 -- the keys strictly ascend
 abbrev pub AreSorted : List Kept → Type 0
@@ -39,16 +50,16 @@ abbrev pub with_entry : Path → Option Summary → List (Path × Summary) → L
 with_entry key None entries = entries
 with_entry key (Some s) entries = (key, s) ∷ entries
 
--- that of all keys
+-- the same of all keys
 abbrev pub entries_before : List Kept → List (Path × Summary)
 entries_before [] = []
 entries_before (k ∷ kept) = with_entry k.key (before_of k) (entries_before kept)
 
 -- what is kept of these observations, and of those that were kept last, which are the same if none is pending
-pub record KeepsBoth (before ahead : Observations) (is_pending : Bool) (kept : List Kept) : Type 0 where
-  pub ahead_kept : Keeps ahead kept
+pub record KeepsBoth (before pending : Observations) (is_pending : Bool) (kept : List Kept) : Type 0 where
+  pub pending_kept : Keeps pending kept
   pub before_kept : (path : Path) → finite.find path_cmp path (entries_before kept) ≡ summary (observations_of before path)
-  pub settled : is_pending ≡ false → ahead ≡ before
+  pub settled : is_pending ≡ false → pending ≡ before
 
 -- the observations of a key are kept
 pub record IsKept (old new : Kept) : Type 0 where
@@ -76,6 +87,33 @@ pub record IsAt (kept : List Kept) (key : Path) (index : ℕ) : Type 0 where
 pub record IsNewAt (kept : List Kept) (key : Path) (index : ℕ) : Type 0 where
   pub within : index ≤ length kept
   pub place : IsPartitionPoint (λ k. path_cmp k.key key ≡ Less) (λ k. path_cmp k.key key ≡ Greater) kept index
+
+-- the list changes at an index alone, where the key stays, and what was kept before
+pub record ChangesAt (index : ℕ) (old new : List Kept) : Type 0 where
+  pub set : (d : Kept) → new ≡ slice_set old index (slice_index_or new index d)
+  pub key : (d : Kept) → (slice_index_or new index d).key ≡ (slice_index_or old index d).key
+  pub before : (d : Kept) → before_of (slice_index_or new index d) ≡ before_of (slice_index_or old index d)
+
+-- the summary of the key at an index after one more observation
+abbrev pub next_at : ℕ → List Kept → Observation → Kept → Summary
+next_at index kept o d = next_summary (summary_of (slice_index_or kept index d)) o
+
+-- the rate of the key at an index after one more observation
+abbrev pub IsRateAt : ℕ → List Kept → Observation → Option ℕ → Type 0
+IsRateAt index kept o rate = (d : Kept) → rate ≡ (next_at index kept o d).rate
+
+-- one more observation is added to the key at an index
+abbrev pub AddsAt : ℕ → Observation → List Kept → List Kept → Type 0
+AddsAt index o old new = (d : Kept) → summary_of (slice_index_or new index d) ≡ next_at index old o d
+
+-- the summary of the key at an index stays
+abbrev pub KeepsSummaryAt : ℕ → List Kept → List Kept → Type 0
+KeepsSummaryAt index old new =
+    (d : Kept) → summary_of (slice_index_or new index d) ≡ summary_of (slice_index_or old index d)
+
+-- those keys of which observations were kept before
+abbrev pub kept_before : List Kept → List Kept
+kept_before = filter (λ k. is_some (before_of k))
 
 -- no row has a key that is less than that of the row before it
 abbrev pub NeverDescends : List Row → Type 0

@@ -17,29 +17,11 @@ quantity_itself a = search (rules, itself texts, itself numbers)
 quantities : IsEqualityTest same_quantity
 quantities = by_cases quantity_sound quantity_itself
 
-bool_sound : (a b : Bool) → beq a b ≡ true → a ≡ b
-bool_sound true true h = refl
-bool_sound false false h = refl
-bool_sound _ _ h = cc
-
-bool_itself : (a : Bool) → beq a a ≡ true
-bool_itself true = refl
-bool_itself false = refl
-
 bools : IsEqualityTest beq
-bools = by_cases bool_sound bool_itself
-
-location_sound : (a b : Location) → same_location a b ≡ true → a ≡ b
-location_sound BeforeValue BeforeValue h = refl
-location_sound AfterUnit AfterUnit h = refl
-location_sound _ _ h = cc
-
-location_itself : (a : Location) → same_location a a ≡ true
-location_itself BeforeValue = refl
-location_itself AfterUnit = refl
+bools = by_cases (λ a b h. search (rules, h)) (λ a. search rules)
 
 locations : IsEqualityTest same_location
-locations = by_cases location_sound location_itself
+locations = by_cases (λ a b h. search (rules, h)) (λ a. search rules)
 
 modes : IsEqualityTest same_mode
 modes =

@@ -1,9 +1,8 @@
-ghost use Rattle.std.specs.Prelude.{◌≡◌, ℕ, ◌+◌, ◌^◌, ◌<◌, ◌↔◌, min, IsTrue, List, [], ◌∷◌, ◌++◌, length, drop, fold, Some, OnOk, OnErr, IfOk, IfErr, IsOkUnless};
+ghost use Rattle.std.specs.Prelude.{◌≡◌, ◌+◌, ◌^◌, ◌<◌, ◌↔◌, min, IsTrue, length, drop, OnOk, OnErr, IfOk, IfErr, IsOkUnless};
 ghost use Rattle.prodash_base.specs.Refusals.{RefusesMessage};
 ghost use Rattle.circular_buffer.specs.Buffer.{buffer};
-ghost use Rattle.prodash_base.specs.declared.messages.Message.{Message};
 ghost use Rattle.prodash_base.specs.Messages.{message_of};
-ghost use Rattle.prodash_base.specs.Rings.{is_push_limit_reached, new_ring, push, messages_since, keep_last, ring_of};
+ghost use Rattle.prodash_base.specs.Rings.{is_push_limit_reached, new_ring, push, messages_since, keep_last};
 
 use crate::messages::{Message, MessageLevel, Messages};
 use crate::refusal::Refusal;
@@ -292,29 +291,3 @@ fn copies(
     list.truncate(copied);
     Ok(list)
 }
-
-/// A law of rings: a ring keeps the last of all messages that were ever pushed, at most as many as
-/// its capacity, and counts them all.
-pub fn rings_keep_the_last()
-    ensures next { (capacity : ℕ) (all : List Message) (m : Message)
-        → push (ring_of capacity all) m ≡ ring_of capacity (all ++ m ∷ []) }
-    ensures all { (capacity : ℕ) (all : List Message)
-        → fold push (new_ring capacity) all ≡ ring_of capacity all }
-{}
-
-/// A law of copies: a copy whose state has seen the first `seen` pushes gives the last of the later
-/// ones, at most as many as the ring's capacity.
-pub fn copies_give_what_is_new()
-    ensures { (capacity seen : ℕ) (all : List Message)
-        → messages_since (ring_of capacity all) (Some seen) ≡ keep_last capacity (drop seen all) }
-{}
-
-/// A law of two copies: the second, with the state of the first, gives the last of the messages
-/// pushed between them, at most as many as the ring's capacity, and none that was pushed before
-/// the first.
-pub fn no_push_is_given_twice()
-    ensures { (capacity : ℕ) (before after : List Message)
-        → messages_since (ring_of capacity (before ++ after))
-        (Some (ring_of capacity before).pushed)
-        ≡ keep_last capacity after }
-{}

@@ -197,8 +197,8 @@ impl Ord for Key {
 
     ghost matches_eq = { texts_ties };
 
-    /// Compares the numbers two by two. A number past a key's level counts as 0, so that the
-    /// levels decide if all are the same.
+    /// Compares the numbers in pairs. A number past a key's level counts as 0, so the levels decide
+    /// if all numbers are equal.
     #[inline]
     fn cmp(&self, other: &Key) -> Ordering {
         let (own, others) = (self.first_word(), other.first_word());

@@ -2,7 +2,7 @@
 ghost use Rattle.std.specs.Prelude.{◌≡◌, OnOk, OnErr, IfOk, IsOkUnless};
 ghost use Rattle.prodash_base.specs.Rows.{rows_of};
 ghost use Rattle.prodash_base.specs.Trackers.{throughput_of};
-ghost use Rattle.prodash_base.specs.FrameTrackers.{new_frame_tracker, begin, observe_ahead, keep};
+ghost use Rattle.prodash_base.specs.FrameTrackers.{new_frame_tracker, begin, observe_pending, keep};
 
 use crate::progress::{Key, Row, Step};
 use crate::refusal::Refusal;
@@ -18,8 +18,9 @@ use std::fmt::{self, Debug, Formatter};
 use std::marker::Model;
 
 /// Measures throughput as [`Throughput`](crate::throughput::Throughput) does, for frames that may
-/// be refused: what a frame observes counts once the frame is kept. Keeping it takes no memory, and
-/// until then the next frame begins as if it hadn't been observed. Contracts see both trackers.
+/// be refused: what a frame observes is pending until the frame is kept, and a frame that isn't kept
+/// leaves no trace in the next one. Keeping a frame takes no memory. Contracts see the tracker as it
+/// was kept and the one with what is pending.
 ///
 /// ```rust
 /// let mut tracker = FrameThroughput::new(alloc);
@@ -29,19 +30,19 @@ use std::marker::Model;
 /// ```
 #[derive(Drop)]
 pub struct FrameThroughput {
-    /// The moment and the elapsed time of the frame that was kept last.
+    /// The moment and the elapsed time of the last kept frame.
     updated_before: (Option<Moment>, Option<u64>),
-    /// Those of the frame that is drawn.
+    /// Those of the frame being drawn.
     updated: (Option<Moment>, Option<u64>),
     /// What is kept of each key, sorted by key.
     kept: Vec<Kept>,
-    /// Where the next key is looked for first.
+    /// The index at which the next key is expected.
     next: usize,
-    /// Whether something was observed since a frame was kept.
+    /// Whether something was observed since the last kept frame.
     is_pending: bool,
     /// All observations of these keys in the frames that were kept.
     history_before: History,
-    /// These, and those of the frame that is drawn.
+    /// The same, and those of the frame being drawn.
     history: History,
 }
 
@@ -61,7 +62,7 @@ impl Model for FrameThroughput {
         elapsed = t.updated_before.1;
         observations = t.history_before.observations;
       };
-      ahead = record {
+      pending = record {
         updated_at = t.updated.0;
         elapsed = t.updated.1;
         observations = t.history.observations;
@@ -108,8 +109,8 @@ impl FrameThroughput {
         })
     }
 
-    /// Begins a frame at a moment. What was observed since a frame was kept is taken back. The
-    /// elapsed time is that since the frame that was kept last.
+    /// Begins a frame at a moment, and forgets what was observed since the last kept frame. The
+    /// elapsed time is that since the last kept frame.
     pub fn begin(&mut self, at: Moment)
         ensures { self.new ≡ begin self.old at }
     {
@@ -135,8 +136,8 @@ impl FrameThroughput {
         step: Option<Step>,
     ) -> Result<Option<display::Throughput>, Refusal>
         ensures value { IfOk result
-            (λ shown. shown ≡ throughput_of self.old.ahead key.now step) }
-        ensures ok { OnOk result (self.new ≡ observe_ahead self.old key.now step) }
+            (λ shown. shown ≡ throughput_of self.old.pending key.now step) }
+        ensures ok { OnOk result (self.new ≡ observe_pending self.old key.now step) }
         ensures err { OnErr result (self.new ≡ self.old) }
         ensures reason { IsOkUnless result Refusal.Memory }
     {
@@ -149,7 +150,7 @@ impl FrameThroughput {
         Ok(rate.map(|change| display::Throughput::new(change, ONE_SECOND)))
     }
 
-    /// Keeps what was observed of the keys of `rows`, and of no others.
+    /// Keeps the frame: the observations of the keys of `rows` stay, and all others are forgotten.
     pub fn keep(&mut self, rows: &[Row])
         ensures { self.new ≡ keep self.old (rows_of rows.now) }
     {

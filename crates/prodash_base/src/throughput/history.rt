@@ -20,16 +20,16 @@ impl Model for History {
     ghost also_owns = { λ _. ftrue };
 }
 
-/// What is observed.
+/// A change of a history.
 #[derive(Clone, Copy, Drop)]
 pub(crate) enum Change {
-    /// Nothing.
+    /// None.
     Nothing,
-    /// One more value of a key.
+    /// One more observation of a key.
     Observed(Key, Observation),
 }
 
-/// The rows whose keys stay.
+/// Rows, of whose keys the observations are kept.
 #[derive(Clone, Copy, Drop)]
 pub(crate) struct Listed<'a> {
     pub(crate) rows: &'a [Row],
@@ -52,14 +52,14 @@ impl History {
         History {}
     }
 
-    /// Returns the history with what is observed.
+    /// Returns the history with one more observation, if there is one.
     pub(crate) fn after(&self, _change: &Change) -> History
         ensures { result.observations ≡ changed_by _change.now self.now.observations }
     {
         History {}
     }
 
-    /// Returns the observations of the listed keys alone.
+    /// Returns the history of the keys of these rows alone.
     pub(crate) fn among(&self, _listed: &Listed<'_>) -> History
         ensures { result.observations
             ≡ finite.retain_keys self.now.observations (is_listed (rows_of _listed.now.rows.now)) }

@@ -8,18 +8,18 @@ use crate::throughput::totals::Totals;
 use std::alloc::{AllocError, Global};
 use std::collections::VecDeque;
 
-/// What is kept of a key. The observations of a frame can be taken back until they are kept.
+/// What is kept of a key. The observations of a frame can be taken back until the frame is kept.
 #[derive(Debug, Drop)]
 pub(crate) struct Kept {
     /// The key.
     pub(crate) key: Key,
     /// The samples, the latest first.
     pub(crate) samples: VecDeque<Sample>,
-    /// What is kept beside all of them.
+    /// The totals of all samples.
     pub(crate) latest: Totals,
-    /// How many there were when observations were kept last.
+    /// The number of samples when a frame was last kept.
     pub(crate) settled: usize,
-    /// What was kept beside those; `None` of a key that was new since.
+    /// The totals at that time; `None` if the key is newer.
     pub(crate) before: Option<Totals>,
     ghost sums: { Sums latest samples.items },
     ghost sums_before: { SumsBefore settled before samples.items },
@@ -43,7 +43,7 @@ impl Clone for Kept {
 
 impl Kept {
     ghost use Rattle.std.specs.Prelude.{None, Some, IfSome, OnOk, OnErr, is_some};
-    ghost use Rattle.prodash_base.specs.Summaries.{first_summary, next_summary};
+    ghost use Rattle.prodash_base.specs.plumbing.Summaries.{first_summary, next_summary};
     ghost use Rattle.prodash_base.specs.plumbing.KeptTables.{summary_of, before_of};
 
     /// Returns what is kept after a first observation, a mark. It takes no memory.
@@ -66,14 +66,14 @@ impl Kept {
         }
     }
 
-    /// Returns the number of samples that are needed.
+    /// Returns the number of samples after the last mark.
     pub(crate) fn samples(&self) -> usize
         ensures { result ≡ length (summary_of self.now).recent }
     {
         self.samples.len() - self.latest.older
     }
 
-    /// Whether observations of the key have been kept.
+    /// Returns whether the key was observed by a kept frame.
     pub(crate) fn was_kept(&self) -> bool
         ensures { result ≡ is_some (before_of self.now) }
     {
@@ -94,7 +94,7 @@ impl Kept {
         Ok(())
     }
 
-    /// Keeps the observations, and forgets the samples that aren't needed.
+    /// Keeps the observations, and forgets the samples up to the last mark.
     pub(crate) fn keep(&mut self)
         ensures key { self.new.key ≡ self.old.key }
         ensures summary { summary_of self.new ≡ summary_of self.old }
@@ -107,7 +107,7 @@ impl Kept {
         self.before = Some(self.latest);
     }
 
-    /// Takes back the observations since those that were kept, if there were any.
+    /// Takes back the observations that haven't been kept, if some have.
     pub(crate) fn take_back(&mut self)
         ensures key { self.new.key ≡ self.old.key }
         ensures summary { IfSome (before_of self.old) (λ s. summary_of self.new ≡ s) }
@@ -120,7 +120,7 @@ impl Kept {
     }
 }
 
-/// Keeps so many of the earliest samples.
+/// Keeps the `count` earliest samples, and drops the later ones.
 fn keep_earliest(samples: &mut VecDeque<Sample>, count: usize)
     requires { count ≤ length samples.old.items }
     ensures { samples.new.items ≡ earliest count samples.old.items }

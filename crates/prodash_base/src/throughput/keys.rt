@@ -1,12 +1,11 @@
 //! What is kept of all keys: a list sorted by key, with binary search.
-ghost use Rattle.std.specs.Prelude.{◌≡◌, ◌<◌, true, length, is_some, IfOk, IfErr, OnOk, OnErr, slice_set, slice_index_or};
+ghost use Rattle.std.specs.Prelude.{◌≡◌, ◌<◌, true, length, IfOk, IfErr, OnOk, OnErr};
 ghost use Rattle.std.specs.FinMap as finite;
 ghost use Rattle.std.specs.List.{AllZip, filter};
 ghost use Rattle.prodash_base.specs.Rows.{rows_of};
 ghost use Rattle.prodash_base.specs.Trackers.{is_listed};
-ghost use Rattle.prodash_base.specs.Summaries.{next_summary, summary_after, recent_in};
-ghost use Rattle.prodash_base.specs.plumbing.KeptTables.{summary_of, summaries_of, before_of, entries_before, AreSorted, IsKept, IsTakenBack, IsAt, IsNewAt, NeverDescends};
-ghost use Rattle.prodash_base.specs.declared.throughput.kept.Kept.{Kept};
+ghost use Rattle.prodash_base.specs.plumbing.Summaries.{recent_in};
+ghost use Rattle.prodash_base.specs.plumbing.KeptTables.{summaries_of, summary_with, summaries_with, kept_before, entries_before, AreSorted, IsKept, IsTakenBack, IsAt, IsNewAt, ChangesAt, IsRateAt, AddsAt, KeepsSummaryAt, NeverDescends};
 
 use crate::progress::{Key, Row};
 use crate::throughput::kept::Kept;
@@ -26,10 +25,9 @@ pub(crate) fn add_observation(
     requires { AreSorted kept.old.items }
     ensures sorted { AreSorted kept.new.items }
     ensures rate { IfOk result (λ rate. rate
-        ≡ (summary_after (finite.get (summaries_of kept.old.items) key) observation).rate) }
+        ≡ (summary_with kept.old.items key observation).rate) }
     ensures ok { OnOk result (summaries_of kept.new.items
-        ≡ finite.insert (summaries_of kept.old.items) key
-        (summary_after (finite.get (summaries_of kept.old.items) key) observation)) }
+        ≡ summaries_with kept.old.items key observation) }
     ensures err { OnErr result (summaries_of kept.new.items ≡ summaries_of kept.old.items) }
     ensures before { entries_before kept.new.items ≡ entries_before kept.old.items }
 {
@@ -67,20 +65,10 @@ fn add_to_known(
     observation: Observation,
 ) -> Result<Option<u64>, AllocError>
     requires { index < length kept.old.items }
-    ensures set { (d : Kept) → kept.new.items
-        ≡ slice_set kept.old.items index (slice_index_or kept.new.items index d) }
-    ensures key { (d : Kept) → (slice_index_or kept.new.items index d).key
-        ≡ (slice_index_or kept.old.items index d).key }
-    ensures rate { IfOk result (λ rate. (d : Kept) → rate
-        ≡ (next_summary (summary_of (slice_index_or kept.old.items index d)) observation).rate) }
-    ensures ok { OnOk result
-        ((d : Kept) → summary_of (slice_index_or kept.new.items index d)
-        ≡ next_summary (summary_of (slice_index_or kept.old.items index d)) observation) }
-    ensures err { OnErr result
-        ((d : Kept) → summary_of (slice_index_or kept.new.items index d)
-        ≡ summary_of (slice_index_or kept.old.items index d)) }
-    ensures before { (d : Kept) → before_of (slice_index_or kept.new.items index d)
-        ≡ before_of (slice_index_or kept.old.items index d) }
+    ensures changed { ChangesAt index kept.old.items kept.new.items }
+    ensures rate { IfOk result (IsRateAt index kept.old.items observation) }
+    ensures ok { OnOk result (AddsAt index observation kept.old.items kept.new.items) }
+    ensures err { OnErr result (KeepsSummaryAt index kept.old.items kept.new.items) }
 {
     let known = &mut kept[index];
     known.add(observation)?;
@@ -96,16 +84,15 @@ pub(crate) fn keep_all(kept: &mut [Kept])
     }
 }
 
-/// Takes back the observations since those that were kept last.
+/// Takes back the observations that haven't been kept, and forgets the keys that have no others.
 pub(crate) fn take_back_all(kept: &mut Vec<Kept>)
-    ensures { AllZip (λ old new. IsTakenBack old new)
-        (filter (λ k. is_some (before_of k)) kept.old.items) kept.new.items }
+    ensures { AllZip (λ old new. IsTakenBack old new) (kept_before kept.old.items) kept.new.items }
 {
     kept.retain(|known| known.was_kept());
     take_back_each(kept);
 }
 
-/// Takes back the observations of these keys since those that were kept last.
+/// Takes back the observations of these keys that haven't been kept.
 fn take_back_each(kept: &mut [Kept])
     ensures { AllZip (λ old new. IsTakenBack old new) kept.old kept.new }
 {

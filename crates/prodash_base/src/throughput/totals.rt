@@ -1,21 +1,20 @@
-//! What a tracker keeps of a key beside its samples.
+//! The totals that a tracker keeps of the samples of a key.
 ghost use Rattle.std.specs.Prelude.{◌≡◌, ◌∷◌, drop};
-ghost use Rattle.prodash_base.specs.Summaries.{next_summary};
-ghost use Rattle.prodash_base.specs.plumbing.KeptSamples.{Sums, summary_at, sample_after};
+ghost use Rattle.prodash_base.specs.plumbing.KeptSamples.{Sums, summary_at, summary_with, sample_after};
 
 use crate::progress::Step;
 use crate::throughput::rate::{is_mark, rate_over};
 use crate::throughput::sample::{Observation, Sample};
 use std::collections::VecDeque;
 
-/// What is kept of a key at one moment, beside its samples.
+/// What the samples of a key add up to at one moment.
 #[derive(Clone, Copy, Debug)]
 pub(crate) struct Totals {
     /// The latest value.
     pub(crate) value: Step,
-    /// How many of the samples aren't needed: that of the last mark, and those before it.
+    /// The number of samples up to the last mark, which the next rates don't need.
     pub(crate) older: usize,
-    /// The nanoseconds that the others take together.
+    /// The nanoseconds that the samples after it take together.
     pub(crate) taken: u64,
     /// The rate at the last mark.
     pub(crate) rate: Option<u64>,
@@ -32,14 +31,14 @@ impl Totals {
         }
     }
 
-    /// Returns what is kept after one more observation, whose sample is the first of these.
+    /// Returns the totals after one more observation, whose sample is the first of these.
     pub(crate) fn after(self, observation: Observation, samples: &VecDeque<Sample>) -> Totals
         requires first { samples.now.items
             ≡ sample_after self observation ∷ drop 1 samples.now.items }
         requires sums { Sums self (drop 1 samples.now.items) }
         ensures sums { Sums result samples.now.items }
         ensures summary { summary_at result samples.now.items
-            ≡ next_summary (summary_at self (drop 1 samples.now.items)) observation }
+            ≡ summary_with self samples.now.items observation }
     {
         let (value, elapsed) = (observation.value, observation.elapsed);
         if is_mark(self.taken, elapsed) {

@@ -7,7 +7,7 @@ pub use super::units::UnitDisplay;
 use crate::progress::Step;
 pub use values::{append, append_unit, append_values};
 
-/// A place for the percentage and the throughput.
+/// Where the percentage and the throughput are shown.
 #[derive(Debug, Clone, Copy, PartialEq, Eq, PartialOrd, Ord, Hash)]
 pub enum Location {
     /// Before the value.
@@ -57,7 +57,7 @@ pub(super) enum Part {
     UnitAlone,
 }
 
-/// Whether a percentage and a throughput are shown with a value, and at which place.
+/// Whether a percentage and a throughput are shown with a value, and where.
 ///
 /// ```rust
 /// let mode = Mode::with_percentage().and_throughput().show_before_value();
@@ -70,7 +70,7 @@ pub struct Mode {
     pub(super) throughput: bool,
 }
 
-/// A mode that shows neither. Its place is after the unit.
+/// A mode that shows neither.
 const NEITHER: Mode = Mode {
     location: Location::AfterUnit,
     percentage: false,

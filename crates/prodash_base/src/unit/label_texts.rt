@@ -3,7 +3,8 @@
 //!
 //! Each call that is out of memory returns an `AllocError` and leaves the string unchanged.
 ghost use Rattle.std.specs.Prelude.{◌≡◌, codes, OnOk, OnErr, string_bytes};
-ghost use Rattle.prodash_base.specs.Appending.{Appends, Pushes};
+ghost use Rattle.prodash_base.specs.Appending.{Appends};
+ghost use Rattle.prodash_base.specs.plumbing.Pushing.{Pushes};
 ghost use Rattle.std.specs.Fmt.{decimal};
 ghost use Rattle.prodash_base.specs.Shown.{label_shown, label_percentage, label_fraction, label_time_unit, unless_one};
 

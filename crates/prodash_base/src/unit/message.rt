@@ -1,9 +1,7 @@
 //! The message that says how fast steps were done.
-ghost use Rattle.std.specs.Prelude.{◌≡◌, ◌-◌, OnOk, IfOk, codes, option_copied, string_bytes, IsOkUnless};
-ghost use Rattle.prodash_base.specs.Appending.{Pushes};
-ghost use Rattle.prodash_base.specs.ThroughputMessages as texts;
-ghost use Rattle.prodash_base.specs.ThroughputMessages.{rate_of, seconds_text, amount_text, done_text};
-ghost use Rattle.prodash_base.specs.Units.{unit_shown};
+ghost use Rattle.std.specs.Prelude.{◌≡◌, OnOk, IfOk, codes, option_copied, string_bytes, IsOkUnless};
+ghost use Rattle.prodash_base.specs.plumbing.Pushing.{Pushes};
+ghost use Rattle.prodash_base.specs.ThroughputMessages.{rate_of, seconds_text, amount_text, done_text, message_text, done_message};
 
 use super::display::values::{push_spaced_unit, push_value};
 use super::{DisplayValue, Unit};
@@ -29,8 +27,8 @@ pub fn throughput_message(
     step: Step,
     unit: Option<&Unit>,
 ) -> Result<String, Refusal>
-    ensures ok { IfOk result (λ text. string_bytes text
-        ≡ texts.throughput_message (unit_shown (option_copied unit.entry)) step (now - start)) }
+    ensures ok { IfOk result (λ s.
+        string_bytes s ≡ done_message (option_copied unit.entry) step start now) }
     ensures reason { IsOkUnless result Refusal.Memory }
 {
     let mut text = String::new(alloc);
@@ -98,8 +96,7 @@ fn push_message<K: DisplayValue>(
     step: Step,
     nanoseconds: u64,
 ) -> Result<(), AllocError>
-    ensures { Pushes result out.old
-        (texts.throughput_message (K.shown kind.now) step nanoseconds) out.new }
+    ensures { Pushes result out.old (message_text (K.shown kind.now) step nanoseconds) out.new }
 {
     push_done(kind, out, step, nanoseconds)?;
     push_text(out, "s (")?;

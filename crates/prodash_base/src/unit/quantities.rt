@@ -1,6 +1,7 @@
 //! Percentages, bytes, large numbers and durations.
 ghost use Rattle.std.specs.Prelude.{◌≡◌, ◌<◌, ◌≤◌, codes, IfSome, OnOk, OnErr, string_bytes};
-ghost use Rattle.prodash_base.specs.Appending.{Appends, Pushes};
+ghost use Rattle.prodash_base.specs.Appending.{Appends};
+ghost use Rattle.prodash_base.specs.plumbing.Pushing.{Pushes};
 ghost use Rattle.prodash_base.specs.Quantities.{percentage_of, scale_of, scaled, bytes_text, human_text, duration_part, duration_text};
 
 use crate::appending::{push_ascii, push_cut, push_decimal, push_text, undo_if_refused};

@@ -1,5 +1,6 @@
 ghost use Rattle.std.specs.Prelude.{◌≡◌, OnOk, OnErr, codes, string_bytes};
-ghost use Rattle.prodash_base.specs.Appending.{Appends, IsPrefix, Pushes};
+ghost use Rattle.prodash_base.specs.Appending.{Appends, IsPrefix};
+ghost use Rattle.prodash_base.specs.plumbing.Pushing.{Pushes};
 ghost use Rattle.prodash_base.specs.Shown.{Shown, throughput_text, timespan_text, optional_fraction};
 
 use super::display::Throughput;

@@ -10,7 +10,7 @@ mod state;
 pub use event::{Answer, Event, Interrupt, Key, KeyCode, Line, Rect};
 pub use options::Options;
 pub use prefix::level_prefix;
-pub use state::{InterruptMode, State, deferred_requests_wait};
+pub use state::{InterruptMode, State};
 
 /// The vertical line that a dashboard draws between columns.
 pub const VERTICAL_LINE: &str = "│";

@@ -4,7 +4,7 @@ use prodash_base::Refusal;
 use prodash_base::progress::{Step, StepShared};
 use std::alloc::Global;
 
-/// Counts steps. The ghost members say what calls mean: they hold of each call that returns. A
+/// Counts steps. The ghost members say what calls mean, and hold for each call that returns. A
 /// wrapper defines them by those of the value that it wraps. By default they say nothing.
 pub trait Count {
     ghost use Rattle.std.specs.Prelude.{ℕ};

@@ -3,7 +3,8 @@ ghost use Rattle.prodash_base.specs.Refusals.{RefusesMessage};
 ghost use Rattle.std.specs.Option.{option_map};
 ghost use Rattle.prodash_base.specs.declared.messages.MessageLevel.TheVariants.{Info, Failure, Success};
 ghost use Rattle.prodash_base.specs.Rows.{unknown_id};
-ghost use Rattle.prodash_core.specs.Traits.{throughput_text, SendsThroughput};
+ghost use Rattle.prodash_base.specs.ThroughputMessages.{done_message};
+ghost use Rattle.prodash_core.specs.Traits.{SendsThroughput};
 
 use crate::traits::count::Count;
 use prodash_base::Refusal;
@@ -175,7 +176,7 @@ pub trait Progress: Count + Send + Sync {
         level: MessageLevel,
     ) -> Result<(), Refusal>
         ensures ok { OnOk result (was_sent self.now now level
-            (throughput_text unit step start now)) }
+            (done_message unit step start now)) }
         ensures reason { IfErr result RefusesMessage }
     {
         let text = throughput_message(alloc, start, now, step, unit.as_ref())?;

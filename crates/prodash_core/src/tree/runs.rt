@@ -38,7 +38,7 @@ pub fn run<S: Screen>(
     ensures err { OnErr result (S.state screen.new ≡ S.state screen.old) }
     ensures reason { IsOkUnless result Refusal.Memory }
 {
-    // Read here, so that the clause on pages may rest on its 16 bits.
+    // The clause on pages needs the fact that this number has 16 bits.
     let (_, _rows) = options.draw.terminal_dimensions;
     let mut session = Session::new(alloc, options)?;
     let mut replies = Vec::with_capacity(alloc, events.len())?;

@@ -2,13 +2,15 @@ ghost use Rattle.std.specs.Prelude.{◌≡◌, IfOk, false, IsOkUnless};
 ghost use Rattle.prodash_base.specs.Rings.{messages_since};
 ghost use Rattle.prodash_base.specs.Rows.{phase_of};
 ghost use Rattle.prodash_core.specs.Tables.{ListsEachOnce};
-ghost use Rattle.prodash_core.specs.Trees.{Tree, new_tree, slot_at, item_at, or_gone, tree_rows, snapshot_of, set_phase, is_frame, Returns, Applies, done_if_ok};
-ghost use Rattle.prodash_core.specs.Refusals.{refusal_of, IsRefusalOfMessage};
+ghost use Rattle.prodash_core.specs.Trees.{Tree, new_tree, slot_at, item_at, tree_rows, snapshot_of, set_phase, is_frame, Returns, Applies};
+ghost use Rattle.prodash_core.specs.plumbing.Handles.{or_gone, done_if_ok};
+ghost use Rattle.prodash_core.specs.Refusals.{refusal_of};
+ghost use Rattle.prodash_core.specs.plumbing.MessageRefusals.{IsRefusalOfMessage};
 
 use crate::tree::event::{Event, Handle, Reply};
+use crate::tree::handles::Handles;
 use crate::tree::options::RootOptions;
 use crate::tree::slot::Slot;
-use crate::tree::slots::Slots;
 use crate::tree::table::{Counted, TreeCore};
 use prodash_base::messages::{MessageCopyState, MessageLevel, MessageRingBuffer, Messages};
 use prodash_base::progress::{Id, Rows, State, Step};
@@ -29,7 +31,7 @@ use std::marker::Model;
 #[derive(Drop)]
 pub struct TreeState {
     table: TreeCore<Handle>,
-    slots: Slots,
+    handles: Handles,
     ring: MessageRingBuffer,
 }
 
@@ -42,7 +44,7 @@ impl Model for TreeState {
 
     ghost coded = { Prim.hlevel (codes, finite.code) };
 
-    ghost view = { λ s. record { table = s.table; slots = s.slots; ring = s.ring } };
+    ghost view = { λ s. record { table = s.table; slots = s.handles; ring = s.ring } };
 }
 
 impl TreeState {
@@ -57,7 +59,7 @@ impl TreeState {
     {
         Ok(TreeState {
             table: TreeCore::new(alloc),
-            slots: Slots::new(alloc)?,
+            handles: Handles::new(alloc)?,
             ring: MessageRingBuffer::with_capacity(alloc, options.message_buffer_capacity)?,
         })
     }
@@ -73,7 +75,7 @@ impl TreeState {
     {
         Ok(TreeState {
             table: self.table.clone()?,
-            slots: self.slots.clone()?,
+            handles: self.handles.clone()?,
             ring: self.ring.deep_clone(alloc)?,
         })
     }
@@ -137,7 +139,7 @@ impl TreeState {
     pub(crate) fn set(&mut self, item: Handle, step: Step) -> Result<(), Refusal>
         ensures { Applies self.old (Event.Set item step) (done_if_ok result) self.new }
     {
-        if item == 0 || !self.slots.set_counter(item, step) {
+        if item == 0 || !self.handles.set_counter(item, step) {
             return Err(Refusal::Gone);
         }
         Ok(())
@@ -147,7 +149,7 @@ impl TreeState {
     pub(crate) fn inc_by(&mut self, item: Handle, step: Step) -> Result<(), Refusal>
         ensures { Applies self.old (Event.IncBy item step) (done_if_ok result) self.new }
     {
-        if item == 0 || !self.slots.add_steps(item, step) {
+        if item == 0 || !self.handles.add_steps(item, step) {
             return Err(Refusal::Gone);
         }
         Ok(())
@@ -204,7 +206,7 @@ impl TreeState {
         ensures each { IfOk result (λ rows. ListsEachOnce self.now.table rows) }
         ensures reason { IsOkUnless result Refusal.Memory }
     {
-        self.table.rows_reusing(&self.slots, spare)
+        self.table.rows_reusing(&self.handles, spare)
     }
 
     /// Returns what a frame sees: the rows, the messages that are new since an earlier frame, and
@@ -226,8 +228,8 @@ impl TreeState {
     }
 
     /// Returns what `snapshot_and_new_messages` returns, with the rows and the messages in the
-    /// memory of `spare`, whose contents don't matter. A name is copied only if `spare` has another
-    /// one at its place.
+    /// memory of `spare`, whose contents don't matter. A name is copied only if it differs from the
+    /// one that `spare` has in its place.
     ///
     /// # Errors
     ///
@@ -253,7 +255,7 @@ impl TreeState {
     fn slot(&self, handle: Handle) -> Result<Slot, Refusal>
         ensures { result ≡ or_gone (slot_at self.now handle) }
     {
-        self.slots.valid(handle).ok_or(Refusal::Gone)
+        self.handles.valid(handle).ok_or(Refusal::Gone)
     }
 
     /// Returns the root's slot.
@@ -301,13 +303,13 @@ impl TreeState {
     {
         let slot = self.slot(parent)?;
         let key = slot.key.add_child(slot.next_child);
-        let made = self.slots.len();
-        self.slots.push(Slot::new(key))?;
+        let made = self.handles.len();
+        self.handles.push(Slot::new(key))?;
         if let Err(refusal) = self.table.insert(alloc, key, name, id) {
-            self.slots.pop();
+            self.handles.pop();
             return Err(refusal);
         }
-        self.slots.put(parent, slot.with_child());
+        self.handles.put(parent, slot.with_child());
         Ok(Reply::Made(made))
     }
 
@@ -316,7 +318,7 @@ impl TreeState {
     {
         let slot = self.item(item)?;
         self.table.remove(slot.key);
-        self.slots.put(item, slot.invalidated());
+        self.handles.put(item, slot.invalidated());
         Ok(Reply::Done)
     }
 
@@ -330,7 +332,7 @@ impl TreeState {
     {
         let slot = self.item(item)?;
         if self.table.init(slot.key, Counted::begin(item, max, unit)) {
-            self.slots.put(item, slot.with_counter(0));
+            self.handles.put(item, slot.with_counter(0));
         }
         Ok(Reply::Done)
     }
@@ -449,7 +451,7 @@ impl TreeState {
         ensures { Applies self.old Event.DropRoot result self.new }
     {
         let slot = self.root()?;
-        self.slots.put(0, slot.invalidated());
+        self.handles.put(0, slot.invalidated());
         Ok(Reply::Done)
     }
 }

@@ -1,11 +1,12 @@
-ghost use Rattle.std.specs.Prelude.{◌≡◌, ◌≢◌, ◌≤◌, ◌++◌, ℕ, List, length, vec_capacity, OnOk, OnErr, IfOk, Some, None, nat_eq, is_some, IsOkUnless};
+ghost use Rattle.std.specs.Prelude.{◌≡◌, ◌≢◌, ◌≤◌, ℕ, length, vec_capacity, OnOk, OnErr, IfOk, Some, None, nat_eq, is_some, IsOkUnless};
 ghost use Rattle.std.specs.FinMap as finite;
 ghost use Rattle.std.specs.Option.{option_map};
 ghost use Rattle.std.specs.BTreeMap.{IsOrdered};
 ghost use Rattle.prodash_base.specs.Path.{Path, path_cmp};
-ghost use Rattle.prodash_base.specs.Rows.{phase_of, row_of, rows_of};
-ghost use Rattle.prodash_core.specs.plumbing.MissingNames.{missing_name, missing_names};
-ghost use Rattle.prodash_core.specs.Tables.{new_entry, change_at, with_name, with_progress, with_bound, with_phase, name_at, id_of, bound_of, unit_of, counted_of, ValueShows, RowShows, RowsShow, RowsShowTasks, ListsEachOnce, pair_of, entry_of};
+ghost use Rattle.prodash_base.specs.Rows.{phase_of, rows_of};
+ghost use Rattle.prodash_core.specs.plumbing.MissingNames.{missing_names, TakesName};
+ghost use Rattle.prodash_core.specs.Tables.{new_entry, change_at, with_name, with_progress, with_bound, with_phase, name_at, id_of, bound_of, unit_of, counted_of, RowsShow, ListsEachOnce, entry_of};
+ghost use Rattle.prodash_core.specs.plumbing.TaskRows.{ValueShows, RowShowsTask, RowsShowTasks};
 
 use prodash_base::progress::{Id, Key, Row, Rows, State, Step, UNKNOWN, Value};
 use prodash_base::unit::Unit;
@@ -122,7 +123,7 @@ impl<C: Copy> Task<C> {
     }
 }
 
-/// Reads counters of steps, each of which a `C` names.
+/// Reads counters of steps, each named by a `C`.
 pub trait Counters<C> {
     /// The steps that a counter may show.
     ghost shows: { Self → C → ℕ → Type 0 };
@@ -344,7 +345,7 @@ impl<C: Copy> TreeCore<C> {
     }
 
     /// Returns the rows as `rows` does, in the memory of `spare`, whose contents don't matter. A
-    /// name is copied only if `spare` has another one at its place.
+    /// name is copied only if it differs from the one that `spare` has in its place.
     ///
     /// # Errors
     ///
@@ -358,8 +359,8 @@ impl<C: Copy> TreeCore<C> {
         Ok(Rows::new(rows))
     }
 
-    /// Replaces the contents of `out` with the rows that `rows` returns. A name is copied only if
-    /// `out` has another one at its place.
+    /// Replaces the contents of `out` with the rows that `rows` returns. A name is copied only if it
+    /// differs from the one that `out` has in its place.
     ///
     /// # Errors
     ///
@@ -402,8 +403,7 @@ fn row_of_task<C: Copy, N: Counters<C>>(
     task: &Task<C>,
     counters: &N,
 ) -> Result<Row, AllocError>
-    ensures { IfOk result (λ row.
-        RowShows (N.shows counters.now) (pair_of (key, task.now)) (row_of row)) }
+    ensures { IfOk result (RowShowsTask (N.shows counters.now) key task.now) }
 {
     Ok(Row {
         key,
@@ -413,7 +413,7 @@ fn row_of_task<C: Copy, N: Counters<C>>(
     })
 }
 
-/// Makes a value that of a progress, without a copy that is made first.
+/// Updates a value to that of a progress, in place.
 fn update_value<C: Copy, N: Counters<C>>(value: &mut Value, counted: &Counted<C>, counters: &N)
     ensures { ValueShows (N.shows counters.now) (Some counted.now) (Some value.new) }
 {
@@ -423,11 +423,11 @@ fn update_value<C: Copy, N: Counters<C>>(value: &mut Value, counted: &Counted<C>
     value.state = counted.state;
 }
 
-/// Makes a row that of a task, but for its name.
+/// Updates a row to that of a task, apart from its name.
 #[inline(always)]
 fn update_below_name<C: Copy, N: Counters<C>>(row: &mut Row, key: Key, task: &Task<C>, counters: &N)
     ensures { row.old.name ≡ task.now.name
-        → RowShows (N.shows counters.now) (pair_of (key, task.now)) (row_of row.new) }
+        → RowShowsTask (N.shows counters.now) key task.now row.new }
 {
     row.key = key;
     row.id = task.id;
@@ -440,15 +440,14 @@ fn update_below_name<C: Copy, N: Counters<C>>(row: &mut Row, key: Key, task: &Ta
     row.progress = value_of(&task.progress, counters);
 }
 
-/// Makes a row that of a task. The name is copied only if it differs.
+/// Updates a row to that of a task. The name is copied only if it differs.
 fn update_row<C: Copy, N: Counters<C>>(
     row: &mut Row,
     key: Key,
     task: &Task<C>,
     counters: &N,
 ) -> Result<(), AllocError>
-    ensures { OnOk result
-        (RowShows (N.shows counters.now) (pair_of (key, task.now)) (row_of row.new)) }
+    ensures { OnOk result (RowShowsTask (N.shows counters.now) key task.now row.new) }
 {
     if row.name != task.name {
         row.name = task.name.clone()?;
@@ -501,7 +500,7 @@ fn refill_rows<C: Copy, N: Counters<C>>(
     Ok(())
 }
 
-/// Returns copies of the names of tasks that rows lack at their places, in the order of the map.
+/// Returns copies of the names of tasks that the rows at their places lack, in the order of the map.
 fn missing_names<C: Copy>(
     alloc: Global,
     tasks: &BTreeMap<Key, Task<C>>,
@@ -556,11 +555,9 @@ fn put_rows<C: Copy, N: Counters<C>>(
     rows.truncate(put);
 }
 
-/// Makes the name of a row that of a task, by the first of the names if the row lacks it.
+/// Updates the name of a row to that of a task, with the first of the names if the row lacks it.
 fn put_name<C>(row: &mut Row, task: &Task<C>, names: &mut VecDeque<Text>)
-    ensures { (more : List (List ℕ))
-        → names.old.items ≡ missing_name row.old.name task.now.name ++ more
-        → (names.new.items ≡ more) × (row.new.name ≡ task.now.name) }
+    ensures { TakesName row.old.name task.now.name names.old.items names.new.items row.new.name }
 {
     if !names.is_empty() && row.name != task.name {
         if let Some(name) = names.pop_front() {

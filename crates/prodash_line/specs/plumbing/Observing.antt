@@ -15,7 +15,7 @@ use Rattle.prodash_line.specs.Tracking.{kept_of}
 
 -- the tracker after the rows that the frame that is being composed has observed
 abbrev pub ahead_of : Option FrameTracker → Option Tracker
-ahead_of t = option_map (λ t. t.ahead) t
+ahead_of t = option_map (λ t. t.pending) t
 
 -- the tracker that a written frame with this action keeps: the one that has observed these rows, if it draws them
 abbrev pub tracker_by : Action → Option FrameTracker → List PathRow → Option Tracker

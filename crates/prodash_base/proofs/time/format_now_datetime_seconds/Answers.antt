@@ -1,5 +1,6 @@
 use Rattle.std.proofs.Common.{◌++◌, [], ◌∷◌, ap, ◌∙◌}
-use Rattle.prodash_base.specs.Moments.{calendar_date, date_text, time_text}
+use Rattle.prodash_base.specs.Moments.{date_text, time_text}
+use Rattle.prodash_base.specs.plumbing.Dates.{calendar_date}
 use Rattle.prodash_base.proofs.DayNumbers.{date_is}
 use Rattle.prodash_base.proofs.time.format_now_datetime_seconds.Goals as goal
 

@@ -1,6 +1,7 @@
 //! Values of any kind, with their bounds, units, percentages and throughputs, appended to a string.
 ghost use Rattle.std.specs.Prelude.{◌≡◌, OnOk, OnErr, string_bytes, IsOkUnless};
-ghost use Rattle.prodash_base.specs.Appending.{Appends, Pushes};
+ghost use Rattle.prodash_base.specs.Appending.{Appends};
+ghost use Rattle.prodash_base.specs.plumbing.Pushing.{Pushes};
 ghost use Rattle.prodash_base.specs.Displays.{amount, same_location, percentage_at, throughput_at, placed_percentage, placed_throughput, text_at, bound_text, values_text, unit_text, spaced, all_text, part_text};
 
 use super::{Amount, Location, Mode, Part, Throughput};
@@ -325,20 +326,6 @@ pub(in crate::unit) fn push_spaced_unit<K: DisplayValue>(
     Ok(())
 }
 
-/// Appends the values, the unit, and what is shown after it.
-fn push_all<K: DisplayValue>(
-    kind: &K,
-    out: &mut String,
-    mode: Option<Mode>,
-    amount: Amount,
-) -> Result<(), AllocError>
-    ensures { Pushes result out.old (all_text (K.shown kind.now) mode amount) out.new }
-{
-    push_values(kind, out, mode, amount)?;
-    push_spaced_unit(kind, out, amount.value)?;
-    push_at(kind, out, mode, Location::AfterUnit, amount)
-}
-
 /// Appends a part of a value.
 #[inline(always)]
 fn push_part<K: DisplayValue>(
@@ -351,7 +338,11 @@ fn push_part<K: DisplayValue>(
     ensures { Pushes result out.old (part_text part (K.shown kind.now) mode amount) out.new }
 {
     match part {
-        Part::All => push_all(kind, out, mode, amount),
+        Part::All => {
+            push_values(kind, out, mode, amount)?;
+            push_spaced_unit(kind, out, amount.value)?;
+            push_at(kind, out, mode, Location::AfterUnit, amount)
+        }
         Part::Values => push_values(kind, out, mode, amount),
         Part::UnitAlone => push_unit(kind, out, mode, amount),
     }

@@ -1,8 +1,8 @@
-ghost use Rattle.std.specs.Prelude.{◌≡◌, ◌<◌, ◌≤◌, length, true, IfOk, OnOk, encode_utf8_all, string_bytes, IsOkUnless};
+ghost use Rattle.std.specs.Prelude.{◌≡◌, ◌<◌, ◌≤◌, length, IfOk, OnOk, encode_utf8_all, string_bytes, IsOkUnless};
 ghost use Rattle.prodash_base.specs.Appending.{Appends};
 ghost use Rattle.prodash_base.specs.Path.{max_level};
 ghost use Rattle.prodash_base.specs.Adjacency.{IsAscending, paths_of};
-ghost use Rattle.prodash_core.specs.Prefixes.{own_branch, ancestor_branch, branches, prefix_of, IsPrefixAt};
+ghost use Rattle.prodash_core.specs.Prefixes.{own_branch, ancestor_branch, branch_bytes, prefix_of, IsPrefixAt};
 
 use prodash_base::Refusal;
 use prodash_base::progress::key::{Adjacency, Level, SiblingLocation};
@@ -54,8 +54,8 @@ fn push_branches(
     is_orphan: bool,
     locations: &[SiblingLocation],
 ) -> Result<(), AllocError>
-    ensures { OnOk result (Appends text.old
-        (encode_utf8_all (branches true is_orphan locations.now)) text.new) }
+    ensures { OnOk result
+        (Appends text.old (branch_bytes is_orphan locations.now) text.new) }
 {
     let mut is_first = true;
     let mut left = locations;

@@ -1,7 +1,5 @@
-ghost use Rattle.std.specs.Prelude.{◌≡◌, Bool, List, []};
-ghost use Rattle.prodash_core.specs.Dashboard.{new_state, press, interrupt, set_interrupt_mode, handle, NotesRequests, StopsIfRequested};
-ghost use Rattle.prodash_core.specs.declared.render.tui.event.Event.{Event};
-ghost use Rattle.prodash_core.specs.declared.render.tui.state.State.{State};
+ghost use Rattle.std.specs.Prelude.{◌≡◌, []};
+ghost use Rattle.prodash_core.specs.Dashboard.{new_state, press, interrupt, set_interrupt_mode, handle};
 
 use crate::render::tui::event::{Answer, Event, Interrupt, Key, KeyCode, Line, Rect};
 use std::alloc::Global;
@@ -155,11 +153,3 @@ impl State {
         Answer::Redraw
     }
 }
-
-/// A law: a deferred request to interrupt is never forgotten. Whatever happens while requests are
-/// deferred, the dashboard stops when the mode is set to `Instantly` exactly if there was one.
-#[tactic(auto, using(crate::proofs::DashboardLaws::mode_after, crate::proofs::DashboardLaws::answer_after))]
-pub fn deferred_requests_wait()
-    ensures mode { (s : State) (r : Bool) (events : List Event) → NotesRequests s r events }
-    ensures answer { (s : State) (r : Bool) (events : List Event) → StopsIfRequested s r events }
-{}

@@ -11,7 +11,7 @@ mod style;
 mod writing;
 
 use prodash_base::Refusal;
-pub use reading::{Fault, one_spelling, read};
+pub use reading::{Fault, read};
 pub use sign::Sign;
 use std::alloc::{AllocError, Global};
 use std::marker::Model;

@@ -2,7 +2,7 @@ use Rattle.std.proofs.Common.{List, sym, subst}
 use Rattle.std.specs.Prelude.{T}
 use Rattle.std.specs.FinMap as finite
 use Rattle.prodash_base.specs.Path.{Path, path_cmp}
-use Rattle.prodash_base.specs.Summaries.{Summary, Summarize}
+use Rattle.prodash_base.specs.plumbing.Summaries.{Summary, Summarize}
 use Rattle.prodash_base.specs.Trackers.{Observations}
 use Rattle.prodash_base.specs.plumbing.KeptTables.{summaries_of}
 use Rattle.prodash_base.proofs.KeptTables.{entries-cloned}

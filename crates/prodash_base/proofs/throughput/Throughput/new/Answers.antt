@@ -1,6 +1,6 @@
 use Rattle.std.proofs.Common.{sym, subst}
 use Rattle.std.specs.FinMap as finite
-use Rattle.prodash_base.specs.Summaries.{Summarize}
+use Rattle.prodash_base.specs.plumbing.Summaries.{Summarize}
 use Rattle.prodash_base.specs.plumbing.KeptTables.{summaries_of, AreSorted}
 use Rattle.prodash_base.proofs.Summarizing.{summarize-none}
 use Rattle.prodash_base.proofs.throughput.Throughput.new.Goals as goal

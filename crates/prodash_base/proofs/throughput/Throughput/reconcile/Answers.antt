@@ -7,7 +7,7 @@ use Rattle.std.proofs.lemmas.Map.Views.{Contains-from_any, list_any-from_Contain
 use Rattle.prodash_base.specs.Path.{Path}
 use Rattle.prodash_base.specs.Rows.{PathRow, rows_of}
 use Rattle.prodash_base.specs.Trackers.{Observations, is_listed, KeepsOnly}
-use Rattle.prodash_base.specs.Summaries.{Summaries, Summarize}
+use Rattle.prodash_base.specs.plumbing.Summaries.{Summaries, Summarize}
 use Rattle.prodash_base.specs.plumbing.KeyHash.{same_path}
 use Rattle.prodash_base.specs.plumbing.KeptTables.{AreSorted, summaries_of}
 use Rattle.prodash_base.proofs.KeptTables.{summaries-filter, sorted-filter}

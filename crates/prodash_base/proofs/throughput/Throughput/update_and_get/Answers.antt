@@ -1,6 +1,6 @@
 use Rattle.std.proofs.Common.{rules, ◌≡◌, ◌∙◌, sym, subst, Some}
 use Rattle.prodash_base.specs.Samples.{samples_of}
-use Rattle.prodash_base.specs.Summaries.{Summaries, Summarize}
+use Rattle.prodash_base.specs.plumbing.Summaries.{Summaries, Summarize}
 use Rattle.prodash_base.specs.Trackers.{Observations, with_observation, rate_after, observations_of}
 use Rattle.prodash_base.specs.plumbing.KeptTables.{summaries_of}
 use Rattle.prodash_base.proofs.SampleLaws.{after_mark-short}

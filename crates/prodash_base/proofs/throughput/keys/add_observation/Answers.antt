@@ -3,7 +3,7 @@ use Rattle.std.specs.FinMap as finite
 use Rattle.std.specs.FinMap.{put}
 use Rattle.std.proofs.lemmas.Result.{on_ok_weaker, on_err_weaker, IfOk-weaker}
 use Rattle.prodash_base.specs.Path.{path_cmp}
-use Rattle.prodash_base.specs.Summaries.{Summary, next_summary, summary_after}
+use Rattle.prodash_base.specs.plumbing.Summaries.{Summary, next_summary, summary_after}
 use Rattle.prodash_base.specs.plumbing.KeptTables.{summary_of, entry_of, summaries_of, AreSorted, entries_before, IsAt, IsNewAt}
 use Rattle.prodash_base.specs.declared.throughput.kept.Kept.{Kept}
 use Rattle.prodash_base.proofs.KeptTables.{put_known, put_first, summaries-put, sorted-put, get_known, get_new, an_element, IsNewPlace}
@@ -32,7 +32,7 @@ changed : (c : After-add_to_known)
     → map entry_of c.add_to_known.new.kept.items ≡ put path_cmp c.args.key (summary_of (get_or c.add_to_known.new.kept.items c.in-Ok.index (known c))) (map entry_of c.args.kept.now.items)
 changed c =
     put_known c.args.kept.now.items c.add_to_known.new.kept.items c.in-Ok.index (known c) c.args.key c.requires (inside c) (found c)
-    (c.add_to_known.ensures.set (known c)) (c.add_to_known.ensures.key (known c))
+    (c.add_to_known.ensures.changed.set (known c)) (c.add_to_known.ensures.changed.key (known c))
 
 next : (c : After-add_to_known) → next_summary (summary_of (get_or c.args.kept.now.items c.in-Ok.index (known c))) c.args.observation ≡ summary_after (finite.get (summaries_of c.args.kept.now.items) c.args.key) c.args.observation
 next c = ap (λ (o : Option Summary). summary_after o c.args.observation) (sym (shown c))
@@ -57,7 +57,7 @@ returns-in-Ok-clause-err c =
 
 pub returns-in-Ok-clause-before : goal.returns-in-Ok-clause-before
 returns-in-Ok-clause-before c =
-    let added = c.add_to_known.ensures in
+    let added = c.add_to_known.ensures.changed in
     ap entries_before (added.set (known c))
     ∙ before-set c.args.kept.now.items c.in-Ok.index (known c) _ (inside c) (added.key (known c)) (added.before (known c))
 

@@ -1,6 +1,6 @@
 use Rattle.std.proofs.Common.{rules, ◌≡◌, ◌∙◌, ap, sym, length, get_or, Option}
 use Rattle.std.proofs.lemmas.Fn.{always_returns_same}
-use Rattle.prodash_base.specs.Summaries.{Summary, recent_in}
+use Rattle.prodash_base.specs.plumbing.Summaries.{Summary, recent_in}
 use Rattle.prodash_base.specs.plumbing.KeptTables.{summary_of}
 use Rattle.prodash_base.specs.declared.throughput.kept.Kept.{Kept}
 use Rattle.prodash_base.proofs.KeptTables.{get_known, get_new, searchable}

@@ -1,11 +1,9 @@
 //! Reads bytes as signs.
-ghost use Rattle.std.specs.Prelude.{◌≡◌, List, ◌++◌, length, drop, MatchOption};
+ghost use Rattle.std.specs.Prelude.{◌≡◌, ◌++◌, length, drop, MatchOption};
 ghost use Rattle.std.specs.Char.{encode_utf8};
 ghost use Rattle.std.specs.List.{prefix_len};
-ghost use Rattle.prodash_line.specs.Signs.{spelling};
-ghost use Rattle.prodash_line.specs.Reading.{Reads, GivesSpelled, AreProper};
+ghost use Rattle.prodash_line.specs.Reading.{Reads, GivesSpelled};
 ghost use Rattle.prodash_line.specs.plumbing.SignReading.{NoCharAt, NoSignAt, IsSignAt, NoSequenceAt, IsSequenceAt, NoLongerText, NoNumber, IsNumber, NoStyle, IsStyle, MakesSign, is_parameter};
-ghost use Rattle.prodash_line.specs.declared.render.line.page.sign.Sign.{Sign};
 
 use super::codes::with_code;
 use super::sign::Sign;
@@ -183,9 +181,3 @@ pub fn read(alloc: Global, bytes: &[u8]) -> Result<Vec<Sign>, Fault>
     }
     Ok(signs)
 }
-
-/// States that no two lists of proper signs spell the same bytes.
-pub fn one_spelling()
-    ensures { (ss ts : List Sign) → AreProper ss → AreProper ts → spelling ss ≡ spelling ts
-        → ss ≡ ts }
-{}

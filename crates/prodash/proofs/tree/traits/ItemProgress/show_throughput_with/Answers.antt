@@ -1,5 +1,5 @@
 use Rattle.std.proofs.Common.{rules, ◌≡◌, ℕ, List, OnOk, subst}
-use Rattle.prodash_core.specs.Traits.{throughput_text}
+use Rattle.prodash_base.specs.ThroughputMessages.{done_message}
 use Rattle.prodash.specs.Turns.{Changes, Sends}
 use Rattle.prodash.proofs.tree.traits.ItemProgress.show_throughput_with.Goals as goal
 
@@ -8,5 +8,5 @@ returns-clause-ok g c =
     let a = c.args in
     let sends : List ℕ → Type 0 = λ text. OnOk c.message.result (Changes g.R.TakesTurns.found
     g.R.TakesTurns.left (Sends a.self.now.path a.now a.level text)) in
-    let is_text : c.deref.result.now ≡ throughput_text a.unit a.step a.start a.now = search rules in
+    let is_text : c.deref.result.now ≡ done_message a.unit a.step a.start a.now = search rules in
     subst sends is_text c.message.ensures.ok

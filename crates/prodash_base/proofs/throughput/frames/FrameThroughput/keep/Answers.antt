@@ -14,7 +14,7 @@ invariant_of-self c =
     let now = c.keep_all.new.kept in
     let all = c.self.inside.history.observations in
     let each = subst (λ (old : List Kept). AllZip (λ k l. IsKept k l) old now) c.deref_mut.ensures.value c.keep_all.ensures in
-    let retained = keeps-retain all listed c.self.inside.kept.items items c.self.invariant.ahead_kept c.retain_listed.ensures in
+    let retained = keeps-retain all listed c.self.inside.kept.items items c.self.invariant.pending_kept c.retain_listed.ensures in
     subst (λ (kept : List Kept). KeepsBoth c.after-self-inside.result.observations c.among-self-inside.result.observations false kept)
     (sym (all_written (λ k l. IsKept k l) items c.deref_mut.result.now now c.retain_listed.new.kept.len c.deref_mut.ensures.value c.deref_mut.ensures.len c.keep_all.ensures))
     (subst (λ (m : Observations). KeepsBoth m c.among-self-inside.result.observations false now) (sym c.after-self-inside.ensures)

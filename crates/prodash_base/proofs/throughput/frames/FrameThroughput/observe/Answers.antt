@@ -13,8 +13,8 @@ invariant_of-self-2 c =
     let kept = c.self.inside.kept.items in
     let new = c.add_observation.new.kept.items in
     record {
-      ahead_kept = subst (λ (m : Observations). Keeps m new) (sym c.after-self-inside.ensures)
-          (keeps-more all kept new c.args.key.now c.in-Some.observation c.self.invariant.ahead_kept c.in_ok-rate.ensures.sorted c.in_ok-rate.ensures.ok);
+      pending_kept = subst (λ (m : Observations). Keeps m new) (sym c.after-self-inside.ensures)
+          (keeps-more all kept new c.args.key.now c.in-Some.observation c.self.invariant.pending_kept c.in_ok-rate.ensures.sorted c.in_ok-rate.ensures.ok);
       before_kept = λ path. ap (finite.find path_cmp path) c.in_ok-rate.ensures.before ∙ c.self.invariant.before_kept path;
       settled = λ e. absurd (true≢false e);
     }
@@ -23,5 +23,5 @@ pub returns-clause-value : goal.returns-clause-value
 returns-clause-value c =
     let all = c.self.inside.history.observations in
     let e : c.in_ok-rate.rate ≡ rate_after all c.args.key.now (Some c.in-Some.observation) =
-    c.in_ok-rate.ensures.rate ∙ summarize-rate all (summaries_of c.self.inside.kept.items) c.args.key.now c.in-Some.observation c.self.invariant.ahead_kept.summaries in
+    c.in_ok-rate.ensures.rate ∙ summarize-rate all (summaries_of c.self.inside.kept.items) c.args.key.now c.in-Some.observation c.self.invariant.pending_kept.summaries in
     search (rules, e)

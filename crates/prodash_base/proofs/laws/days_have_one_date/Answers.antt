@@ -1,5 +1,5 @@
 use Rattle.prodash_base.proofs.CalendarLaws.{one_date}
-use Rattle.prodash_base.proofs.time.days_have_one_date.Goals as goal
+use Rattle.prodash_base.proofs.laws.days_have_one_date.Goals as goal
 
 pub returns : goal.returns
 returns c = one_date

@@ -1,5 +1,6 @@
-ghost use Rattle.std.specs.Prelude.{◌≡◌, ◌+◌, ◌-◌, ◌%◌, ◌^◌, ◌<◌, [], ◌∷◌, ◌++◌, length, take, slice_get, slice_set, OnOk, OnErr, IfOk};
-ghost use Rattle.prodash_core.specs.Trees.{if_valid, new_slot, SetsSlot};
+ghost use Rattle.std.specs.Prelude.{◌≡◌, ◌-◌, ◌<◌, [], ◌∷◌, ◌++◌, length, take, slice_get, slice_set, OnOk, OnErr, IfOk};
+ghost use Rattle.prodash_core.specs.Trees.{if_valid, new_slot};
+ghost use Rattle.prodash_core.specs.plumbing.Handles.{SetsSlot, raised};
 
 use crate::tree::event::Handle;
 use crate::tree::slot::Slot;
@@ -8,13 +9,13 @@ use prodash_base::progress::{Key, Step};
 use std::alloc::{AllocError, Global};
 use std::marker::Model;
 
-/// The slots of all handles, in the order in which they were made.
+/// All handles that were made, each with its slot, in the order in which they were made.
 #[derive(Drop)]
-pub(crate) struct Slots {
+pub(crate) struct Handles {
     slots: Vec<Slot>,
 }
 
-impl Model for Slots {
+impl Model for Handles {
     ghost use Rattle.std.specs.Prelude.{List};
     ghost use Rattle.prodash_core.specs.declared.tree.slot.Slot.{Slot};
 
@@ -23,17 +24,17 @@ impl Model for Slots {
     ghost view = { λ s. s.slots.items };
 }
 
-impl Slots {
-    /// Returns the slot of the root alone.
-    pub(crate) fn new(alloc: Global) -> Result<Slots, AllocError>
+impl Handles {
+    /// Returns the root's handle alone.
+    pub(crate) fn new(alloc: Global) -> Result<Handles, AllocError>
         ensures { IfOk result (λ s. s ≡ new_slot [] ∷ []) }
     {
         let mut slots = Vec::new(alloc);
         slots.push(Slot::new(Key::default()))?;
-        Ok(Slots { slots })
+        Ok(Handles { slots })
     }
 
-    /// Returns the number of handles that were made, which is the next handle.
+    /// Returns how many handles were made, which is also the next handle.
     pub(crate) fn len(&self) -> Handle
         ensures { result ≡ length self.now }
     {
@@ -66,8 +67,7 @@ impl Slots {
     /// Adds steps to the counter of a handle, and returns whether the handle is valid. The step
     /// after 2^64-1 is 0.
     pub(crate) fn add_steps(&mut self, handle: Handle, step: Step) -> bool
-        ensures { SetsSlot self.old handle
-            (λ slot. record slot { counter = (slot.counter + step) % 2 ^ 64 }) result self.new }
+        ensures { SetsSlot self.old handle (raised step) result self.new }
     {
         match self.slots.get(handle as usize) {
             Some(slot) if slot.is_valid => {}
@@ -86,7 +86,7 @@ impl Slots {
         self.slots[handle as usize] = slot;
     }
 
-    /// Adds a slot. If there is no memory for it, the slots stay as they were.
+    /// Makes the next handle, with this slot. Without memory for it, nothing changes.
     pub(crate) fn push(&mut self, slot: Slot) -> Result<(), AllocError>
         ensures ok { OnOk result (self.new ≡ self.old ++ slot ∷ []) }
         ensures err { OnErr result (self.new ≡ self.old) }
@@ -95,7 +95,7 @@ impl Slots {
         Ok(())
     }
 
-    /// Removes the last slot.
+    /// Removes the handle that was made last.
     pub(crate) fn pop(&mut self)
         ensures { self.new ≡ take (length self.old - 1) self.old }
     {
@@ -103,20 +103,20 @@ impl Slots {
     }
 }
 
-impl Clone for Slots {
+impl Clone for Handles {
     ghost is_clone = { λ a b. b ≡ a };
 
     /// Returns a copy with counters of its own.
-    fn clone(&self) -> Result<Slots, AllocError> {
+    fn clone(&self) -> Result<Handles, AllocError> {
         let slots = self.slots.clone()?;
-        Ok(Slots { slots })
+        Ok(Handles { slots })
     }
 }
 
-impl Counters<Handle> for Slots {
+impl Counters<Handle> for Handles {
     ghost use Rattle.prodash_core.specs.Trees.{counter_at};
 
-    ghost shows = { λ slots handle number. number ≡ counter_at slots handle };
+    ghost shows = { λ handles handle number. number ≡ counter_at handles handle };
 
     fn number(&self, counter: Handle) -> Step {
         self.slots

@@ -54,7 +54,3 @@ Summaries = finite.FinMap path_cmp Summary
 -- what is kept is that of the observations of each path
 abbrev pub Summarize : Observations → Summaries → Type 0
 Summarize m summaries = (path : Path) → finite.get summaries path ≡ summary (observations_of m path)
-
--- the samples of a path after its last mark, the only ones that are kept
-abbrev pub kept_samples : Observations → Path → List Sample
-kept_samples m path = after_mark (samples_of (observations_of m path))

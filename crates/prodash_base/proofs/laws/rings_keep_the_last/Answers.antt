@@ -1,5 +1,5 @@
 use Rattle.prodash_base.proofs.RingLaws.{fold-push}
-use Rattle.prodash_base.proofs.messages.ring.rings_keep_the_last.Goals as goal
+use Rattle.prodash_base.proofs.laws.rings_keep_the_last.Goals as goal
 
 pub returns-clause-all : goal.returns-clause-all
 returns-clause-all c = fold-push
