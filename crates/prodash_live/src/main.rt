@@ -40,7 +40,7 @@ fn main(rt: HostRuntime) -> ExitCode {
     let Ok(clock) = Arc::new(rt.alloc(), SystemClock::new(rt)) else {
         return report_failure(&rt, Failure::Memory, options);
     };
-    let recording = match options.record.map(|path| File::create(&rt, path)) {
+    let file = match options.record.map(|path| File::create(&rt, path)) {
         None => None,
         Some(Ok(file)) => Some(file),
         Some(Err(error)) => return report_failure(&rt, Failure::Recording(error), options),
@@ -48,26 +48,10 @@ fn main(rt: HostRuntime) -> ExitCode {
     let input = rt.reader();
     let ended = if options.to_stdout {
         let is_terminal = rt.stdout().is_terminal();
-        live(
-            rt,
-            input,
-            rt.stdout(),
-            recording,
-            clock,
-            options,
-            is_terminal,
-        )
+        live(rt, input, rt.stdout(), file, clock, options, is_terminal)
     } else {
         let is_terminal = rt.stderr().is_terminal();
-        live(
-            rt,
-            input,
-            rt.stderr(),
-            recording,
-            clock,
-            options,
-            is_terminal,
-        )
+        live(rt, input, rt.stderr(), file, clock, options, is_terminal)
     };
     match ended {
         Ok(outcome) => report_outcome(&rt, outcome),

@@ -14,7 +14,8 @@ use Rattle.prodash_base.specs.declared.unit.units.Unit.{Unit}
 use Rattle.prodash_base.specs.contracts.unit.kind.KindPartialEq.TheImpl as kind
 use Rattle.prodash_base.specs.contracts.unit.units.UnitPartialEq.TheImpl as unit
 use Rattle.prodash_script.specs.Lines.{GivesLine}
-use Rattle.prodash_script.specs.Units.{HasNoWordWith, NamesUnit, is_unit_name, kind_in, name_and_mode, name_in, showing, stripped_by, unit_in}
+use Rattle.prodash_script.specs.Units.{NamesUnit, is_unit_name, kind_in, name_and_mode, name_in, showing, stripped_by, unit_in}
+use Rattle.prodash_script.specs.plumbing.Lines.{HasNoWordWith}
 use Rattle.prodash_script.specs.Words.{after_prefix, before_suffix, plain_kind, plain_unit}
 
 if_same_kind : (k l : Kind) → kind.ghosts.eq k l ≡ true → plain_kind k ≡ plain_kind l

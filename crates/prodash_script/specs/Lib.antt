@@ -5,3 +5,4 @@ pub mod Mistakes
 pub mod Reading
 pub mod Units
 pub mod Words
+pub mod plumbing

@@ -115,6 +115,6 @@ mistake_in handle line =
     (lookup arguments (split line).0)
     (Some (not_command (split line).0)))
 
--- the first mistake in a line that is no command
+-- the first mistake in a line that is no command; if none is found, the whole line is unknown
 abbrev pub first_mistake : Reader ℕ → List ℕ → Mistake
 first_mistake handle line = unwrap_or (mistake_in handle line) (UnknownCommand (ref_to line))

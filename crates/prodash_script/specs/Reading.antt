@@ -1,5 +1,5 @@
 -- The events as which lines are read.
-use Rattle.std.specs.Prelude.{ℕ, ◌^◌, List, [], ◌∷◌, ◌++◌, Bool, true, false, length, codes, Option, Some, None, Result, IfOk, ◌≡◌, option_map, option_and_then, nat_lt, nat_eq, bytes_eq, if◌then◌else◌}
+use Rattle.std.specs.Prelude.{ℕ, ◌^◌, List, [], ◌∷◌, ◌++◌, Bool, true, false, length, codes, Option, Some, None, Result, IfOk, IfSome, String, string_bytes, ◌≡◌, option_map, option_and_then, nat_lt, nat_eq, bytes_eq, if◌then◌else◌}
 use Rattle.std.specs.Option.{option_map_or}
 use Rattle.std.specs.List.{position_or_len, before_first, after_first}
 use Rattle.prodash_base.specs.declared.messages.MessageLevel.{MessageLevel}
@@ -161,13 +161,18 @@ read_line handle moment line =
     (cut_at_space line) (alone line)
 
 -- on success the event that was read, wherever its reason and the name of its unit are stored
-abbrev pub Reads : {E : Type 0} → Result (Option Event) E → Option Event → Type 0
-Reads result event = IfOk result (λ found. option_map plain found ≡ event)
+abbrev pub ReadsEvent : {E : Type 0} → Result (Option Event) E → Option Event → Type 0
+ReadsEvent result event = IfOk result (λ found. option_map plain found ≡ event)
 
 -- on success a line that says the event that was read
-abbrev pub ReadsLine : {E : Type 0} → Result (Option EventLine) E → Option Event → Type 0
-ReadsLine result event = IfOk result (λ found. option_map line_event found ≡ event)
+abbrev pub Reads : {E : Type 0} → Result (Option EventLine) E → Option Event → Type 0
+Reads result event = IfOk result (λ found. option_map line_event found ≡ event)
 
 -- a text that is read as an event, where handles and moments are numbers
 abbrev pub IsReadAs : Event → List ℕ → Type 0
 IsReadAs event line = read_line number_of number_of line ≡ Some (plain event)
+
+-- on success a text that is read as an event, if there is one
+abbrev pub ReadsBack : {Z E : Type 0} → Result (Option (String Z)) E → Event → Type 0
+ReadsBack result event =
+    IfOk result (λ found. IfSome found (λ line. IsReadAs event (string_bytes line)))

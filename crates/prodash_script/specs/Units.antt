@@ -78,9 +78,3 @@ name_in (Duration duration) = codes "duration"
 -- a word that says a unit; `-` says none
 abbrev pub NamesUnit : Option Unit → List ℕ → Type 0
 NamesUnit unit word = unit_in word ≡ Some (option_map plain_unit unit)
-
--- a unit whose word is not its name with these signs before it, nor with them after it
-abbrev pub HasNoWordWith : List ℕ → Unit → Type 0
-HasNoWordWith signs unit =
-    (¬ NamesUnit (Some unit) (signs ++ name_in unit.kind))
-    × (¬ NamesUnit (Some unit) (name_in unit.kind ++ signs))

@@ -3,6 +3,8 @@ ghost use Rattle.std.specs.Prelude.{◌≡◌, option_map};
 ghost use Rattle.prodash_script.specs.Commands.{handle_in};
 ghost use Rattle.prodash_script.specs.Mistakes.{arguments, first_mistake, is_argument, mistake_after, mistake_in, missing, next_word, not_argument, not_command, plain_mistake, split};
 ghost use Rattle.prodash_script.specs.Words.{lookup};
+ghost use Rattle.prodash_script.specs.plumbing.Commands.{Finds};
+ghost use Rattle.prodash_script.specs.plumbing.Readers.{plain_split, plain_text};
 
 use crate::labels::is_unit;
 use crate::mistake::{Argument, Mistake};
@@ -22,7 +24,7 @@ pub(crate) fn first_mistake<'a>(names: &Names, line: &'a str) -> Mistake<'a>
 
 /// Returns the first mistake in a line of a script, or `None` if it has none.
 fn mistake_in<'a>(names: &Names, line: &'a str) -> Option<Mistake<'a>>
-    ensures { option_map plain_mistake result ≡ mistake_in (handle_in names.now) line.now }
+    ensures { Finds result (mistake_in (handle_in names.now) line.now) }
 {
     if let Some(rest) = after(line, "add @") {
         let arguments = [Argument::Word, Argument::Item, Argument::Name];
@@ -70,9 +72,8 @@ fn mistake_after<'a>(
     arguments: &[Argument],
     rest: Option<&'a str>,
 ) -> Option<Mistake<'a>>
-    ensures { let text = option_map (λ rest. rest.now) rest.entry in
-        option_map plain_mistake result
-        ≡ mistake_after (handle_in names.now) arguments.now text }
+    ensures { Finds result
+        (mistake_after (handle_in names.now) arguments.now (plain_text rest.entry)) }
 {
     let Some((first, more)) = arguments.split_first() else {
         return rest.map(|text| Mistake::Extra(text));
@@ -89,7 +90,7 @@ fn mistake_after<'a>(
 
 /// Returns the mistake of a line that ends before this argument, unless it may be left out.
 fn missing(argument: Argument) -> Option<Mistake<'static>>
-    ensures { option_map plain_mistake result ≡ missing argument }
+    ensures { Finds result (missing argument) }
 {
     if argument == Argument::Unit {
         return None;
@@ -99,7 +100,7 @@ fn missing(argument: Argument) -> Option<Mistake<'static>>
 
 /// Returns the next word and what comes after it. The last one ends where the line does.
 fn next_word<'a>(more: &[Argument], rest: &'a str) -> (&'a str, Option<&'a str>)
-    ensures { (result.0.now, option_map (λ rest. rest.now) result.1) ≡ next_word more.now rest.now }
+    ensures { plain_split result ≡ next_word more.now rest.now }
 {
     if more.is_empty() {
         (rest, None)
@@ -110,7 +111,7 @@ fn next_word<'a>(more: &[Argument], rest: &'a str) -> (&'a str, Option<&'a str>)
 
 /// Returns the text before the first space and the text after it, if there is a space.
 fn split(text: &str) -> (&str, Option<&str>)
-    ensures { (result.0.now, option_map (λ rest. rest.now) result.1) ≡ split text.now }
+    ensures { plain_split result ≡ split text.now }
 {
     match cut(text) {
         Some((word, rest)) => (word, Some(rest)),

@@ -1,7 +1,7 @@
-ghost use Rattle.std.specs.Prelude.{◌≡◌, Some, true, IfOk, option_map};
-ghost use Rattle.prodash_script.specs.EventLines.{line_event};
-ghost use Rattle.prodash_script.specs.Reading.{Reads, ReadsLine, alone, bound_of, init_of, resize_of, cut_at_space, first_of, message_of, plain, read_by, read_line, small_of, text_of, then_read, without_text};
+ghost use Rattle.std.specs.Prelude.{◌≡◌, IfOk, option_map};
+ghost use Rattle.prodash_script.specs.Reading.{ReadsEvent, Reads, alone, bound_of, init_of, resize_of, cut_at_space, first_of, message_of, read_line, small_of, text_of, then_read};
 ghost use Rattle.prodash_script.specs.Words.{number_of};
+ghost use Rattle.prodash_script.specs.plumbing.Readers.{Says, plain_pair, plain_rest, event_by};
 
 use crate::change::Change;
 use crate::event_line::EventLine;
@@ -25,7 +25,7 @@ use std::alloc::{AllocError, Global};
 ///
 /// `AllocError`, if there is no memory for the event.
 pub fn parse(alloc: Global, labels: &mut Labels, line: &str) -> Result<Option<Event>, AllocError>
-    ensures { Reads result (read_line number_of number_of line.now) }
+    ensures { ReadsEvent result (read_line number_of number_of line.now) }
 {
     match parse_line(alloc, &Numbers, labels, line)? {
         Some(line) => Ok(Some(line.into_event())),
@@ -45,7 +45,7 @@ pub fn parse_line<W: Words>(
     labels: &mut Labels,
     line: &str,
 ) -> Result<Option<EventLine>, AllocError>
-    ensures { ReadsLine result
+    ensures { Reads result
         (read_line (W.handle_of words.now) (W.moment_of words.now) line.now) }
 {
     let Some((word, rest)) = cut(line) else {
@@ -70,8 +70,8 @@ pub fn parse_line<W: Words>(
 
 /// Parses a line that takes no memory.
 fn without_text<W: Words>(words: &W, word: &str, rest: &str) -> Option<EventLine>
-    ensures { let table = without_text (W.handle_of words.now) (W.moment_of words.now) in
-        option_map line_event result ≡ read_by table word.now rest.now }
+    ensures { Says result
+        (event_by (W.handle_of words.now) (W.moment_of words.now) word.now rest.now) }
 {
     Some(match word {
         "drop" => EventLine::Drop(words.handle(rest)?),
@@ -106,7 +106,7 @@ fn without_text<W: Words>(words: &W, word: &str, rest: &str) -> Option<EventLine
 
 /// Parses a line that is a single word.
 fn alone(word: &str) -> Option<EventLine>
-    ensures { option_map line_event result ≡ alone word.now }
+    ensures { Says result (alone word.now) }
 {
     match word {
         "droproot" => Some(EventLine::DropRoot),
@@ -127,7 +127,7 @@ pub(crate) fn bound(word: &str) -> Option<Option<Step>>
 /// Returns the text before the first space and the text after it, or `None` if there is no space.
 #[tactic(auto, unfolding(crate::specs::Reading::cut_at_space))]
 pub(crate) fn cut(text: &str) -> Option<(&str, &str)>
-    ensures { option_map (λ parts. (parts.0.now, parts.1.now)) result ≡ cut_at_space text.now }
+    ensures { option_map plain_pair result ≡ cut_at_space text.now }
 {
     text.split_once(' ')
 }
@@ -135,8 +135,7 @@ pub(crate) fn cut(text: &str) -> Option<(&str, &str)>
 /// Parses a handle and the text after it.
 #[tactic(auto, unfolding(crate::specs::Reading::first_of))]
 pub(crate) fn handle_and_text<'a, W: Words>(words: &W, rest: &'a str) -> Option<(Handle, &'a str)>
-    ensures { let handle = W.handle_of words.now in
-        option_map (λ it. (it.0, it.1.now)) result ≡ first_of handle rest.now }
+    ensures { option_map plain_rest result ≡ first_of (W.handle_of words.now) rest.now }
 {
     let (handle, text) = cut(rest)?;
     Some((words.handle(handle)?, text))
@@ -184,7 +183,7 @@ fn init<W: Words>(
     labels: &mut Labels,
     rest: &str,
 ) -> Result<Option<EventLine>, AllocError>
-    ensures { ReadsLine result (init_of (W.handle_of words.now) rest.now) }
+    ensures { Reads result (init_of (W.handle_of words.now) rest.now) }
 {
     let Some((item, rest)) = handle_and_text(words, rest) else {
         return Ok(None);
@@ -209,7 +208,7 @@ fn message<W: Words>(
     level: MessageLevel,
     rest: &str,
 ) -> Result<Option<EventLine>, AllocError>
-    ensures { ReadsLine result
+    ensures { Reads result
         (message_of level (W.handle_of words.now) (W.moment_of words.now) rest.now) }
 {
     let Some((item, rest)) = handle_and_text(words, rest) else {
@@ -229,7 +228,7 @@ fn message<W: Words>(
 /// Parses the arguments `AT COLUMNS ROWS`.
 #[tactic(auto, unfolding(crate::specs::Reading::first_of))]
 fn resize<W: Words>(words: &W, rest: &str) -> Option<EventLine>
-    ensures { option_map line_event result ≡ resize_of (W.moment_of words.now) rest.now }
+    ensures { Says result (resize_of (W.moment_of words.now) rest.now) }
 {
     let (at, rest) = cut(rest)?;
     let (columns, rows) = cut(rest)?;

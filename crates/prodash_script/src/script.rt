@@ -1,8 +1,9 @@
 //! Lines of scripts, whose items may have words for names.
-ghost use Rattle.std.specs.Prelude.{◌≡◌, Some, IfOk, IfSome, option_map};
-ghost use Rattle.prodash_script.specs.Commands.{accepted, begin_of, command_of, event_of, handle_in, is_comment, moment_in, named_add_of, plain_command, size_of};
+ghost use Rattle.std.specs.Prelude.{◌≡◌, IfOk, IfSome, option_map};
+ghost use Rattle.prodash_script.specs.Commands.{begin_of, command_of, handle_in, is_comment, named_add_of, plain_command, size_of};
 ghost use Rattle.prodash_script.specs.Mistakes.{name_in, size_number_of};
 ghost use Rattle.prodash_script.specs.Words.{after_prefix};
+ghost use Rattle.prodash_script.specs.plumbing.Commands.{IsAcceptedAs, ReadsCommand, accepted_in, event_in};
 
 use crate::change::Change;
 use crate::command::Command;
@@ -121,9 +122,8 @@ fn is_comment(line: &[u8]) -> bool
 /// a mistake, or is another line. `accepted` gives the same; most lines of a script are these, and
 /// looked at first each takes 860 instructions in place of 1,310.
 fn step_change(script: Script<'_>, line: &str) -> Option<(Handle, Change)>
-    ensures { let accepted = accepted (handle_in script.entry.names.now)
-        (moment_in script.entry.now) line.now in
-        IfSome result (λ it. accepted ≡ Some (plain_command (Command.Change it.0 it.1))) }
+    ensures { IfSome result
+        (IsAcceptedAs script.entry.names.now script.entry.now line.now) }
 {
     if let Some(rest) = after(line, "set ") {
         let (item, step) = handle_and_number(&script, rest)?;
@@ -140,9 +140,8 @@ fn accepted(
     labels: &mut Labels,
     line: &str,
 ) -> Result<Option<Command<'static>>, AllocError>
-    ensures { let names = script.entry.names.now in
-        IfOk result (λ found. option_map plain_command found
-        ≡ accepted (handle_in names) (moment_in script.entry.now) line.now) }
+    ensures { ReadsCommand result
+        (accepted_in script.entry.names.now script.entry.now line.now) }
 {
     if let Some(rest) = after(line, "add @") {
         return named_add(alloc, script, rest);
@@ -170,8 +169,7 @@ fn named_add(
     script: Script<'_>,
     rest: &str,
 ) -> Result<Option<Command<'static>>, AllocError>
-    ensures { IfOk result (λ found. option_map plain_command found
-        ≡ named_add_of (handle_in script.entry.names.now) rest.now) }
+    ensures { ReadsCommand result (named_add_of (handle_in script.entry.names.now) rest.now) }
 {
     let Some((word, rest)) = cut(rest) else {
         return Ok(None);
@@ -194,8 +192,7 @@ fn init(
     labels: &mut Labels,
     rest: &str,
 ) -> Result<Option<Command<'static>>, AllocError>
-    ensures { IfOk result (λ found. option_map plain_command found
-        ≡ begin_of (handle_in script.entry.names.now) rest.now) }
+    ensures { ReadsCommand result (begin_of (handle_in script.entry.names.now) rest.now) }
 {
     let Some((item, rest)) = handle_and_text(&script, rest) else {
         return Ok(None);
@@ -240,9 +237,7 @@ fn event(
     labels: &mut Labels,
     line: &str,
 ) -> Result<Option<Command<'static>>, AllocError>
-    ensures { let names = script.entry.names.now in
-        IfOk result (λ found. option_map plain_command found
-        ≡ event_of (handle_in names) (moment_in script.entry.now) line.now) }
+    ensures { ReadsCommand result (event_in script.entry.names.now script.entry.now line.now) }
 {
     let Some(line) = parse_line(alloc, &script, labels, line)? else {
         return Ok(None);

@@ -74,7 +74,7 @@ impl Part {
         }
     }
 
-    fn next(&self) -> Next {
+    fn outcome(&self) -> Next {
         if self.is_too_long {
             Next::TooLong
         } else {
@@ -95,8 +95,8 @@ impl Part {
         self.bytes.extend_from_slice(bytes)
     }
 
-    /// Takes bytes up to the line feed. Returns how many were consumed, and whether the line ends.
-    fn take(&mut self, bytes: &[u8]) -> Result<(usize, bool), AllocError>
+    /// Appends bytes up to the line feed. Returns how many were consumed, and whether the line ends.
+    fn extend_to_line_feed(&mut self, bytes: &[u8]) -> Result<(usize, bool), AllocError>
         ensures { IfOk result (λ taken. taken.0 ≤ length bytes.now) }
     {
         match memchr(b'\n', bytes) {
@@ -159,8 +159,8 @@ impl<I: Read + Drop> Lines<I> {
                 return Ok(if is_some { Next::CutOff } else { Next::End });
             }
             is_some = is_some || self.at < self.end;
-            if self.take()? {
-                return Ok(self.line.next());
+            if self.take_part()? {
+                return Ok(self.line.outcome());
             }
         }
         Ok(Next::End)
@@ -194,9 +194,9 @@ impl<I: Read + Drop> Lines<I> {
     }
 
     /// Takes bytes up to the line feed. Returns whether there is one.
-    fn take(&mut self) -> Result<bool, AllocError> {
+    fn take_part(&mut self) -> Result<bool, AllocError> {
         let mut line = mem::replace(&mut self.line, Part::new(self.alloc));
-        let taken = line.take(&self.chunk[self.at..self.end]);
+        let taken = line.extend_to_line_feed(&self.chunk[self.at..self.end]);
         self.line = line;
         let (count, is_whole) = taken?;
         self.at += count;

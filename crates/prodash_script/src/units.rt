@@ -1,7 +1,8 @@
-ghost use Rattle.std.specs.Prelude.{◌≡◌, ◌≢◌, ◌↔◌, IsTrue, IfOk, MatchOption, Some, string_bytes};
+ghost use Rattle.std.specs.Prelude.{◌≡◌, ◌↔◌, IsTrue, IfOk, MatchOption, Some};
 ghost use Rattle.prodash_script.specs.Lines.{GivesLine};
-ghost use Rattle.prodash_script.specs.Units.{HasNoWordWith, NamesUnit, kind_in, name_in};
-ghost use Rattle.prodash_script.specs.Words.{plain_kind};
+ghost use Rattle.prodash_script.specs.Units.{NamesUnit, name_in};
+ghost use Rattle.prodash_script.specs.plumbing.Lines.{FindsWordWith};
+ghost use Rattle.prodash_script.specs.plumbing.Readers.{IsKindNamed};
 
 use crate::labels::{is_unit_name, name_and_mode};
 use prodash_base::unit::human::Formatter;
@@ -33,8 +34,7 @@ pub(crate) fn word_of(alloc: Global, unit: Option<Unit>) -> Result<Option<String
 
 /// Returns the name of a unit with signs before it, or else after it, if that is its word.
 fn with_signs(alloc: Global, signs: &str, unit: Unit) -> Result<Option<String>, AllocError>
-    ensures { IfOk result (λ found. MatchOption found
-        (HasNoWordWith signs.now unit) (λ word. NamesUnit (Some unit) (string_bytes word))) }
+    ensures { IfOk result (FindsWordWith signs.now unit) }
 {
     let name = name_of(unit.as_display_value());
     let before = format!(in alloc; "{signs}{name}")?;
@@ -81,8 +81,7 @@ fn names(word: &str, unit: Unit) -> bool
 
 /// Returns the kind of unit that a name says, or `None` if that is a label other than this one.
 fn kind_named(name: &str, kind: Kind) -> Option<Kind>
-    ensures { MatchOption result
-        (plain_kind kind ≢ kind_in name.now) (λ named. plain_kind named ≡ kind_in name.now) }
+    ensures { MatchOption result (¬ IsKindNamed name.now kind) (IsKindNamed name.now) }
 {
     Some(match name {
         "steps" => Kind::Range(Range::new("steps")),

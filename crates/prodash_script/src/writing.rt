@@ -1,7 +1,7 @@
 ghost use Rattle.std.specs.Prelude.{◌≡◌, ◌<◌, ◌^◌, codes, IfOk, IfSome, string_bytes, true};
 ghost use Rattle.std.specs.Fmt.{decimal};
 ghost use Rattle.prodash_script.specs.Lines.{GivesLine, IsLineOf, IsOneLine, bound_word, is_one_line, spaced, text_line, word_line};
-ghost use Rattle.prodash_script.specs.Reading.{IsReadAs};
+ghost use Rattle.prodash_script.specs.Reading.{ReadsBack};
 
 use crate::change::REASON;
 use crate::units::word_of;
@@ -25,8 +25,7 @@ use std::alloc::{AllocError, Global};
 /// `AllocError`, if there is no memory for the line.
 pub fn to_line(alloc: Global, event: &Event) -> Result<Option<String>, AllocError>
     ensures line { GivesLine result (IsLineOf event.now) }
-    ensures read { IfOk result (λ found. IfSome found (λ line.
-        IsReadAs event.now (string_bytes line))) }
+    ensures read { ReadsBack result event.now }
 {
     match event {
         Event::AddChild { parent, name, id } => {
@@ -197,8 +196,8 @@ fn init_line(
     max: &str,
     unit: &str,
 ) -> Result<Option<String>, AllocError>
-    ensures { GivesLine result (λ line.
-        line ≡ text_line (codes "init") item (spaced max.now unit.now)) }
+    ensures { GivesLine result (λ it.
+        it ≡ text_line (codes "init") item (spaced max.now unit.now)) }
 {
     Ok(Some(format!(in alloc; "init {item} {max} {unit}")?))
 }

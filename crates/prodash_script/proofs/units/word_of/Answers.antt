@@ -1,5 +1,5 @@
 use Rattle.std.proofs.Common.{rules, codes}
-use Rattle.prodash_script.specs.Units.{HasNoWordWith}
+use Rattle.prodash_script.specs.plumbing.Lines.{HasNoWordWith}
 use Rattle.prodash_script.proofs.UnitWords.{word_of}
 use Rattle.prodash_script.proofs.units.word_of.Goals as goal
 
