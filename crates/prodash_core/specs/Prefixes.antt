@@ -38,10 +38,6 @@ branches first orphan (own ∷ []) = own_branch first orphan own ∷ []
 branches first orphan (location ∷ next ∷ more) =
     ancestor_branch first orphan location ∷ code " " ∷ branches false orphan (next ∷ more)
 
--- the bytes of these characters of a row, which may be an orphan
-abbrev pub branch_bytes : Bool → List SiblingLocation → List ℕ
-branch_bytes orphan locations = encode_utf8_all (branches true orphan locations)
-
 -- a row is an orphan if the level of its adjacency isn't its own
 abbrev pub is_orphan : Adjacency → ℕ → Bool
 is_orphan a level = not (level_of a == level)

@@ -1,4 +1,5 @@
 pub mod MissingNames
+pub mod BranchBytes
 pub mod Handles
 pub mod Inputs
 pub mod MessageRefusals

@@ -2,7 +2,8 @@ ghost use Rattle.std.specs.Prelude.{◌≡◌, ◌<◌, ◌≤◌, length, IfOk,
 ghost use Rattle.prodash_base.specs.Appending.{Appends};
 ghost use Rattle.prodash_base.specs.Path.{max_level};
 ghost use Rattle.prodash_base.specs.Adjacency.{IsAscending, paths_of};
-ghost use Rattle.prodash_core.specs.Prefixes.{own_branch, ancestor_branch, branch_bytes, prefix_of, IsPrefixAt};
+ghost use Rattle.prodash_core.specs.plumbing.BranchBytes.{branch_bytes};
+ghost use Rattle.prodash_core.specs.Prefixes.{own_branch, ancestor_branch, prefix_of, IsPrefixAt};
 
 use prodash_base::Refusal;
 use prodash_base::progress::key::{Adjacency, Level, SiblingLocation};
