@@ -1,7 +1,7 @@
 //! Screens that break after each byte of a run, and at each of its flushes.
 use crate::fixtures::{FakeScreen, TERMINAL, assert_same};
 use crate::runs::{MEASURED, RUNS};
-use crate::transcripts::{applied, events_of, new_session, options, ran};
+use crate::transcripts::{apply_event, events_of, new_session, options, run_events};
 use prodash_base::Refusal;
 use prodash_core::tree::{Event, Reply, SessionOptions};
 use prodash_line::render::line::draw::{self, MemoryScreen, OverWrite};
@@ -25,8 +25,8 @@ struct Whole {
     screen: MemoryScreen,
 }
 
-/// Plays a transcript on a screen that doesn't break.
-fn play_whole(rt: &impl Abort, alloc: Global, options: &SessionOptions, transcript: &str) -> Whole {
+/// Runs a transcript on a screen that doesn't break.
+fn run_whole(rt: &impl Abort, alloc: Global, options: &SessionOptions, transcript: &str) -> Whole {
     let events = events_of(rt, alloc, transcript, "\n");
     let mut session = new_session(rt, alloc, options);
     let mut screen = MemoryScreen::new(alloc, 0).expect(rt, "memory");
@@ -34,7 +34,7 @@ fn play_whole(rt: &impl Abort, alloc: Global, options: &SessionOptions, transcri
     for event in &events {
         let step = Step {
             is_frame: event.is_frame(),
-            reply: applied(alloc, &mut session, event, &mut screen),
+            reply: apply_event(alloc, &mut session, event, &mut screen),
             end: screen.bytes().len(),
         };
         steps.push(step).expect(rt, "memory");
@@ -112,7 +112,7 @@ fn assert_over_writer(
         flushes_left,
         is_full,
     });
-    let replies = ran(rt, alloc, options, &whole.events, &mut screen);
+    let replies = run_events(rt, alloc, options, &whole.events, &mut screen);
     let writer = screen.into_inner();
     assert_broken(rt, whole, &replies, &writer.bytes, taken, kept);
 }
@@ -128,7 +128,7 @@ fn assert_breaks_after(
 ) {
     for at_once in [1, usize::MAX] {
         let mut screen = FakeScreen::new(alloc, at_once, taken, true).expect(rt, "memory");
-        let replies = ran(rt, alloc, options, &whole.events, &mut screen);
+        let replies = run_events(rt, alloc, options, &whole.events, &mut screen);
         assert_broken(rt, whole, &replies, &screen.bytes, taken, taken);
     }
     for is_full in [false, true] {
@@ -140,7 +140,7 @@ fn assert_breaks_after(
 /// Asserts that runs of a transcript do what a session does on screens that take all bytes, and end
 /// as they should on screens that break after each byte, and at each flush.
 fn assert_breaks(rt: &impl Abort, alloc: Global, options: &SessionOptions, transcript: &str) {
-    let whole = play_whole(rt, alloc, options, transcript);
+    let whole = run_whole(rt, alloc, options, transcript);
     for taken in 0..=whole.screen.bytes().len() {
         assert_breaks_after(rt, alloc, options, &whole, taken);
     }

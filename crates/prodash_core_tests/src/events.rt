@@ -1,5 +1,5 @@
 use crate::fixtures::{assert_told_apart, clones};
-use crate::transcripts::{events_of, options, ran_line};
+use crate::transcripts::{events_of, options, run_line};
 use prodash_core::tree::Reply;
 use prodash_line::render::line::draw::MemoryScreen;
 use std::alloc::Global;
@@ -80,7 +80,7 @@ add 4 g; add 5 h; add 6 i; add 7 j; drop 7; name? 8; hold 0; quit 0; quit 0; dro
 /// The replies to these.
 fn some_replies(rt: &impl Abort, alloc: Global) -> Vec<Reply> {
     let mut screen = MemoryScreen::new(alloc, 0).expect(rt, "memory");
-    ran_line(rt, alloc, &options(20), ASKED, &mut screen)
+    run_line(rt, alloc, &options(20), ASKED, &mut screen)
 }
 
 /// Events and replies differ by any field, and equal their clones.

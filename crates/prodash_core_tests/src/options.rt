@@ -1,5 +1,5 @@
 use crate::fixtures::{TERMINAL, assert_same, cells};
-use crate::transcripts::{options, ran_line};
+use crate::transcripts::{options, run_line};
 use prodash_core::tree::SessionOptions;
 use prodash_line::render::line::draw::{MemoryScreen, Options};
 use std::alloc::Global;
@@ -201,15 +201,15 @@ fn without_comment(run: &str) -> &str {
 /// frames as string literals.
 fn assert_run(rt: &impl Abort, alloc: Global, options: &SessionOptions, run: &str) {
     let (asked, _) = cells(rt, run);
-    let got = outcome(rt, alloc, options, asked);
+    let got = line_of_run(rt, alloc, options, asked);
     let want = run.replace(alloc, "\"\n\"", "").expect(rt, "memory");
     assert_same(rt, got.as_str(), want.as_str(), "run");
 }
 
 /// Runs the events of a line, and returns what a run with this line should say.
-fn outcome(rt: &impl Abort, alloc: Global, options: &SessionOptions, asked: &str) -> String {
+fn line_of_run(rt: &impl Abort, alloc: Global, options: &SessionOptions, asked: &str) -> String {
     let mut screen = MemoryScreen::new(alloc, 0).expect(rt, "memory");
-    let replies = ran_line(rt, alloc, options, asked, &mut screen);
+    let replies = run_line(rt, alloc, options, asked, &mut screen);
     let last = replies.last().expect(rt, "a reply");
     let bytes = str::from_utf8(screen.bytes()).expect(rt, "UTF-8");
     format!(in alloc; "{asked} -> {last:?}\n{bytes:?}").expect(rt, "memory")

@@ -1,7 +1,7 @@
 //! Sessions and runs.
 use crate::fixtures::{FakeScreen, assert_same, assert_shown};
 use crate::transcripts::{
-    applied, assert_session, event_of, new_session, options, outcome, ran_line,
+    apply_event, assert_session, event_of, line_after, new_session, options, run_line,
 };
 use prodash_core::tree::{Event, Session, SessionOptions};
 use prodash_line::render::line::draw::MemoryScreen;
@@ -282,7 +282,7 @@ max? 65537 -> Bound(Some(1))"#;
 
 /// Applies an event that writes nothing, whatever the reply.
 fn apply(alloc: Global, session: &mut Session, event: &Event, screen: &mut MemoryScreen) {
-    applied(alloc, session, event, screen);
+    apply_event(alloc, session, event, screen);
 }
 
 /// Adds 65535 children to the root.
@@ -297,7 +297,7 @@ fn add_children(rt: &impl Abort, alloc: Global, session: &mut Session) {
 /// Asserts that the last row is that of the 65537th child of the root, which has got a progress.
 fn assert_last_row(rt: &impl Abort, alloc: Global, session: &mut Session) {
     let event = event_of(rt, alloc, "snapshot");
-    let got = outcome(rt, alloc, session, &event);
+    let got = line_after(rt, alloc, session, &event);
     let has_row = got.as_str().contains(r#", Row [65536] "Z" 0/1])"#);
     assert_same(rt, has_row, true, "last row");
 }
@@ -322,7 +322,7 @@ Rows(Rows [Row [0] \"task\" 3/10])]";
 #[test]
 fn a_broken_screen_leaves_the_tree(rt: HostRuntime) {
     let mut screen = FakeScreen::new(rt.alloc(), 200, 5, true).expect(&rt, "memory");
-    let replies = ran_line(&rt, rt.alloc(), &options(20), BREAKS, &mut screen);
+    let replies = run_line(&rt, rt.alloc(), &options(20), BREAKS, &mut screen);
     assert_shown(&rt, rt.alloc(), &replies, BROKEN);
     assert_same(&rt, screen.bytes.as_slice(), b" task", "bytes");
 }

@@ -119,7 +119,7 @@ pub(crate) fn new_session(rt: &impl Abort, alloc: Global, options: &SessionOptio
 }
 
 /// Applies an event to a session.
-pub(crate) fn applied(
+pub(crate) fn apply_event(
     alloc: Global,
     session: &mut Session,
     event: &Event,
@@ -129,7 +129,7 @@ pub(crate) fn applied(
 }
 
 /// Runs events on a screen.
-pub(crate) fn ran<S: Screen>(
+pub(crate) fn run_events<S: Screen>(
     rt: &impl Abort,
     alloc: Global,
     options: &SessionOptions,
@@ -140,7 +140,7 @@ pub(crate) fn ran<S: Screen>(
 }
 
 /// Runs the events of a line, with `; ` between two of them, on a screen.
-pub(crate) fn ran_line<S: Screen>(
+pub(crate) fn run_line<S: Screen>(
     rt: &impl Abort,
     alloc: Global,
     options: &SessionOptions,
@@ -148,18 +148,18 @@ pub(crate) fn ran_line<S: Screen>(
     screen: &mut S,
 ) -> Vec<Reply> {
     let events = events_of(rt, alloc, line, "; ");
-    ran(rt, alloc, options, &events, screen)
+    run_events(rt, alloc, options, &events, screen)
 }
 
 /// Applies an event to a session, and returns what a transcript has after it.
-pub(crate) fn outcome(
+pub(crate) fn line_after(
     rt: &impl Abort,
     alloc: Global,
     session: &mut Session,
     event: &Event,
 ) -> String {
     let mut screen = MemoryScreen::new(alloc, 0).expect(rt, "memory");
-    let reply = applied(alloc, session, event, &mut screen);
+    let reply = apply_event(alloc, session, event, &mut screen);
     let bytes = str::from_utf8(screen.bytes()).expect(rt, "UTF-8");
     format!(in alloc; "{reply:?} -> {bytes:?}").expect(rt, "memory")
 }
@@ -168,7 +168,7 @@ pub(crate) fn outcome(
 fn assert_line(rt: &impl Abort, alloc: Global, session: &mut Session, line: &str) {
     let (asked, told) = cells(rt, line);
     let event = event_of(rt, alloc, asked);
-    let got = outcome(rt, alloc, session, &event);
+    let got = line_after(rt, alloc, session, &event);
     assert_same(rt, got.as_str().trim_end_matches(" -> \"\""), told, asked);
 }
 
