@@ -14,13 +14,13 @@ the frames starts late: it waits until all lines are taken, or for ten seconds.
   >   cat
   > }
   $ seq 20000 | sed 's/^/ a /; s/$/ of a burst of messages/' >expected
-  $ burst | timeout 30 prodash-live --stdout --fps 1 | late | cmp expected -
+  $ burst | timeout 60 prodash-live --stdout --fps 1 | late | cmp expected -
   $ rm taken
 
 The same on a terminal, where rows wait for the delay.
 
   $ as_on_a_terminal() {
-  >   timeout 30 prodash-live --stdout --fps 1 --no-color --terminal always --delay 86400000
+  >   timeout 60 prodash-live --stdout --fps 1 --no-color --terminal always --delay 86400000
   > }
   $ burst | as_on_a_terminal | late >output
   $ rm taken
@@ -32,13 +32,40 @@ The same on a terminal, where rows wait for the delay.
 Faulty lines are messages too. These are so long that few of them fit in the pipe.
 
   $ nothings() { yes "$(printf 'nothing %0200d' 0)" | head -n 20000 && touch taken; }
-  $ nothings | timeout 38 prodash-live --stdout --fps 1 | late >output
+  $ nothings | timeout 60 prodash-live --stdout --fps 1 | late >output
   $ shown=$(printf 'nothing %052d' 0)
   $ seq 20000 | sed "s/.*/ ✗ input line &: unknown command \"nothing\", in: $shown/" | cmp output -
 
 Nothing waits for a frame that won't come, because the output is broken or the root was dropped.
 
-  $ burst | timeout 30 prodash-live --stdout --fps 1 >/dev/full
+  $ burst | timeout 60 prodash-live --stdout --fps 1 >/dev/full
   cannot write to standard output: No space left on device (os error 28)
   [1]
-  $ burst | sed '1adroproot' | timeout 30 prodash-live --stdout --fps 1
+  $ burst | sed '1adroproot' | timeout 60 prodash-live --stdout --fps 1
+
+Frames in a burst
+=================
+
+While lines wait for a frame it is drawn early: at one frame a second, 300,000 messages take less
+than a minute. If each of their frames came a second after the one before, they would take longer.
+
+  $ {
+  >   echo 'add @a 0 a'
+  >   yes 'info @a 0 one' | head -n 300000
+  > } | timeout 60 prodash-live --stdout --fps 1 | uniq -c | sed 's/^ *//'
+  300000  a one
+
+After a burst frames are as far apart as before it: at two a second, the last four of these
+messages, each of which is in a frame of its own, take two seconds.
+
+  $ burst_and_more() {
+  >   echo 'add @a 0 a'
+  >   yes 'info @a 0 burst' | head -n 10000
+  >   for it in one two three four five; do
+  >     echo "info @a 0 $it"
+  >     until grep -q "$it" output; do sleep 0.02; done
+  >   done
+  > }
+  $ began=$(date +%s%N)
+  $ burst_and_more | prodash-live --stdout --fps 2 >output
+  $ [ $((($(date +%s%N) - began) / 1000000)) -ge 2000 ]

@@ -22,3 +22,12 @@ those of the frame before it.
    task
     first 0/3 [>-------------------------]
     final 2/3 [================>---------]
+
+The name of a unit is kept once, however often it is given: 100,000 units with the same name of 1000
+bytes fit in less memory than as many copies take.
+
+  $ unit=$(printf '%01000d' 0)
+  $ {
+  >   echo 'add @task 0 task'
+  >   yes "init @task 3 $unit" | head -n 100000
+  > } | (ulimit -v 80000; MALLOC_ARENA_MAX=1 exec prodash-live --strict)

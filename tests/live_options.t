@@ -38,6 +38,12 @@ The version, the help, and what is refused.
         --record <FILE>         record the run, for prodash-replay
     -h, --help                  print help
     -V, --version               print version
+  $ prodash-live --help >/dev/full
+  output is broken
+  [1]
+  $ prodash-live --version >/dev/full
+  output is broken
+  [1]
   $ prodash-live --rows 0 --strict=yes script --help | head -n 1
   Shows progress on a terminal from the event lines of standard input
   $ prodash-live --rows 0
@@ -62,6 +68,11 @@ The version, the help, and what is refused.
   [2]
   $ prodash-live --delay 86400001
   error: invalid value '86400001' for '--delay', which takes a number from 0 to 86400000
+  
+  For more information, try '--help'.
+  [2]
+  $ prodash-live --delay -5
+  error: invalid value '-5' for '--delay', which takes a number from 0 to 86400000
   
   For more information, try '--help'.
   [2]

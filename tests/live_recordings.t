@@ -12,7 +12,7 @@ recording without its ticks and the moments of the run.
   > add @b @a beta
   > init @b 10 files%
   > set @b 3
-  > info @b 0 one
+  > info @b - one
   > bad
   > add @b 0 delta
   > init @b 007
@@ -22,7 +22,7 @@ recording without its ticks and the moments of the run.
   > running @b
   > inc @b 2
   > max @b -
-  > fail @b 0 three
+  > fail @b - three
   > done 1 - two
   > set 2 1
   > size 60 10
@@ -35,7 +35,7 @@ recording without its ticks and the moments of the run.
   add 1 beta
   init 2 10 files%
   set 2 3
-  info 2 0 one
+  info 2 NOW one
   add 0 input
   name 3 \xe2\x9c\x97 input (esc)
   fail 3 NOW line 7: unknown command "bad", in: bad
@@ -51,7 +51,7 @@ recording without its ticks and the moments of the run.
   inc 4 2
   max 4 -
   name 4 \xe2\x9c\x97 epsilon (esc)
-  fail 4 0 three
+  fail 4 NOW three
   name 4 epsilon
   name 1 \xe2\x9c\x93 alpha (esc)
   done 1 NOW two
@@ -175,12 +175,44 @@ A recording has all lines that were taken, even if the run is killed.
   $ prodash-live --record recording <lines &
   $ exec 3>lines
   $ printf 'add 0 a\nset 1 3\n' >&3
-  $ for _ in $(seq 300); do grep -qs set recording && break; sleep 0.01; done
+  $ until grep -qs set recording; do sleep 0.01; done
   $ kill -9 $!
   $ exec 3>&-
   $ events recording
   add 0 a
   set 1 3
+
+After a write that fails nothing is recorded, so that a recording has no gap. The reader of this one
+is gone at the second message, and another has come before the third. Once a message is shown, what
+came before it has been written.
+
+  $ shown() { until grep -qs "$1" messages; do sleep 0.01; done; }
+  $ mkfifo pipe
+  $ (trap '' PIPE; exec prodash-live --record pipe <lines 2>messages) &
+  $ recorder=$!
+  $ exec 3>lines 4<pipe
+  $ printf 'add 0 a\ninfo 1 0 one\n' >&3
+  $ shown one
+  $ exec 4<&-
+  $ printf 'info 1 0 two\n' >&3
+  $ shown two
+  $ printf 'info 1 0 three\n' >&3
+  $ shown three
+  $ exec 4<>pipe
+  $ printf 'info 1 0 four\n' >&3
+  $ exec 3>&-
+  $ wait $recorder
+  [1]
+  $ echo 'nothing more' >&4
+  $ head -n 1 <&4
+  nothing more
+  $ exec 4<&-
+  $ cat messages
+   a one
+   a two
+   a three
+   a four
+  cannot write pipe: Broken pipe (os error 32)
 
 The relay doesn't change that.
 

@@ -6,12 +6,16 @@ either ends with an error, after a closing frame if its renderer was running, or
 without what it was refused, draws the row, and erases it in the closing frame. While rows are
 hidden, the closing frame is the first with any bytes.
 
+The last size comes after the task, and a frame of that size needs more memory than the one before.
+If it is refused memory it is drawn later, so that there is always a row of 3000 columns.
+
   $ build-failures .
   $ without_rows=$(printf '\r\033[J')
   $ row_erased=$(printf '\r\033[2K\n\033[J\033[1A')
+  $ wide=m$(printf '%02986d' 0 | tr 0 -)$(printf '\033[0m]')
   $ run() {
-  >   echo add 0 task | timeout 10 env REFUSED=$number MARK=9 LD_PRELOAD=./failures.so \
-  >     prodash-live --terminal always --delay "$1" 2>written 9>refused
+  >   printf 'add 0 task\ninit 1 10\nsize 3000 20\n' | timeout 60 env REFUSED=$number MARK=9 \
+  >     LD_PRELOAD=./failures.so prodash-live --terminal always --delay "$1" 2>written 9>refused
   > }
   $ refuse_each() {
   >   number=0
@@ -19,7 +23,7 @@ hidden, the closing frame is the first with any bytes.
   >     number=$((number + 1)) status=0
   >     run "$1" || status=$?
   >     case "delay $1, status $status: $(cat written)" in
-  >     "delay 0, status 0: "*"task"*"$row_erased" | "delay $hidden, status 0: $without_rows") ;;
+  >     "delay 0, status 0: "*"$wide"*"$row_erased" | "delay $hidden, status 0: $without_rows") ;;
   >     *"status 1: "*"${without_rows}no memory" | *"status 1: no memory") ;;
   >     *"status 1: no thread" | *"status 2: error: out of memory") ;;
   >     *) echo "allocation $number: status $status" && cat written && break ;;

@@ -21,9 +21,9 @@ An input that can't be read, and an output that can't be written.
 Once the output is broken, no more of the input is read, whatever its lines ask for.
 
   $ endless() { echo 'add 0 a'; yes "$1"; }
-  $ endless 'set 1 3' | timeout 10 prodash-live --stdout --terminal always >/dev/full
+  $ endless 'set 1 3' | timeout 60 prodash-live --stdout --terminal always >/dev/full
   cannot write to standard output: No space left on device (os error 28)
   [1]
-  $ endless 'running 1' | timeout 10 prodash-live --stdout --terminal always >/dev/full
+  $ endless 'running 1' | timeout 60 prodash-live --stdout --terminal always >/dev/full
   cannot write to standard output: No space left on device (os error 28)
   [1]

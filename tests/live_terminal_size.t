@@ -4,7 +4,7 @@ prodash-live: the size of the terminal
 A line sets the size. Empty lines and those that begin with `#` do nothing, and a line may end in
 CR LF.
 
-  $ shown() { for it in $(seq 800); do grep -qs "$1" output && return; sleep 0.01; done; return 1; }
+  $ shown() { until grep -qs "$1" output; do sleep 0.01; done; }
   $ mkfifo lines
   $ prodash-live --stdout --no-color --terminal always --columns 40 <lines >output &
   $ exec 3>lines
@@ -33,9 +33,13 @@ one.
   40 columns
   30 columns
   4/10
-  $ COLUMNS=40 timeout 2 resize relay prodash-live --no-color
+  $ COLUMNS=40 resize relay prodash-live --no-color >sizes &
+  $ resizing=$!
+  $ until grep -qs 40 sizes; do sleep 0.01; done
+  $ sleep 1
+  $ kill $resizing
+  $ cat sizes
   40 columns
-  [124]
 
 Columns
 =======
@@ -60,6 +64,10 @@ The environment gives the number of columns, unless an option does. It also turn
   >   <one_task 2>frames
   $ last_row
    task 3/10 [=======>-------------------]
+  $ until_shown 3/10 env COLUMNS="$(printf '\377')" NO_COLOR="$(printf '\377')" prodash-live \
+  >   --terminal always <one_task 2>frames
+  $ last_row
+   task 3/10 [===================>-----------------------------------------------]
   $ until_shown 3/10 env COLUMNS=0 NO_COLOR= prodash-live --terminal always <one_task 2>frames
   $ last_row
    \x1b[1;36mtask\x1b[0m \x1b[1;2m3/10\x1b[0m [\x1b[33m===================\x1b[0m\x1b[33m>\x1b[0m\x1b[2;33m-----------------------------------------------\x1b[0m] (esc)

@@ -33,8 +33,11 @@ A handle that was never made prints nothing.
 
   $ echo 'set 1 3' | prodash-replay bytes 40 20
 
-Twenty digits, and an empty name without progress.
+Twenty digits, and an empty name.
 
+  $ printf 'add 0 \ninit 1 10 -\nset 1 00000000000000000003\ntick 0\n' | prodash-replay bytes 40 20
+    3/10 [=========>---------------------]
+  \x1b[1A (no-eol) (esc)
   $ printf 'add 0 \nset 1 00000000000000000003\ntick 0\n' | prodash-replay bytes 40 20
    
   \x1b[1A (no-eol) (esc)
