@@ -24,6 +24,19 @@ On a terminal there are rows, with the size and the colours that the environment
   $ head -n 1 frames | cut -c 1-9
    \x1b[1;36mj (esc)
 
+Each part takes twenty steps of a twentieth of a second, and the job a step for each part. That they
+are done is told as a success, which is green.
+
+  $ began=$(date +%s%N)
+  $ on_terminal 'exec prodash-examples threads' >frames
+  $ [ $((($(date +%s%N) - began) / 1000000)) -ge 1000 ]
+  $ grep -c '\[1;32mis done' frames
+  5
+  $ on_terminal 'NO_COLOR=1 exec prodash-examples threads' >frames
+  $ grep -q '[a-z] *[0-9]*/20 \[' frames
+  $ grep -o 'job *4/4' frames | tr -s ' ' | head -n 1
+  job 4/4
+
 What counts is whether standard error is a terminal, not standard output.
 
   $ on_terminal 'exec prodash-examples threads 2>messages' >frames

@@ -31,7 +31,12 @@ CPU_SECONDS = 20
 # bodies, if that takes no longer than so many seconds, and before a wrong body is not caught.
 RIGHT, RIGHT_SECONDS, WRONG = 50, 5, 20
 # By a program's crate: the command of transcripts.
-PROGRAMS = {"prodash_live": "prodash-live", "prodash_replay": "prodash-replay"}
+PROGRAMS = {
+    "prodash_bench": "prodash-bench",
+    "prodash_examples": "prodash-examples",
+    "prodash_live": "prodash-live",
+    "prodash_replay": "prodash-replay",
+}
 
 
 class Bench:
