@@ -1,5 +1,5 @@
 -- What is kept of all keys, and what was kept of them before.
-use Rattle.std.proofs.Common.{◌≡◌, ℕ, zero, suc, ◌+◌, ◌<◌, ◌≤◌, Bool, true, false, cond, List, [], ◌∷◌, ◌++◌, map, length, get_or, take, drop, set, Option, Some, None, refl, sym, ap, subst, ◌∙◌, arith, ◌&&◌, is_some, IfSome, IfOk, IfErr, Result, Ok, Err, append-nil, take-append-drop, take_all, drop-set-lt, drop-drop, length-set}
+use Rattle.std.proofs.Common.{◌≡◌, ℕ, zero, suc, ◌+◌, ◌<◌, Bool, true, false, cond, List, [], ◌∷◌, ◌++◌, map, length, get_or, take, drop, set, Option, Some, None, refl, sym, ap, subst, ◌∙◌, arith, ◌&&◌, is_some, IfSome, IfOk, IfErr, Result, Ok, Err, append-nil, take-append-drop, take_all, drop-set-lt, drop-drop, length-set}
 use Rattle.std.specs.Prelude.{T, insert, slice_set}
 use Rattle.std.specs.List.{AllZip, filter}
 use Rattle.std.specs.List.Sorted.{IsBinarySearchResult, IsSearchInRange}
@@ -12,14 +12,15 @@ use Rattle.std.proofs.lemmas.Cmp.{nat_list_cmp_total}
 use Rattle.std.proofs.lemmas.List.{take_more_set, drop_all}
 use Rattle.std.proofs.lemmas.List.Elements.{all_zip_more}
 use Rattle.prodash_base.specs.Path.{Path, path_cmp}
-use Rattle.prodash_base.specs.plumbing.Summaries.{Summary, Summaries, Summarize, summary, summary_after}
+use Rattle.prodash_base.specs.Held.{Summary, Summaries}
+use Rattle.prodash_base.specs.plumbing.Summaries.{Summarize, summary, summary_after}
 use Rattle.prodash_base.specs.Trackers.{Observations, observations_of, with_observation}
 use Rattle.prodash_base.specs.plumbing.KeptTables.{summary_of, entry_of, summaries_of, AreSorted, Keeps, KeepsBoth, before_of, with_entry, entries_before, IsKept, IsTakenBack, IsCopy, IsAt, IsNewAt}
 use Rattle.prodash_base.specs.declared.throughput.kept.Kept.{Kept}
 use Rattle.prodash_base.specs.declared.throughput.sample.Observation.{Observation}
 use Rattle.prodash_base.proofs.KeptTables.{first, second, sorted-filter, summaries-filter, entries-cloned, searchable}
 use Rattle.prodash_base.proofs.PathMaps.{same_path}
-use Rattle.prodash_base.proofs.Summarizing.{summarize-none, summarize-more, summarize-retain}
+use Rattle.prodash_base.proofs.Summarizing.{Fits, summarize-none, summarize-more, summarize-retain}
 
 -- a loop over all keys that has got so far
 pub record Reached (R : Kept → Kept → Type 0) (old now : List Kept) (i : ℕ) : Type 0 where
@@ -165,11 +166,11 @@ keeps-retain m p kept new h e = record {
 }
 
 -- one more observation of a path
-pub keeps-more : (m : Observations) (kept new : List Kept) (path : Path) (o : Observation) → Keeps m kept → AreSorted new
+pub keeps-more : (m : Observations) (kept new : List Kept) (path : Path) (o : Observation) → Fits o → Keeps m kept → AreSorted new
     → summaries_of new ≡ finite.insert (summaries_of kept) path (summary_after (finite.get (summaries_of kept) path) o) → Keeps (with_observation m path (Some o)) new
-keeps-more m kept new path o h sorted e = record {
+keeps-more m kept new path o fits h sorted e = record {
   sorted = sorted;
-  summaries = subst (λ (s : Summaries). Summarize (with_observation m path (Some o)) s) (sym e) (summarize-more m (summaries_of kept) path o h.summaries);
+  summaries = subst (λ (s : Summaries). Summarize (with_observation m path (Some o)) s) (sym e) (summarize-more m (summaries_of kept) path o fits h.summaries);
 }
 
 -- nothing was observed
@@ -202,7 +203,7 @@ both-taken before pending is_pending kept new h z =
       settled = λ _. refl;
     }
 
-cloned-before : (kept copies : List Kept) → AllZip (λ k l. IsCopy k l) kept copies → entries_before copies ≡ entries_before kept
+pub cloned-before : (kept copies : List Kept) → AllZip (λ k l. IsCopy k l) kept copies → entries_before copies ≡ entries_before kept
 cloned-before [] [] h = refl
 cloned-before [] (y ∷ copies) h = absurd h
 cloned-before (x ∷ kept) [] h = absurd h

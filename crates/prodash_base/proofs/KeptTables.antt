@@ -12,8 +12,8 @@ use Rattle.std.specs.FinMap.Entries.{by_order, below_all, find-put, is_sorted-pu
 use Rattle.std.proofs.lemmas.Cmp.{nat_list_cmp_total, tied_itself}
 use Rattle.std.proofs.lemmas.List.Sorted.{searchable_from_sorted}
 use Rattle.prodash_base.specs.Path.{Path, path_cmp}
-use Rattle.prodash_base.specs.plumbing.Summaries.{Summary}
-use Rattle.prodash_base.specs.plumbing.KeptTables.{summary_of, entry_of, summaries_of, AreSorted, IsCopy}
+use Rattle.prodash_base.specs.Held.{Summary}
+use Rattle.prodash_base.specs.plumbing.KeptTables.{summary_of, entry_of, summaries_of, stored_of, stored_entry, stored, AreSorted, IsCopy}
 use Rattle.prodash_base.specs.declared.throughput.kept.Kept.{Kept}
 use Rattle.prodash_base.proofs.BranchLaws.{turned}
 use Rattle.prodash_base.proofs.PathMaps.{same_path, same_table}
@@ -67,17 +67,21 @@ put_over (y ∷ kept) (suc index) x h l e =
     ap (λ es. entry_of y ∷ es) (put_over kept index x (later y kept x.key index h) (omega arith) e)
     ∙ sym (by_first y kept x Greater (turned y.key x.key (h 0 x (omega arith) (omega arith))))
 
--- a key in a list, by how it compares with the first
-found_by : (y : Kept) (kept : List Kept) (key : Path) (o : Ordering) → path_cmp key y.key ≡ o
-    → find path_cmp key (map entry_of (y ∷ kept)) ≡ cond (is_eq o) (Some (summary_of y)) (find path_cmp key (map entry_of kept))
-found_by y kept key o e = ap (λ r. cond (is_eq r) (Some (summary_of y)) (find path_cmp key (map entry_of kept))) e
+-- each key with what `f` gives of it
+abbrev entries_by : (Kept → Summary) → List Kept → List (Path × Summary)
+entries_by f kept = map (λ k. (k.key, f k)) kept
 
-find_over : (kept : List Kept) (index : ℕ) (x : Kept) (key : Path) → AreLess kept key index → index < length kept → (get_or kept index x).key ≡ key
-    → find path_cmp key (map entry_of kept) ≡ Some (summary_of (get_or kept index x))
-find_over [] index x key h l e = absurd (omega arith)
-find_over (y ∷ kept) zero x key h l e = found_by y kept key Equal (same key y.key (sym e))
-find_over (y ∷ kept) (suc index) x key h l e =
-    found_by y kept key Greater (turned y.key key (h 0 x (omega arith) (omega arith))) ∙ find_over kept index x key (later y kept key index h) (omega arith) e
+-- a key in a list, by how it compares with the first
+found_by : (f : Kept → Summary) (y : Kept) (kept : List Kept) (key : Path) (o : Ordering) → path_cmp key y.key ≡ o
+    → find path_cmp key (entries_by f (y ∷ kept)) ≡ cond (is_eq o) (Some (f y)) (find path_cmp key (entries_by f kept))
+found_by f y kept key o e = ap (λ r. cond (is_eq r) (Some (f y)) (find path_cmp key (entries_by f kept))) e
+
+find_over : (f : Kept → Summary) (kept : List Kept) (index : ℕ) (x : Kept) (key : Path) → AreLess kept key index → index < length kept → (get_or kept index x).key ≡ key
+    → find path_cmp key (entries_by f kept) ≡ Some (f (get_or kept index x))
+find_over f [] index x key h l e = absurd (omega arith)
+find_over f (y ∷ kept) zero x key h l e = found_by f y kept key Equal (same key y.key (sym e))
+find_over f (y ∷ kept) (suc index) x key h l e =
+    found_by f y kept key Greater (turned y.key key (h 0 x (omega arith) (omega arith))) ∙ find_over f kept index x key (later y kept key index h) (omega arith) e
 
 above_first : (kept : List Kept) (low : Path) (i : ℕ) (d : Kept) → T (below_all path_cmp low (map entry_of kept)) → i < length kept → path_cmp low (get_or kept i d).key ≡ Less
 above_first [] low i d b l = absurd (omega arith)
@@ -92,20 +96,20 @@ less_before (y ∷ kept) (suc index) x key r l e zero d low m = subst (λ q. pat
 less_before (y ∷ kept) (suc index) x key r l e (suc k) d low m =
     less_before kept index x key (second (below_all path_cmp y.key (map entry_of kept)) _ r) (omega arith) e k d (omega arith) (omega arith)
 
-find_before : (kept : List Kept) (low key : Path) → path_cmp key low ≡ Less → T (below_all path_cmp low (map entry_of kept)) → find path_cmp key (map entry_of kept) ≡ None
-find_before [] low key l b = refl
-find_before (y ∷ kept) low key l b =
-    found_by y kept key Less (nat_list_cmp_total.trans key low y.key l (is_less _ (first _ _ b)))
-    ∙ find_before kept low key l (second (is_lt (path_cmp low y.key)) _ b)
+find_before : (f : Kept → Summary) (kept : List Kept) (low key : Path) → path_cmp key low ≡ Less → T (below_all path_cmp low (map entry_of kept)) → find path_cmp key (entries_by f kept) ≡ None
+find_before f [] low key l b = refl
+find_before f (y ∷ kept) low key l b =
+    found_by f y kept key Less (nat_list_cmp_total.trans key low y.key l (is_less _ (first _ _ b)))
+    ∙ find_before f kept low key l (second (is_lt (path_cmp low y.key)) _ b)
 
 -- nothing is kept of a key that isn't at its place
-find_new : (kept : List Kept) (index : ℕ) (x : Kept) (key : Path) → AreSorted kept → AreLess kept key index → (index < length kept → path_cmp key (get_or kept index x).key ≡ Less)
-    → find path_cmp key (map entry_of kept) ≡ None
-find_new [] index x key r h n = refl
-find_new (y ∷ kept) zero x key r h n = let under = n (omega arith) in found_by y kept key Less under ∙ find_before kept y.key key under (first _ _ r)
-find_new (y ∷ kept) (suc index) x key r h n =
-    found_by y kept key Greater (turned y.key key (h 0 x (omega arith) (omega arith)))
-    ∙ find_new kept index x key (second (below_all path_cmp y.key (map entry_of kept)) _ r) (later y kept key index h) (λ m. n (omega arith))
+find_new : (f : Kept → Summary) (kept : List Kept) (index : ℕ) (x : Kept) (key : Path) → AreSorted kept → AreLess kept key index → (index < length kept → path_cmp key (get_or kept index x).key ≡ Less)
+    → find path_cmp key (entries_by f kept) ≡ None
+find_new f [] index x key r h n = refl
+find_new f (y ∷ kept) zero x key r h n = let under = n (omega arith) in found_by f y kept key Less under ∙ find_before f kept y.key key under (first _ _ r)
+find_new f (y ∷ kept) (suc index) x key r h n =
+    found_by f y kept key Greater (turned y.key key (h 0 x (omega arith) (omega arith)))
+    ∙ find_new f kept index x key (second (below_all path_cmp y.key (map entry_of kept)) _ r) (later y kept key index h) (λ m. n (omega arith))
 
 get_summaries : (kept : List Kept) (q : Path) → get (summaries_of kept) q ≡ find path_cmp q (map entry_of kept)
 get_summaries kept q = get-from_entries nat_list_cmp_total (map entry_of kept) q
@@ -122,7 +126,15 @@ sorted-put kept new key s e r = subst (λ es. T (is_sorted path_cmp es)) (sym e)
 -- what is kept of a key at an index
 pub get_known : (kept : List Kept) (index : ℕ) (x : Kept) (key : Path) → AreSorted kept → index < length kept → (get_or kept index x).key ≡ key
     → get (summaries_of kept) key ≡ Some (summary_of (get_or kept index x))
-get_known kept index x key r l e = get_summaries kept key ∙ find_over kept index x key (less_before kept index x key r l e) l e
+get_known kept index x key r l e = get_summaries kept key ∙ find_over summary_of kept index x key (less_before kept index x key r l e) l e
+
+get_stored : (kept : List Kept) (q : Path) → get (stored kept) q ≡ find path_cmp q (map stored_entry kept)
+get_stored kept q = get-from_entries nat_list_cmp_total (map stored_entry kept) q
+
+-- what is in memory of a key at an index
+pub stored_known : (kept : List Kept) (index : ℕ) (x : Kept) (key : Path) → AreSorted kept → index < length kept → (get_or kept index x).key ≡ key
+    → get (stored kept) key ≡ Some (stored_of (get_or kept index x))
+stored_known kept index x key r l e = get_stored kept key ∙ find_over stored_of kept index x key (less_before kept index x key r l e) l e
 
 same_default : (kept : List Kept) (index : ℕ) (d e : Kept) → index < length kept → get_or kept index d ≡ get_or kept index e
 same_default [] index d e l = absurd (omega arith)
@@ -161,7 +173,12 @@ put_first kept index key x p l e =
 -- nothing is kept of a new key
 pub get_new : (kept : List Kept) (index : ℕ) (key : Path) → AreSorted kept → IsNewPlace kept key index → get (summaries_of kept) key ≡ None
 get_new [] index key r p = get_summaries [] key
-get_new (y ∷ kept) index key r p = get_summaries (y ∷ kept) key ∙ find_new (y ∷ kept) index y key r p.0 (is_before (y ∷ kept) key index y p)
+get_new (y ∷ kept) index key r p = get_summaries (y ∷ kept) key ∙ find_new summary_of (y ∷ kept) index y key r p.0 (is_before (y ∷ kept) key index y p)
+
+-- nor is anything in memory
+pub stored_new : (kept : List Kept) (index : ℕ) (key : Path) → AreSorted kept → IsNewPlace kept key index → get (stored kept) key ≡ None
+stored_new [] index key r p = get_stored [] key
+stored_new (y ∷ kept) index key r p = get_stored (y ∷ kept) key ∙ find_new stored_of (y ∷ kept) index y key r p.0 (is_before (y ∷ kept) key index y p)
 
 ascends : (kept : List Kept) (k : ℕ) (d : Kept) → AreSorted kept → suc k < length kept → path_cmp (get_or kept k d).key (get_or kept (suc k) d).key ≡ Less
 ascends [] k d r l = absurd (omega arith)

@@ -12,10 +12,13 @@ pub mod WorkedTexts
 pub mod PathMaps
 pub mod GhostStructs
 pub mod SampleLaws
+pub mod JoinedSamples
 pub mod Summarizing
 pub mod KeptSamples
 pub mod KeptTables
 pub mod KeptBefore
+pub mod StoredSamples
+pub mod FrameSamples
 pub mod ListedRows
 pub mod WorkedSamples
 pub mod WorkedTrackers

@@ -44,6 +44,14 @@ left_over-done taken samples h =
       | false ↦ λ e. absurd (omega (arith, not_below one_second taken e))
     ] refl
 
+-- the latest sample, and what is left to take after it
+pub left_over-first : (s : Sample) (older : List Sample) → latest_over one_second (s ∷ older) ≡ s ∷ left_over s.elapsed older
+left_over-first s older =
+    elim (nat_lt one_second s.elapsed) as (λ b. cond b (s ∷ []) (s ∷ latest_over (one_second - s.elapsed) older) ≡ s ∷ cond b [] (latest_over (one_second - s.elapsed) older)) [
+      | true ↦ refl
+      | false ↦ refl
+    ]
+
 -- a quotient of a product, the quotient and the remainder scaled apart
 pub scaled_apart : (a n k : ℕ) → 0 < n → a / n * k + a % n * k / n ≡ a * k / n
 scaled_apart a n k h =

@@ -18,6 +18,7 @@ pub mod Parts
 pub mod ThroughputMessages
 pub mod Moments
 pub mod Samples
+pub mod Held
 pub mod Trackers
 pub mod FrameTrackers
 pub mod plumbing

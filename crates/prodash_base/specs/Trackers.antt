@@ -8,6 +8,7 @@ use Rattle.prodash_base.specs.Numbers.{same_numbers}
 use Rattle.prodash_base.specs.Path.{Path, path_cmp}
 use Rattle.prodash_base.specs.Rows.{PathRow}
 use Rattle.prodash_base.specs.Samples.{one_second, samples_of, after_mark, rate}
+use Rattle.prodash_base.specs.Held.{Summaries, held_after, recent_in, joined}
 use Rattle.prodash_base.specs.declared.throughput.sample.Observation.{Observation}
 use Rattle.prodash_base.specs.declared.throughput.sample.Sample.{Sample}
 use Rattle.prodash_base.specs.declared.unit.display.Throughput.{Throughput}
@@ -16,15 +17,17 @@ use Rattle.prodash_base.specs.declared.unit.display.Throughput.{Throughput}
 abbrev pub Observations : Type 0
 Observations = finite.FinMap path_cmp (List Observation)
 
--- the latest moment, how long after the previous moment it is, and the observations
+-- the latest moment, the time since the previous one, the observations, and what is held of them
 pub record Tracker : Type 0 where
   pub updated_at : Option ℕ
   pub elapsed : Option ℕ
   pub observations : Observations
+  pub held : Summaries
 
 -- a tracker before its first moment
 abbrev pub new_tracker : Tracker
-new_tracker = record { updated_at = None; elapsed = None; observations = finite.empty }
+new_tracker =
+    record { updated_at = None; elapsed = None; observations = finite.empty; held = finite.empty }
 
 -- the time from the previous moment on; none without one, and none if the clock went back
 abbrev pub elapsed_since : Option ℕ → ℕ → Option ℕ
@@ -50,9 +53,22 @@ abbrev pub with_observation : Observations → Path → Option Observation → O
 with_observation m path None = m
 with_observation m path (Some o) = finite.insert m path (o ∷ observations_of m path)
 
+-- what is held, with one more observation of a path, if there is one
+abbrev pub with_held : Summaries → Observations → Path → Option Observation → Summaries
+with_held held m path None = held
+with_held held m path (Some o) = finite.insert held path (held_after o (observations_of m path))
+
 -- the samples of a path after its last mark
-abbrev pub kept_samples : Observations → Path → List Sample
-kept_samples m path = after_mark (samples_of (observations_of m path))
+abbrev pub recent_samples : Observations → Path → List Sample
+recent_samples m path = after_mark (samples_of (observations_of m path))
+
+-- the samples that are held of a path
+abbrev pub held_samples : Tracker → Path → List Sample
+held_samples t path = recent_in (finite.get t.held path)
+
+-- of a path the samples after its last mark are held, joined, and no others
+abbrev pub HoldsRecent : Tracker → Path → Type 0
+HoldsRecent t path = held_samples t path ≡ joined (recent_samples t.observations path)
 
 -- the rate of a path after one more observation; none without one
 abbrev pub rate_after : Observations → Path → Option Observation → Option ℕ
@@ -63,6 +79,7 @@ rate_after m path (Some o) = rate (o ∷ observations_of m path)
 abbrev pub observe : Tracker → Path → Option ℕ → Tracker
 observe t path value = record t {
   observations = with_observation t.observations path (observation_of t.elapsed value);
+  held = with_held t.held t.observations path (observation_of t.elapsed value);
 }
 
 -- a change in one second
@@ -78,10 +95,12 @@ throughput_of t path value =
 abbrev pub is_listed : List PathRow → Path → Bool
 is_listed rows path = list_any (same_numbers path) (keys_of rows)
 
--- the tracker with the observations of the listed paths alone
+-- the tracker with the listed paths alone
 abbrev pub reconcile : Tracker → List PathRow → Tracker
-reconcile t rows =
-    record t { observations = finite.retain_keys t.observations (is_listed rows) }
+reconcile t rows = record t {
+  observations = finite.retain_keys t.observations (is_listed rows);
+  held = finite.retain_keys t.held (is_listed rows);
+}
 
 -- the observations after are those before of these paths, and of no other path
 pub record KeepsOnly (paths : List Path) (before after : Observations) : Type 0 where

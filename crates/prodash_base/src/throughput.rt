@@ -2,8 +2,8 @@
 ghost use Rattle.std.specs.Prelude.{◌≡◌, ◌≤◌, length, OnOk, OnErr, IfOk, IsSome, IsOkUnless};
 ghost use Rattle.std.specs.Map.{keys_of};
 ghost use Rattle.prodash_base.specs.Rows.{rows_of};
-ghost use Rattle.prodash_base.specs.Samples.{one_second, duration};
-ghost use Rattle.prodash_base.specs.Trackers.{new_tracker, elapsed_since, update_elapsed, observation_of, observe, throughput_of, kept_samples, reconcile, KeepsOnly};
+ghost use Rattle.prodash_base.specs.Held.{AreFew};
+ghost use Rattle.prodash_base.specs.Trackers.{new_tracker, elapsed_since, update_elapsed, observation_of, observe, throughput_of, held_samples, HoldsRecent, reconcile, KeepsOnly};
 
 mod frames;
 mod history;
@@ -20,7 +20,7 @@ use crate::unit::display;
 pub use frames::FrameThroughput;
 use history::{Change, History, Listed};
 use kept::Kept;
-use keys::{add_observation, keep_all, kept_samples, retain_listed};
+use keys::{add_observation, kept_samples, retain_listed};
 use rate::ONE_SECOND;
 use sample::Observation;
 use std::alloc::Global;
@@ -28,12 +28,14 @@ use std::fmt::{self, Debug, Formatter};
 use std::marker::Model;
 
 /// Measures the throughput of values, each under a key, which are observed at each frame. Contracts
-/// see the latest moment, the elapsed time, and a finite map from paths to all observations.
+/// see the latest moment, the elapsed time, a finite map from paths to all observations, and one to
+/// what is held of them in memory.
 ///
 /// The first observation of a key is a mark, and so is each one that comes more than a second after
 /// the previous mark. The throughput changes at marks only: it is the rise over the fewest of the
-/// latest observations that together take more than a second. Between two moments only the samples
-/// after the last mark of a key are kept.
+/// latest observations that together take more than a second. Of a key only its latest value, its
+/// rate at the last mark, and the samples after that mark are held, and a sample that takes no time
+/// is added to the one before it.
 ///
 /// ```rust
 /// let mut tracker = Throughput::new(alloc);
@@ -60,7 +62,7 @@ impl Model for Throughput {
     ghost use Rattle.std.specs.FinMap as finite;
     ghost use Rattle.std.specs.Coded.{codes};
     ghost use Rattle.prodash_base.specs.Trackers.{Tracker};
-    ghost use Rattle.prodash_base.specs.plumbing.KeptTables.{Keeps};
+    ghost use Rattle.prodash_base.specs.plumbing.KeptTables.{KeepsAll, stored};
 
     ghost Value = { Tracker };
 
@@ -70,9 +72,10 @@ impl Model for Throughput {
       updated_at = t.updated_at;
       elapsed = t.elapsed;
       observations = t.history.observations;
+      held = stored t.kept.items;
     } };
 
-    ghost invariant = { λ t. Keeps t.history.observations t.kept.items };
+    ghost invariant = { λ t. KeepsAll t.history.observations t.kept.items };
 }
 
 impl Throughput {
@@ -112,7 +115,6 @@ impl Throughput {
     pub fn update_elapsed(&mut self, at: Moment)
         ensures { self.new ≡ update_elapsed self.old at }
     {
-        keep_all(&mut self.kept);
         self.elapsed = elapsed_since(self.updated_at, at);
         self.updated_at = Some(at);
         self.next = 0;
@@ -120,8 +122,9 @@ impl Throughput {
 
     /// Observes the step of a key, and returns its throughput, with a timespan of one second.
     /// Nothing is recorded without an elapsed time or a step, and the call then returns `None`, as
-    /// it does before the second mark of the key. The samples that its next throughputs need take at
-    /// most a second together.
+    /// it does before the second mark of the key. Afterwards only the samples after the last mark of
+    /// the key are held. They are few, however often it is called: each takes time, and together
+    /// they take at most a second.
     ///
     /// # Errors
     ///
@@ -137,7 +140,8 @@ impl Throughput {
         ensures err { OnErr result (self.new ≡ self.old) }
         ensures reason { IsOkUnless result Refusal.Memory }
         ensures recorded { OnErr result (IsSome (observation_of self.old.elapsed step)) }
-        ensures bound { duration (kept_samples self.new.observations key.now) ≤ one_second }
+        ensures held { HoldsRecent self.new key.now }
+        ensures bound { AreFew (held_samples self.new key.now) }
     {
         let Some(observation) = observation_of(self.elapsed, step) else {
             return Ok(None);
@@ -147,9 +151,9 @@ impl Throughput {
         Ok(rate.map(|change| display::Throughput::new(change, ONE_SECOND)))
     }
 
-    /// Returns how many samples of a key are kept, which are those after its last mark.
+    /// Returns how many samples of a key are held in memory.
     pub fn kept_samples(&self, key: &Key) -> usize
-        ensures { result ≡ length (kept_samples self.now.observations key.now) }
+        ensures { result ≡ length (held_samples self.now key.now) }
     {
         kept_samples(&self.kept, key)
     }

@@ -403,3 +403,88 @@ fn long_runs_forget(rt: HostRuntime) {
         }
     }
 }
+
+/// How often a key is observed at one moment, and how many frames are drawn.
+const MANY: u64 = 100_000;
+
+/// The most samples of the shortest time that together take no more than a second.
+const MOST: usize = 50;
+
+/// Observes a value of a key. At most `most` samples of the key are then held.
+fn observe_value(
+    rt: &impl Abort,
+    alloc: Global,
+    tracker: &mut Throughput,
+    value: u64,
+    want: Option<u64>,
+    most: usize,
+) {
+    let key = key_at(&[1]);
+    let got = tracker
+        .update_and_get(alloc, &key, Some(value))
+        .expect(rt, "no refusal");
+    assert_same(rt, got, in_one_second(want), value);
+    assert_same(rt, tracker.kept_samples(&key) <= most, true, value);
+}
+
+/// A moment that is told twice takes no time. All rises at it count at the next mark.
+#[test]
+fn calls_at_one_moment_hold_one_sample(rt: HostRuntime) {
+    let alloc = rt.alloc();
+    let mut tracker = Throughput::new(alloc);
+    tracker.update_elapsed(0);
+    tracker.update_elapsed(1);
+    observe_value(&rt, alloc, &mut tracker, 0, None, 0);
+    tracker.update_elapsed(1);
+    for value in 0..MANY {
+        observe_value(&rt, alloc, &mut tracker, value, None, 0);
+    }
+    tracker.update_elapsed(600_000_001);
+    observe_value(&rt, alloc, &mut tracker, 0, None, 1);
+    tracker.update_elapsed(600_000_001);
+    for value in 0..MANY {
+        observe_value(&rt, alloc, &mut tracker, value, None, 1);
+    }
+    tracker.update_elapsed(1_200_000_001);
+    observe_value(&rt, alloc, &mut tracker, MANY, Some(83_333), 0);
+}
+
+/// Each call at a moment counts the time since the previous moment.
+#[test]
+fn calls_that_take_time_hold_a_second(rt: HostRuntime) {
+    let alloc = rt.alloc();
+    let key = key_at(&[1]);
+    let mut tracker = Throughput::new(alloc);
+    tracker.update_elapsed(0);
+    tracker.update_elapsed(SHORTEST);
+    for turn in 0..MANY {
+        tracker
+            .update_and_get(alloc, &key, Some(turn))
+            .expect(&rt, "no refusal");
+        assert_same(&rt, tracker.kept_samples(&key) <= MOST, true, turn);
+    }
+}
+
+/// Every fifth frame takes no time, and every seventh isn't kept.
+#[test]
+fn frames_hold_few_samples(rt: HostRuntime) {
+    let alloc = rt.alloc();
+    let key = key_at(&[3]);
+    let listed = rows(alloc, LISTED).expect(&rt, "memory");
+    let mut tracker = FrameThroughput::new(alloc);
+    let mut at: u64 = 0;
+    for turn in 0..MANY {
+        if turn % 5 > 0 {
+            at = at.saturating_add(SHORTEST);
+        }
+        tracker.begin(at);
+        tracker
+            .observe(alloc, &key, Some(turn))
+            .expect(&rt, "no refusal");
+        assert_same(&rt, tracker.kept_samples(&key) <= 2 * MOST, true, turn);
+        if turn % 7 > 0 {
+            tracker.keep(listed.as_slice());
+            assert_same(&rt, tracker.kept_samples(&key) <= MOST, true, turn);
+        }
+    }
+}

@@ -7,12 +7,14 @@ use Rattle.std.specs.Ordering.{is_le}
 use Rattle.std.specs.declared.cmp.Ordering.TheVariants.{Less, Greater}
 use Rattle.std.specs.FinMap as finite
 use Rattle.prodash_base.specs.Path.{Path, path_cmp}
-use Rattle.prodash_base.specs.plumbing.Summaries.{Summary, Summaries, Summarize, summary, next_summary, summary_after}
+use Rattle.prodash_base.specs.Held.{Summary, Summaries, recent_in}
+use Rattle.prodash_base.specs.plumbing.Summaries.{Summarize, summary, next_summary, summary_after}
 use Rattle.prodash_base.specs.Trackers.{Observations, observations_of}
 use Rattle.prodash_base.specs.declared.progress.Row.{Row}
 use Rattle.prodash_base.specs.declared.throughput.kept.Kept.{Kept}
 use Rattle.prodash_base.specs.declared.throughput.sample.Observation.{Observation}
-use Rattle.prodash_base.specs.plumbing.KeptSamples.{summary_at, earliest}
+use Rattle.prodash_base.specs.declared.throughput.sample.Sample.{Sample}
+use Rattle.prodash_base.specs.plumbing.KeptSamples.{summary_at, settled_of}
 
 -- what is kept of a key
 abbrev pub summary_of : Kept → Summary
@@ -29,6 +31,17 @@ summaries_of kept = finite.from_entries (map entry_of kept)
 abbrev pub summary_with : List Kept → Path → Observation → Summary
 summary_with kept key o = summary_after (finite.get (summaries_of kept) key) o
 
+-- all that is in memory of a key
+abbrev pub stored_of : Kept → Summary
+stored_of k = record { value = k.latest.value; recent = k.samples.items; rate = k.latest.rate }
+
+abbrev pub stored_entry : Kept → Path × Summary
+stored_entry k = (k.key, stored_of k)
+
+-- all that is in memory of all keys
+abbrev pub stored : List Kept → Summaries
+stored kept = finite.from_entries (map stored_entry kept)
+
 -- what is kept of all keys after one more observation of a key
 abbrev pub summaries_with : List Kept → Path → Observation → Summaries
 summaries_with kept key o = finite.insert (summaries_of kept) key (summary_with kept key o)
@@ -44,7 +57,8 @@ pub record Keeps (m : Observations) (kept : List Kept) : Type 0 where
 
 -- what is kept of the observations that were kept last, if there were any
 abbrev pub before_of : Kept → Option Summary
-before_of k = option_map (λ t. summary_at t (earliest k.settled k.samples.items)) k.before
+before_of k =
+    option_map (λ t. summary_at t (settled_of k.settled k.settled_change k.samples.items)) k.before
 
 abbrev pub with_entry : Path → Option Summary → List (Path × Summary) → List (Path × Summary)
 with_entry key None entries = entries
@@ -54,6 +68,15 @@ with_entry key (Some s) entries = (key, s) ∷ entries
 abbrev pub entries_before : List Kept → List (Path × Summary)
 entries_before [] = []
 entries_before (k ∷ kept) = with_entry k.key (before_of k) (entries_before kept)
+
+-- the samples that were kept of a key when a frame was last kept
+abbrev pub recent_before : List Kept → Path → List Sample
+recent_before kept key = recent_in (finite.find path_cmp key (entries_before kept))
+
+-- a sorted list of what is kept of these observations, of which nothing can be taken back
+pub record KeepsAll (m : Observations) (kept : List Kept) : Type 0 where
+  pub kept_now : Keeps m kept
+  pub none_before : entries_before kept ≡ []
 
 -- what is kept of these observations, and of those that were kept last, which are the same if none is pending
 pub record KeepsBoth (before pending : Observations) (is_pending : Bool) (kept : List Kept) : Type 0 where

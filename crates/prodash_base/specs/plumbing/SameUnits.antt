@@ -1,11 +1,9 @@
 -- The tests of equality of units and their parts are true exactly of equal values.
-use Rattle.std.proofs.Common.{rules, ◌≡◌, Bool, true, false, refl}
+use Rattle.std.proofs.Common.{rules, ◌≡◌, true, refl}
 use Rattle.std.specs.Bool.{beq}
 use Rattle.prodash_base.specs.Kinds.{Quantity, same_quantity}
 use Rattle.prodash_base.specs.Displays.{same_location}
 use Rattle.prodash_base.specs.Units.{same_mode, same_measure}
-use Rattle.prodash_base.specs.declared.unit.display.Location.{Location}
-use Rattle.prodash_base.specs.declared.unit.display.Location.TheVariants.{BeforeValue, AfterUnit}
 use Rattle.prodash_base.specs.plumbing.EqualityTests.{IsEqualityTest, sound, itself, by_cases, numbers, texts, options, pairs, by_parts}
 
 quantity_sound : (a b : Quantity) → same_quantity a b ≡ true → a ≡ b

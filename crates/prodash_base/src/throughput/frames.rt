@@ -1,14 +1,17 @@
 //! The throughput of the rows of frames that may be refused.
-ghost use Rattle.std.specs.Prelude.{◌≡◌, OnOk, OnErr, IfOk, IsOkUnless};
+ghost use Rattle.std.specs.Prelude.{◌≡◌, ◌≤◌, ◌+◌, length, OnOk, OnErr, IfOk, IsOkUnless};
 ghost use Rattle.prodash_base.specs.Rows.{rows_of};
-ghost use Rattle.prodash_base.specs.Trackers.{throughput_of};
+ghost use Rattle.prodash_base.specs.Held.{AreFew};
+ghost use Rattle.prodash_base.specs.Trackers.{throughput_of, held_samples, HoldsRecent};
 ghost use Rattle.prodash_base.specs.FrameTrackers.{new_frame_tracker, begin, observe_pending, keep};
 
 use crate::progress::{Key, Row, Step};
 use crate::refusal::Refusal;
 use crate::throughput::history::{Change, History, Listed};
 use crate::throughput::kept::Kept;
-use crate::throughput::keys::{add_observation, keep_all, retain_listed, take_back_all};
+use crate::throughput::keys::{
+    add_observation, keep_all, kept_samples, retain_listed, take_back_all,
+};
 use crate::throughput::rate::ONE_SECOND;
 use crate::throughput::{elapsed_since, observation_of};
 use crate::time::Moment;
@@ -50,7 +53,7 @@ impl Model for FrameThroughput {
     ghost use Rattle.std.specs.FinMap as finite;
     ghost use Rattle.std.specs.Coded.{codes};
     ghost use Rattle.prodash_base.specs.FrameTrackers.{FrameTracker};
-    ghost use Rattle.prodash_base.specs.plumbing.KeptTables.{KeepsBoth};
+    ghost use Rattle.prodash_base.specs.plumbing.KeptTables.{KeepsBoth, summaries_of, entries_before};
 
     ghost Value = { FrameTracker };
 
@@ -61,11 +64,13 @@ impl Model for FrameThroughput {
         updated_at = t.updated_before.0;
         elapsed = t.updated_before.1;
         observations = t.history_before.observations;
+        held = finite.from_entries (entries_before t.kept.items);
       };
       pending = record {
         updated_at = t.updated.0;
         elapsed = t.updated.1;
         observations = t.history.observations;
+        held = summaries_of t.kept.items;
       };
     } };
 
@@ -140,6 +145,9 @@ impl FrameThroughput {
         ensures ok { OnOk result (self.new ≡ observe_pending self.old key.now step) }
         ensures err { OnErr result (self.new ≡ self.old) }
         ensures reason { IsOkUnless result Refusal.Memory }
+        ensures held { HoldsRecent self.new.pending key.now }
+        ensures bound { AreFew (held_samples self.new.pending key.now) }
+        ensures bound_before { AreFew (held_samples self.new.kept key.now) }
     {
         let Some(observation) = observation_of(self.updated.1, step) else {
             return Ok(None);
@@ -148,6 +156,15 @@ impl FrameThroughput {
         let rate = add_observation(&mut self.kept, &mut self.next, alloc, *key, observation)?;
         self.history = self.history.after(&Change::Observed(*key, observation));
         Ok(rate.map(|change| display::Throughput::new(change, ONE_SECOND)))
+    }
+
+    /// Returns how many samples of a key are held in memory: those that the frame needs, and those
+    /// that are needed if it isn't kept. A sample that both need counts once.
+    pub fn kept_samples(&self, key: &Key) -> usize
+        ensures { result ≤ length (held_samples self.now.pending key.now)
+            + length (held_samples self.now.kept key.now) }
+    {
+        kept_samples(&self.kept, key)
     }
 
     /// Keeps the frame: the observations of the keys of `rows` stay, and all others are forgotten.

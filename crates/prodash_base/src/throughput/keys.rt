@@ -4,8 +4,8 @@ ghost use Rattle.std.specs.FinMap as finite;
 ghost use Rattle.std.specs.List.{AllZip, filter};
 ghost use Rattle.prodash_base.specs.Rows.{rows_of};
 ghost use Rattle.prodash_base.specs.Trackers.{is_listed};
-ghost use Rattle.prodash_base.specs.plumbing.Summaries.{recent_in};
-ghost use Rattle.prodash_base.specs.plumbing.KeptTables.{summaries_of, summary_with, summaries_with, kept_before, entries_before, AreSorted, IsKept, IsTakenBack, IsAt, IsNewAt, ChangesAt, IsRateAt, AddsAt, KeepsSummaryAt, NeverDescends};
+ghost use Rattle.prodash_base.specs.Held.{recent_in};
+ghost use Rattle.prodash_base.specs.plumbing.KeptTables.{summaries_of, stored, summary_with, summaries_with, kept_before, entries_before, AreSorted, IsKept, IsTakenBack, IsAt, IsNewAt, ChangesAt, IsRateAt, AddsAt, KeepsSummaryAt, NeverDescends};
 
 use crate::progress::{Key, Row};
 use crate::throughput::kept::Kept;
@@ -101,10 +101,10 @@ fn take_back_each(kept: &mut [Kept])
     }
 }
 
-/// Returns the number of samples that are kept of a key.
+/// Returns the number of samples that are in memory of a key.
 pub(crate) fn kept_samples(kept: &[Kept], key: &Key) -> usize
     requires { AreSorted kept.now }
-    ensures { result ≡ length (recent_in (finite.get (summaries_of kept.now) key.now)) }
+    ensures { result ≡ length (recent_in (finite.get (stored kept.now) key.now)) }
 {
     match kept.binary_search_by_key(key, |known| known.key) {
         Ok(index) => kept[index].samples(),

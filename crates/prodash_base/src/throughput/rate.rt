@@ -1,4 +1,4 @@
-ghost use Rattle.std.specs.Prelude.{◌≡◌, ◌*◌, ◌/◌, ◌^◌, ◌+◌, ◌-◌, ◌<◌, ◌≤◌, nat_lt, min};
+ghost use Rattle.std.specs.Prelude.{◌≡◌, ◌∷◌, ◌*◌, ◌/◌, ◌^◌, ◌+◌, ◌-◌, ◌<◌, ◌≤◌, nat_lt, min};
 ghost use Rattle.prodash_base.specs.Samples.{duration, one_second, rate_over};
 
 use crate::throughput::sample::Sample;
@@ -16,17 +16,18 @@ pub(crate) fn is_mark(recent: u64, elapsed: u64) -> bool
     elapsed > ONE_SECOND - recent
 }
 
-/// Returns the rate over the fewest of the latest samples that take more than a second. The latest
-/// sample is the first of the list.
-pub(crate) fn rate_over(samples: &VecDeque<Sample>) -> u64
-    requires { one_second < duration samples.now.items }
-    ensures { result ≡ rate_over samples.now.items }
+/// Returns the rate over the fewest of the latest samples that take more than a second: `latest`,
+/// and those before it, of which the latest is the first of the list.
+pub(crate) fn rate_over(latest: Sample, samples: &VecDeque<Sample>) -> u64
+    requires { one_second < duration (latest ∷ samples.now.items) }
+    ensures { result ≡ rate_over (latest ∷ samples.now.items) }
 {
-    let (mut nanoseconds, mut change) = (0, 0);
+    let mut nanoseconds = u128::from(latest.elapsed);
+    let mut change = latest.change;
     let mut index = 0;
     while index < samples.len() && nanoseconds <= u128::from(ONE_SECOND) {
         nanoseconds += u128::from(samples[index].elapsed);
-        change += u128::from(samples[index].change);
+        change = change.saturating_add(samples[index].change);
         index += 1;
     }
     per_second(change, nanoseconds)
@@ -37,7 +38,6 @@ pub(crate) fn rate_over(samples: &VecDeque<Sample>) -> u64
 fn per_second(change: u128, nanoseconds: u128) -> u64
     requires over { one_second < nanoseconds }
     requires span { nanoseconds < 2 ^ 65 }
-    requires change { change < 2 ^ 127 }
     ensures { result ≡ min (change * one_second / nanoseconds) (2 ^ 64 - 1) }
 {
     let second = u128::from(ONE_SECOND);

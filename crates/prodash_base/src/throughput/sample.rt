@@ -12,6 +12,6 @@ pub struct Observation {
 pub struct Sample {
     /// The span in nanoseconds.
     pub elapsed: u64,
-    /// The rise of the value.
-    pub change: u64,
+    /// The rise of the value, at most `u128::MAX`.
+    pub change: u128,
 }

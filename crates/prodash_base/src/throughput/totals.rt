@@ -1,18 +1,17 @@
 //! The totals that a tracker keeps of the samples of a key.
-ghost use Rattle.std.specs.Prelude.{◌≡◌, ◌∷◌, drop};
-ghost use Rattle.prodash_base.specs.plumbing.KeptSamples.{Sums, summary_at, summary_with, sample_after};
+ghost use Rattle.std.specs.Prelude.{◌≡◌, ◌+◌, ◌≤◌};
+ghost use Rattle.prodash_base.specs.Samples.{one_second};
+ghost use Rattle.prodash_base.specs.plumbing.KeptSamples.{sample_after, totals_after};
 
 use crate::progress::Step;
-use crate::throughput::rate::{is_mark, rate_over};
 use crate::throughput::sample::{Observation, Sample};
-use std::collections::VecDeque;
 
 /// What the samples of a key add up to at one moment.
 #[derive(Clone, Copy, Debug)]
 pub(crate) struct Totals {
     /// The latest value.
     pub(crate) value: Step,
-    /// The number of samples up to the last mark, which the next rates don't need.
+    /// The number of samples up to the last mark. They are kept while they can be taken back.
     pub(crate) older: usize,
     /// The nanoseconds that the samples after it take together.
     pub(crate) taken: u64,
@@ -27,34 +26,19 @@ impl Totals {
     {
         Sample {
             elapsed: observation.elapsed,
-            change: observation.value.saturating_sub(self.value),
+            change: u128::from(observation.value.saturating_sub(self.value)),
         }
     }
 
-    /// Returns the totals after one more observation, whose sample is the first of these.
-    pub(crate) fn after(self, observation: Observation, samples: &VecDeque<Sample>) -> Totals
-        requires first { samples.now.items
-            ≡ sample_after self observation ∷ drop 1 samples.now.items }
-        requires sums { Sums self (drop 1 samples.now.items) }
-        ensures sums { Sums result samples.now.items }
-        ensures summary { summary_at result samples.now.items
-            ≡ summary_with self samples.now.items observation }
+    /// Returns the totals after one more observation that is no mark.
+    pub(crate) fn after(self, observation: Observation) -> Totals
+        requires { observation.elapsed + self.taken ≤ one_second }
+        ensures { result ≡ totals_after self observation }
     {
-        let (value, elapsed) = (observation.value, observation.elapsed);
-        if is_mark(self.taken, elapsed) {
-            Totals {
-                value,
-                older: samples.len(),
-                taken: 0,
-                rate: Some(rate_over(samples)),
-            }
-        } else {
-            Totals {
-                value,
-                older: self.older,
-                taken: self.taken + elapsed,
-                rate: self.rate,
-            }
+        Totals {
+            value: observation.value,
+            taken: observation.elapsed + self.taken,
+            ..self
         }
     }
 }

@@ -1,4 +1,4 @@
-use Rattle.std.proofs.Common.{◌≡◌, ◌∙◌, ap, sym, subst, true, false, Bool, cond, None, List, refl}
+use Rattle.std.proofs.Common.{rules, ◌≡◌, ◌∙◌, ap, true, false, Bool, cond, None, List, refl}
 use Rattle.std.specs.Prelude.{Contains}
 use Rattle.std.specs.FinMap as finite
 use Rattle.std.specs.Map.{keys_of}
@@ -7,24 +7,15 @@ use Rattle.std.proofs.lemmas.Map.Views.{Contains-from_any, list_any-from_Contain
 use Rattle.prodash_base.specs.Path.{Path}
 use Rattle.prodash_base.specs.Rows.{PathRow, rows_of}
 use Rattle.prodash_base.specs.Trackers.{Observations, is_listed, KeepsOnly}
-use Rattle.prodash_base.specs.plumbing.Summaries.{Summaries, Summarize}
 use Rattle.prodash_base.specs.plumbing.KeyHash.{same_path}
-use Rattle.prodash_base.specs.plumbing.KeptTables.{AreSorted, summaries_of}
-use Rattle.prodash_base.proofs.KeptTables.{summaries-filter, sorted-filter}
 use Rattle.prodash_base.proofs.PathMaps.{get-retain_at}
-use Rattle.prodash_base.proofs.Summarizing.{summarize-retain}
+use Rattle.prodash_base.proofs.StoredSamples.{keeps-all-retain, stored-retain}
 use Rattle.prodash_base.proofs.throughput.Throughput.reconcile.Goals as goal
 
 pub invariant_of-self : goal.invariant_of-self
 invariant_of-self c =
-    let listed = is_listed (rows_of c.args.rows.now) in
-    let kept = c.self.inside.kept.items in
-    record {
-      sorted = subst AreSorted (sym c.retain_listed.ensures) (sorted-filter listed kept c.self.invariant.sorted);
-      summaries = subst (λ (m : Observations). Summarize m (summaries_of c.retain_listed.new.kept.items)) (sym c.among-self-inside.ensures)
-          (subst (λ (s : Summaries). Summarize (finite.retain_keys c.self.inside.history.observations listed) s) (sym (ap summaries_of c.retain_listed.ensures ∙ summaries-filter listed kept))
-          (summarize-retain c.self.inside.history.observations (summaries_of kept) listed c.self.invariant.summaries));
-    }
+    keeps-all-retain c.self.inside.history.observations c.among-self-inside.result.observations (is_listed (rows_of c.args.rows.now)) c.self.inside.kept.items
+    c.retain_listed.new.kept.items c.self.invariant c.among-self-inside.ensures c.retain_listed.ensures
 
 unlisted : (rows : List PathRow) (path : Path) (b : Bool) → is_listed rows path ≡ b → (Contains (keys_of rows) path → ⊥) → b ≡ false
 unlisted rows path true e none = absurd (none (Contains-from_any same_path path (keys_of rows) e))
@@ -42,3 +33,8 @@ keeps_only rows before after e =
 pub returns-clause-kept : goal.returns-clause-kept
 returns-clause-kept c =
     rw (← c.self.view_is) (keeps_only (rows_of c.args.rows.now) c.self.inside.history.observations c.among-self-inside.result.observations c.among-self-inside.ensures)
+
+pub returns-clause-value : goal.returns-clause-value
+returns-clause-value c =
+    let held = stored-retain c.self.inside.history.observations (is_listed (rows_of c.args.rows.now)) c.self.inside.kept.items c.retain_listed.new.kept.items c.self.invariant c.retain_listed.ensures in
+    search (rules, held)

@@ -3,8 +3,9 @@ use Rattle.std.specs.FinMap as finite
 use Rattle.std.specs.FinMap.{put}
 use Rattle.std.proofs.lemmas.Result.{on_ok_weaker, on_err_weaker, IfOk-weaker}
 use Rattle.prodash_base.specs.Path.{path_cmp}
-use Rattle.prodash_base.specs.plumbing.Summaries.{Summary, next_summary, summary_after}
-use Rattle.prodash_base.specs.plumbing.KeptTables.{summary_of, entry_of, summaries_of, AreSorted, entries_before, IsAt, IsNewAt}
+use Rattle.prodash_base.specs.Held.{Summary}
+use Rattle.prodash_base.specs.plumbing.Summaries.{next_summary, summary_after}
+use Rattle.prodash_base.specs.plumbing.KeptTables.{summary_of, entry_of, summaries_of, entries_before, IsAt, IsNewAt}
 use Rattle.prodash_base.specs.declared.throughput.kept.Kept.{Kept}
 use Rattle.prodash_base.proofs.KeptTables.{put_known, put_first, summaries-put, sorted-put, get_known, get_new, an_element, IsNewPlace}
 use Rattle.prodash_base.proofs.KeptBefore.{before-insert, before-set}
