@@ -69,6 +69,10 @@ impl<'a, R: Wait + Threads + Clone + Drop, W: Write + Drop, K: Clock> Feed<'a, R
                 break;
             }
             let line = without_return(lines.line());
+            if next == Next::Line && self.items.change_step(line)? {
+                self.display.check()?;
+                continue;
+            }
             let served = self.serve(next, line);
             self.display.check()?;
             let fault = match served {

@@ -6,7 +6,7 @@ use prodash::messages::MessageLevel;
 use prodash::time::Moment;
 use prodash::tree::{Event, Handle, Root};
 use prodash::{Refusal, Text};
-use prodash_script::{Change, Names};
+use prodash_script::{Change, Names, parse_step};
 use std::alloc::{AllocError, Global};
 use std::collections::HashMap;
 use std::io::Write;
@@ -176,6 +176,23 @@ impl<R: Wait + Clone + Drop, W: Write + Drop> Items<R, W> {
         }
         self.recording.append_event(&Event::DropRoot)?;
         Ok(())
+    }
+
+    /// Changes the step of an item, if a line asks for that and the item is there. Returns whether
+    /// it did.
+    ///
+    /// # Errors
+    ///
+    /// `AllocError`, if there is no memory for the recording.
+    pub fn change_step(&mut self, line: &[u8]) -> Result<bool, AllocError> {
+        let Some((item, step)) = parse_step(&self.names, line) else {
+            return Ok(false);
+        };
+        match self.items.get(&item) {
+            Some(entry) => entry.item.change_step(step, &mut self.recording)?,
+            None => return Ok(false),
+        }
+        Ok(true)
     }
 
     /// Changes an item, or sends its message.

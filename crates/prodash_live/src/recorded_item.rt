@@ -3,8 +3,8 @@ use crate::recording::Recording;
 use prodash::messages::MessageLevel;
 use prodash::tree::{Handle, Item};
 use prodash::{Refusal, Text};
-use prodash_script::{Change, REASON};
-use std::alloc::Global;
+use prodash_script::{Change, REASON, StepChange};
+use std::alloc::{AllocError, Global};
 use std::io::Write;
 use std::sync::Wait;
 
@@ -18,6 +18,23 @@ pub struct RecordedItem<R: Wait + Clone + Drop> {
 }
 
 impl<R: Wait + Clone + Drop> RecordedItem<R> {
+    /// Changes the step of the item, and records it.
+    ///
+    /// # Errors
+    ///
+    /// `AllocError`, if there is no memory for its line.
+    pub fn change_step<W: Write + Drop>(
+        &self,
+        step: StepChange,
+        recording: &mut Recording<W>,
+    ) -> Result<(), AllocError> {
+        match step {
+            StepChange::Set(step) => self.item.set(step),
+            StepChange::IncBy(step) => self.item.inc_by(step),
+        }
+        recording.append_change(self.handle, step)
+    }
+
     /// Makes a change of the item, and records it. If there are signs, the origin of a message has
     /// the one of its severity before it: the item has both for a name while the message is sent.
     ///

@@ -75,10 +75,15 @@ impl<W: Write + Drop> Recording<W> {
     /// # Errors
     ///
     /// `AllocError`, if there is no memory for its line.
-    pub fn append_change(&mut self, item: Handle, change: Change) -> Result<(), AllocError> {
+    pub fn append_change<C: Into<Change> + Drop>(
+        &mut self,
+        item: Handle,
+        change: C,
+    ) -> Result<(), AllocError> {
         if self.out.is_none() {
             return Ok(());
         }
+        let change: Change = change.into();
         self.append_event(&change.into_event(item))
     }
 

@@ -3,6 +3,7 @@ pub mod EventLines
 pub mod Lines
 pub mod Mistakes
 pub mod Reading
+pub mod Steps
 pub mod Units
 pub mod Words
 pub mod plumbing

@@ -47,6 +47,28 @@ pub enum Change {
     },
 }
 
+/// A change of the step of an item.
+#[derive(Clone, Copy, Debug)]
+pub enum StepChange {
+    /// Its counter is this step.
+    Set(Step),
+    /// Its counter is raised by this many steps.
+    IncBy(Step),
+}
+
+impl From<StepChange> for Change {
+    ghost use Rattle.prodash_script.specs.Steps.{as_change};
+
+    ghost from_gives = { λ step change. change ≡ as_change step };
+
+    fn from(step: StepChange) -> Change {
+        match step {
+            StepChange::Set(step) => Change::Set(step),
+            StepChange::IncBy(step) => Change::IncBy(step),
+        }
+    }
+}
+
 impl Change {
     /// Returns the event that makes this change of an item.
     pub fn into_event(self, item: Handle) -> Event

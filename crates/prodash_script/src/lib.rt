@@ -15,13 +15,13 @@ mod units;
 mod words;
 mod writing;
 
-pub use change::{Change, REASON};
+pub use change::{Change, REASON, StepChange};
 pub use command::Command;
 pub use event_line::EventLine;
 pub use labels::Labels;
 pub use mistake::{Argument, Mistake};
 pub use reading::{parse, parse_line};
-pub use script::{Names, parse_command};
+pub use script::{Names, parse_command, parse_step};
 pub use stream::{LIMIT, Lines, Next};
 pub use words::{Numbers, Words, number};
 pub use writing::to_line;

@@ -1,11 +1,12 @@
 //! Lines of scripts, whose items may have words for names.
-ghost use Rattle.std.specs.Prelude.{◌≡◌, IfOk, IfSome, option_map};
+ghost use Rattle.std.specs.Prelude.{◌≡◌, ℕ, IfOk, option_map};
 ghost use Rattle.prodash_script.specs.Commands.{begin_of, command_of, handle_in, is_comment, named_add_of, plain_command, size_of};
 ghost use Rattle.prodash_script.specs.Mistakes.{name_in, size_number_of};
+ghost use Rattle.prodash_script.specs.Steps.{step_in};
 ghost use Rattle.prodash_script.specs.Words.{after_prefix};
-ghost use Rattle.prodash_script.specs.plumbing.Commands.{IsAcceptedAs, ReadsCommand, accepted_in, event_in};
+ghost use Rattle.prodash_script.specs.plumbing.Commands.{ReadsCommand, accepted_in, event_in};
 
-use crate::change::Change;
+use crate::change::{Change, StepChange};
 use crate::command::Command;
 use crate::event_line::EventLine;
 use crate::labels::Labels;
@@ -99,13 +100,32 @@ pub fn parse_command<'a>(
         return Ok(Command::Fault(Mistake::NotUtf8));
     };
     let script = Script { names, now };
-    if let Some((item, change)) = step_change(script, line) {
-        return Ok(Command::Change(item, change));
-    }
     match accepted(alloc, script, labels, line)? {
         Some(command) => Ok(command),
         None => Ok(Command::Fault(first_mistake(names, line))),
     }
+}
+
+/// Parses a line that changes the step of an item, `set H N` or `inc H N`, given the names of the
+/// items. Returns `None` for any other line, and for one with a mistake. `parse_command` reads these
+/// lines too, and takes three times as long for them.
+///
+/// ```rust
+/// let step = parse_step(&names, b"set 1 3");
+/// assert!(rt; matches!(step, Some((1, StepChange::Set(3)))));
+/// ```
+pub fn parse_step(names: &Names, line: &[u8]) -> Option<(Handle, StepChange)>
+    ensures { (now : ℕ) → result ≡ step_in (command_of names.now now line.now) }
+{
+    let line = str::from_utf8(line).ok()?;
+    // there is no moment in these lines
+    let script = Script { names, now: 0 };
+    if let Some(rest) = after(line, "set ") {
+        let (item, step) = handle_and_number(&script, rest)?;
+        return Some((item, StepChange::Set(step)));
+    }
+    let (item, step) = handle_and_number(&script, after(line, "inc ")?)?;
+    Some((item, StepChange::IncBy(step)))
 }
 
 /// Returns whether a line does nothing: it is empty, or begins with `#`.
@@ -116,21 +136,6 @@ fn is_comment(line: &[u8]) -> bool
         Some(first) => *first == b'#',
         None => true,
     }
-}
-
-/// Parses a line that changes the step of an item, `set H N` or `inc H N`. Returns `None` if it has
-/// a mistake, or is another line. `accepted` gives the same; most lines of a script are these, and
-/// looked at first each takes 860 instructions in place of 1,310.
-fn step_change(script: Script<'_>, line: &str) -> Option<(Handle, Change)>
-    ensures { IfSome result
-        (IsAcceptedAs script.entry.names.now script.entry.now line.now) }
-{
-    if let Some(rest) = after(line, "set ") {
-        let (item, step) = handle_and_number(&script, rest)?;
-        return Some((item, Change::Set(step)));
-    }
-    let (item, step) = handle_and_number(&script, after(line, "inc ")?)?;
-    Some((item, Change::IncBy(step)))
 }
 
 /// Parses a line of a script, or returns `None` if it has a mistake.

@@ -1,12 +1,10 @@
 -- What the readers of a line of a script return.
-use Rattle.std.specs.Prelude.{◌≡◌, ℕ, List, Option, Some, Result, IfOk, String, option_map}
+use Rattle.std.specs.Prelude.{◌≡◌, ℕ, Option, Result, IfOk, String, option_map}
 use Rattle.std.specs.HashMap.{HashMap}
 use Rattle.prodash_script.specs.Commands.{accepted, event_of, handle_in, moment_in, plain_command}
 use Rattle.prodash_script.specs.Mistakes.{plain_mistake}
 use Rattle.prodash_script.specs.Words.{Reader}
-use Rattle.prodash_script.specs.declared.change.Change.{Change}
 use Rattle.prodash_script.specs.declared.command.Command.{Command}
-use Rattle.prodash_script.specs.declared.command.Command.TheVariants as commands
 use Rattle.prodash_script.specs.declared.mistake.Mistake.{Mistake}
 
 -- on success the command that was read, if one was
@@ -20,11 +18,6 @@ accepted_in names now = accepted (handle_in names) (moment_in now)
 -- the command of a line of events, likewise
 abbrev pub event_in : {Z S : Type 0} → HashMap (String Z) ℕ S → ℕ → Reader Command
 event_in names now = event_of (handle_in names) (moment_in now)
-
--- a change of an item as which a line is accepted
-abbrev pub IsAcceptedAs : {Z S : Type 0} → HashMap (String Z) ℕ S → ℕ → List ℕ → ℕ × Change → Type 0
-IsAcceptedAs names now line change =
-    accepted_in names now line ≡ Some (plain_command (commands.Change change.0 change.1))
 
 -- the mistake that was found, if one was
 abbrev pub Finds : Option Mistake → Option Mistake → Type 0
