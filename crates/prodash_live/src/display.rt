@@ -1,6 +1,5 @@
 //! The renderer, and the messages that it has not printed yet. The reader waits for a frame before
 //! too many are kept, so that none is lost.
-use crate::failure::Failure;
 use crate::output::OutputState;
 use prodash::render::line::JoinHandle;
 use prodash::time::Clock;
@@ -38,16 +37,9 @@ impl<R: Wait + Threads + Clone + Drop> Display<R> {
         }
     }
 
-    /// Checks that the output is not broken.
-    ///
-    /// # Errors
-    ///
-    /// `Output`, if it is.
-    pub fn check(&self) -> Result<(), Failure> {
-        match self.output.error() {
-            Some(error) => Err(Failure::Output(error)),
-            None => Ok(()),
-        }
+    /// Returns whether the output is broken.
+    pub fn is_broken(&self) -> bool {
+        self.output.is_broken()
     }
 
     /// Sets the columns and the rows of the terminal.
@@ -60,7 +52,7 @@ impl<R: Wait + Threads + Clone + Drop> Display<R> {
         if !self.begins_anew() && self.sent >= BURST {
             self.output.set_awaited(true);
             for _ in rt.forever() {
-                if self.begins_anew() || self.output.is_broken() {
+                if self.begins_anew() || self.is_broken() {
                     break;
                 }
                 clock.sleep(PAUSE);

@@ -51,11 +51,11 @@ impl<'a, R: Wait + Threads + Clone + Drop, W: Write + Drop, K: Clock> Feed<'a, R
 
     /// Serves each line of an input, and records what it does. A faulty line is reported in a
     /// message, or ends the program if it is strict. What is recorded is written before more input
-    /// is awaited.
+    /// is awaited. Once the output is broken no more lines are served.
     ///
     /// # Errors
     ///
-    /// The failure that ended it: of the input, of the output, or of memory.
+    /// The failure that ended it: of the input, or of memory.
     pub fn serve_lines<I: Read + Drop>(
         &mut self,
         input: I,
@@ -64,18 +64,18 @@ impl<'a, R: Wait + Threads + Clone + Drop, W: Write + Drop, K: Clock> Feed<'a, R
         let mut lines = Lines::new(self.alloc, input);
         let mut faults: u64 = 0;
         for number in 1..u64::MAX {
+            if self.display.is_broken() {
+                break;
+            }
             let next = self.advance(&mut lines)?;
             if next == Next::End {
                 break;
             }
             let line = without_return(lines.line());
             if next == Next::Line && self.items.change_step(line)? {
-                self.display.check()?;
                 continue;
             }
-            let served = self.serve(next, line);
-            self.display.check()?;
-            let fault = match served {
+            let fault = match self.serve(next, line) {
                 Ok(()) => continue,
                 Err(Unserved::Fault(fault)) => fault,
                 Err(Unserved::Failure(failure)) => return Err(failure),

@@ -28,11 +28,16 @@ impl<R: Wait + Clone + Drop> RecordedItem<R> {
         step: StepChange,
         recording: &mut Recording<W>,
     ) -> Result<(), AllocError> {
+        self.apply_step(step);
+        recording.append_change(self.handle, step)
+    }
+
+    /// Changes the step of the item.
+    fn apply_step(&self, step: StepChange) {
         match step {
             StepChange::Set(step) => self.item.set(step),
             StepChange::IncBy(step) => self.item.inc_by(step),
         }
-        recording.append_change(self.handle, step)
     }
 
     /// Makes a change of the item, and records it. If there are signs, the origin of a message has
@@ -94,8 +99,8 @@ impl<R: Wait + Clone + Drop> RecordedItem<R> {
             Change::SetMax(max) => {
                 item.set_max(*max);
             }
-            Change::Set(step) => item.set(*step),
-            Change::IncBy(step) => item.inc_by(*step),
+            Change::Set(step) => self.apply_step(StepChange::Set(*step)),
+            Change::IncBy(step) => self.apply_step(StepChange::IncBy(*step)),
             Change::Blocked => item.blocked(REASON, None),
             Change::Halted => item.halted(REASON, None),
             Change::Running => item.running(),
