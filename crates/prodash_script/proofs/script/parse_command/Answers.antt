@@ -19,12 +19,6 @@ returns-in-Some c =
     let text = is_utf8-from_IsUtf8 c.args.line.now c.in-Ok.ensures.cases.1 in
     rw (comment, text) (search rules)
 
-pub returns-in-Some-2 : goal.returns-in-Some-2
-returns-in-Some-2 c =
-    let comment : is_comment c.args.line.now ≡ false = search rules in
-    let text = is_utf8-from_IsUtf8 c.args.line.now c.in-Ok.ensures.cases.1 in
-    rw (comment, text) (search rules)
-
 pub returns-in-None : goal.returns-in-None
 returns-in-None c =
     let comment : is_comment c.args.line.now ≡ false = search rules in

@@ -3,7 +3,9 @@ use Rattle.prodash_script.proofs.StepLines.{no_step, step_of_line}
 use Rattle.prodash_script.proofs.script.parse_step.Goals as goal
 
 pub returns-in_err-line : goal.returns-in_err-line
-returns-in_err-line c = λ now. no_step c.args.names.now now c.args.line.now (search rules)
+returns-in_err-line c = λ now.
+    let none = no_step c.args.names.now now c.args.line.now (search rules) in
+    rw (← none) (search rules)
 
 pub returns-in_err-item : goal.returns-in_err-item
 returns-in_err-item c = λ now.
