@@ -1,12 +1,14 @@
 -- The frames of a renderer that erases rows, on any page of the terminal's size.
-use Rattle.std.proofs.Common.{◌≡◌, ℕ, ◌+◌, ◌-◌, ◌<◌, nat_eq, nat_lt, Bool, true, false, cond, List, [], ◌∷◌, ◌++◌, length, refl, sym, ap, subst, ◌∙◌, length-append, Some, None, arith}
+use Rattle.std.proofs.Common.{◌≡◌, ℕ, Result, Ok, Err, ◌+◌, ◌-◌, ◌<◌, nat_eq, nat_lt, Bool, true, false, cond, List, [], ◌∷◌, ◌++◌, length, refl, sym, ap, subst, ◌∙◌, length-append, Some, None, arith}
 use Rattle.std.specs.Prelude.{◌&&◌, ◌||◌, not, min}
 use Rattle.std.specs.List.{AllByRecursion}
 use Rattle.std.proofs.lemmas.List.{length-map, length-take}
 use Rattle.std.proofs.lemmas.Bool.Decides.{nat_tests}
 use Rattle.prodash_base.specs.Rows.{PathRow}
+use Rattle.prodash_base.specs.declared.refusal.Refusal.{Refusal}
 use Rattle.prodash_base.specs.declared.messages.Message.{Message}
 use Rattle.prodash_line.specs.declared.render.line.draw.input.Options.{Options}
+use Rattle.prodash_line.specs.declared.render.line.draw.input.Answer.{Answer}
 use Rattle.prodash_line.specs.declared.render.line.draw.input.Input.{Input}
 use Rattle.prodash_line.specs.declared.render.line.draw.input.Input.TheVariants.{Tick, Resize, Quit}
 use Rattle.prodash_line.specs.declared.render.line.draw.action.Action.{Action}
@@ -19,13 +21,13 @@ use Rattle.prodash_line.specs.Lines.{Line}
 use Rattle.prodash_line.specs.DrawnLines.{as_drawn, erases_rows, layout_of}
 use Rattle.prodash_line.specs.ProgressRows.{DrawnRow, drawn_row_line, row_lines, fitting_count, fitting, more_line, more_lines}
 use Rattle.prodash_line.specs.MessageLines.{message_lines}
-use Rattle.prodash_line.specs.Frames.{body_lines}
+use Rattle.prodash_line.specs.Frames.{body_lines, frame_signs}
 use Rattle.prodash_line.specs.Fits.{IsPlain, HasPlainLines, LinesFit, BodyFits}
-use Rattle.prodash_line.specs.Renderer.{Renderer, Drawing, has_messages, closes_at, is_drawn, is_cursor_hidden, ending_of, drawn_rows, drawn_lines, latest_rows, remember, moment_of, drawing_at, action_at, printed_at, body_of, frame_at}
-use Rattle.prodash_line.specs.Screens.{ScreenState}
-use Rattle.prodash_line.specs.Renderings.{Rendering, RendersEach}
+use Rattle.prodash_line.specs.Renderer.{Renderer, Drawing, has_messages, closes_at, is_drawn, is_cursor_hidden, ending_of, drawn_rows, drawn_lines, latest_rows, remember, moment_of, drawing_at, action_at, printed_at, body_of, frame_at, Renders, frame_bytes}
+use Rattle.prodash_line.specs.Screens.{ScreenState, WritesFrame}
+use Rattle.prodash_line.specs.Renderings.{Rendering, RendersEach, renderer_after}
 use Rattle.prodash_line.specs.plumbing.RenderedInputs.{RendersAll}
-use Rattle.prodash_line.specs.ErasedPages.{ErasesPages, ErasesPagesOf}
+use Rattle.prodash_line.specs.ErasedPages.{ErasesPages, ErasesPagesOf, ShowsAnywhere}
 use Rattle.prodash_line.proofs.FittingFrames.{lines_fit, body_fits, frame_cut}
 use Rattle.prodash_line.proofs.OrderlyFrames.{orderly_at}
 use Rattle.prodash_line.proofs.ProperFrames.{frame_proper}
@@ -157,8 +159,11 @@ frame_erases r input c plain high =
       left = left_by (action_at r input) drawing (ending_of r) f.messages (none_printed r input c);
     }
 
-pub erases_pages : (r : Renderer) (input : Input) → ErasesPages r input
-erases_pages r input c plain = record {
+-- every page shows the frame after its signs
+erased_frame : (r : Renderer) (input : Input) (s : ScreenState) (s' : ScreenState) → WritesFrame (frame_bytes r input) s s' → erases_rows r.options ≡ true → HasPlainLines (frame_at r input) → ShowsAnywhere (remember r input).options.terminal_dimensions (frame_at r input) s.bytes s'.bytes
+erased_frame r input s s' writes c plain = record {
+  signs = frame_signs r.widths (frame_at r input);
+  written = writes.bytes;
   proper = frame_proper r.widths (frame_at r input) plain (orderly_at r input);
   shows = λ page terminal.
       let size = (remember r input).options.terminal_dimensions in
@@ -166,6 +171,10 @@ erases_pages r input c plain = record {
       shows_frame size page r.widths (frame_at r input) terminal (frame_erases r input c plain high);
 }
 
+pub erases_pages : (r : Renderer) (input : Input) (s : ScreenState) (result : Result Answer Refusal) (r' : Renderer) (s' : ScreenState) → Renders r input s result r' s' → ErasesPages r input s result s'
+erases_pages r input s (Ok answer) r' s' h = erased_frame r input s s' h.screen
+erases_pages r input s (Err refusal) r' s' h = tt
+
 -- each of a list of inputs
 pub erases_each : (r : Renderer) (s : ScreenState) (xs : List Rendering) (s' : ScreenState) → RendersAll r s xs s' → RendersEach ErasesPagesOf r s xs s'
-erases_each = each ErasesPagesOf (λ r s x s' h. erases_pages r x.input)
+erases_each = each ErasesPagesOf (λ r s x s' h. erases_pages r x.input s x.result (renderer_after r x) s' h)

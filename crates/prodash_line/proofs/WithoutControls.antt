@@ -1,5 +1,5 @@
 -- The lines that a defensive renderer draws: none has a control character.
-use Rattle.std.proofs.Common.{◌≡◌, ℕ, zero, suc, ◌+◌, ◌-◌, ◌/◌, ◌%◌, ◌<◌, Bool, true, false, cond, ◌==◌, nat_eq, nat_lt, nat_le, List, [], ◌∷◌, ◌++◌, length, chars, map, take, replicate, refl, sym, subst, ◌∙◌, Option, Some, None, arith}
+use Rattle.std.proofs.Common.{◌≡◌, ℕ, Result, Ok, Err, zero, suc, ◌+◌, ◌-◌, ◌/◌, ◌%◌, ◌<◌, Bool, true, false, cond, ◌==◌, nat_eq, nat_lt, nat_le, List, [], ◌∷◌, ◌++◌, length, chars, map, take, replicate, refl, sym, subst, ◌∙◌, Option, Some, None, arith}
 use Rattle.std.specs.Prelude.{◌||◌, codes}
 use Rattle.std.specs.List.{AllByRecursion}
 use Rattle.std.specs.Char.{is_control}
@@ -12,8 +12,10 @@ use Rattle.prodash_base.specs.Numerals.{last_digits}
 use Rattle.prodash_base.specs.Rows.{PathRow, RowProgress}
 use Rattle.prodash_base.specs.Units.{Measure}
 use Rattle.prodash_base.specs.declared.messages.Message.{Message}
+use Rattle.prodash_base.specs.declared.refusal.Refusal.{Refusal}
 use Rattle.prodash_base.specs.declared.unit.display.Throughput.{Throughput}
 use Rattle.prodash_line.specs.declared.render.line.draw.input.Options.{Options}
+use Rattle.prodash_line.specs.declared.render.line.draw.input.Answer.{Answer}
 use Rattle.prodash_line.specs.declared.render.line.draw.input.Input.{Input}
 use Rattle.prodash_line.specs.declared.render.line.draw.input.Input.TheVariants.{Tick, Resize, Quit}
 use Rattle.prodash_line.specs.declared.render.line.draw.action.Action.{Action}
@@ -26,9 +28,9 @@ use Rattle.prodash_line.specs.ProgressRows.{DrawnRow, fraction_of, values_by, nu
 use Rattle.prodash_line.specs.TextStyles.{row_style}
 use Rattle.prodash_line.specs.MessageLines.{time_of, text_of, message_line, message_lines, origin_width, greatest_width}
 use Rattle.prodash_line.specs.Frames.{body_lines}
-use Rattle.prodash_line.specs.ControlCharacters.{IsWithoutControls, DrawsNoControls, DrawsNoControlsOf}
-use Rattle.prodash_line.specs.Renderer.{Renderer, Drawing, drawn_rows, fitting_rows, drawn_lines, latest_rows, remember, moment_of, drawing_at, action_at, printed_at, ending_of, body_of}
-use Rattle.prodash_line.specs.Renderings.{Rendering, RendersEach}
+use Rattle.prodash_line.specs.ControlCharacters.{IsWithoutControls, HasNoControls, DrawsNoControls, DrawsNoControlsOf}
+use Rattle.prodash_line.specs.Renderer.{Renderer, Drawing, drawn_rows, fitting_rows, drawn_lines, latest_rows, remember, moment_of, drawing_at, action_at, printed_at, ending_of, body_of, Renders, frame_at}
+use Rattle.prodash_line.specs.Renderings.{Rendering, RendersEach, renderer_after}
 use Rattle.prodash_line.specs.plumbing.RenderedInputs.{RendersAll}
 use Rattle.prodash_line.specs.Screens.{ScreenState}
 use Rattle.prodash_line.specs.plumbing.Writing.{is_printable}
@@ -239,8 +241,8 @@ defensive_still r (Tick at show None) = refl
 defensive_still r (Resize at show columns height) = refl
 defensive_still r (Quit at) = refl
 
-pub draws_no_controls : (r : Renderer) (input : Input) → DrawsNoControls r input
-draws_no_controls r input e =
+clean_frame : (r : Renderer) (input : Input) → r.options.defensive ≡ true → HasNoControls (frame_at r input)
+clean_frame r input e =
     let r' = remember r input in
     let still : r'.options.defensive ≡ true = defensive_still r input ∙ e in
     record {
@@ -248,6 +250,10 @@ draws_no_controls r input e =
       drawn = body_clean (action_at r input) (drawing_at r input) (ending_of r) (lines_clean r' (moment_of input) (latest_rows r'.last_rows) still);
     }
 
+pub draws_no_controls : (r : Renderer) (input : Input) (s : ScreenState) (result : Result Answer Refusal) (r' : Renderer) (s' : ScreenState) → Renders r input s result r' s' → DrawsNoControls r input s result s'
+draws_no_controls r input s (Ok answer) r' s' h = λ e. record { written = h.screen.bytes; clean = clean_frame r input e; }
+draws_no_controls r input s (Err refusal) r' s' h = tt
+
 -- each of a list of inputs
 pub draws_no_controls_each : (r : Renderer) (s : ScreenState) (xs : List Rendering) (s' : ScreenState) → RendersAll r s xs s' → RendersEach DrawsNoControlsOf r s xs s'
-draws_no_controls_each = each DrawsNoControlsOf (λ r s x s' h. draws_no_controls r x.input)
+draws_no_controls_each = each DrawsNoControlsOf (λ r s x s' h. draws_no_controls r x.input s x.result (renderer_after r x) s' h)

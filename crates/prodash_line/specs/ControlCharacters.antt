@@ -1,10 +1,13 @@
 -- Frames whose lines have no control characters.
-use Rattle.std.specs.Prelude.{◌≡◌, true, false, []}
+use Rattle.std.specs.Prelude.{◌≡◌, ℕ, true, false, List, [], ◌++◌, Result, OnOk}
 use Rattle.std.specs.List.{AllByRecursion}
 use Rattle.std.specs.Char.{is_control}
+use Rattle.prodash_base.specs.declared.refusal.Refusal.{Refusal}
+use Rattle.prodash_line.specs.declared.render.line.draw.input.Answer.{Answer}
 use Rattle.prodash_line.specs.declared.render.line.draw.input.Input.{Input}
 use Rattle.prodash_line.specs.Lines.{Line}
-use Rattle.prodash_line.specs.Frames.{Frame, body_lines}
+use Rattle.prodash_line.specs.Frames.{Frame, body_lines, frame_signs}
+use Rattle.prodash_line.specs.Signs.{spelling}
 use Rattle.prodash_line.specs.Renderer.{Renderer, frame_at}
 use Rattle.prodash_line.specs.Renderings.{Rendering}
 use Rattle.prodash_line.specs.Screens.{ScreenState}
@@ -18,10 +21,16 @@ pub record HasNoControls (f : Frame) : Type 0 where
   pub messages : AllByRecursion IsWithoutControls f.messages
   pub drawn : AllByRecursion IsWithoutControls (body_lines [] f.body)
 
--- if the renderer is defensive, so is its frame of an input, whatever the texts of the input are
-abbrev pub DrawsNoControls : Renderer → Input → Type 0
-DrawsNoControls r input = r.options.defensive ≡ true → HasNoControls (frame_at r input)
+-- the frame is written, and no line of it has a control character
+pub record WritesNoControls (widths : List ℕ) (f : Frame) (old new : List ℕ) : Type 0 where
+  pub written : new ≡ old ++ spelling (frame_signs widths f)
+  pub clean : HasNoControls f
 
--- so are those of the inputs that are rendered one after another
+-- on success, if the renderer is defensive, so it is with its frame of an input, whatever the texts of the input are
+abbrev pub DrawsNoControls : Renderer → Input → ScreenState → Result Answer Refusal → ScreenState → Type 0
+DrawsNoControls r input s result s' =
+    OnOk result (r.options.defensive ≡ true → WritesNoControls r.widths (frame_at r input) s.bytes s'.bytes)
+
+-- the same of an input that is rendered
 abbrev pub DrawsNoControlsOf : Renderer → ScreenState → Rendering → ScreenState → Type 0
-DrawsNoControlsOf r s x s' = DrawsNoControls r x.input
+DrawsNoControlsOf r s x s' = DrawsNoControls r x.input s x.result s'

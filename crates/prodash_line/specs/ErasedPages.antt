@@ -1,12 +1,14 @@
 -- What a page shows after a frame that erases the rows that it writes on, whatever the page showed before.
-use Rattle.std.specs.Prelude.{◌≡◌, ◌<◌, ◌≤◌, ◌^◌, ◌⊎◌, ℕ, ◌+◌, Bool, true, false, List, [], ◌++◌, length, map, take, replicate}
+use Rattle.std.specs.Prelude.{◌≡◌, ◌<◌, Result, OnOk, ◌≤◌, ◌^◌, ◌⊎◌, ℕ, ◌+◌, Bool, true, false, List, [], ◌++◌, length, map, take, replicate}
 use Rattle.std.specs.List.{AllByRecursion}
+use Rattle.prodash_base.specs.declared.refusal.Refusal.{Refusal}
+use Rattle.prodash_line.specs.declared.render.line.draw.input.Answer.{Answer}
 use Rattle.prodash_line.specs.declared.render.line.draw.input.Input.{Input}
 use Rattle.prodash_line.specs.declared.render.line.page.sign.Sign.{Sign}
 use Rattle.prodash_line.specs.Signs.{spelling}
 use Rattle.prodash_line.specs.Lines.{Line}
 use Rattle.prodash_line.specs.DrawnLines.{erases_rows}
-use Rattle.prodash_line.specs.Frames.{Body, Unchanged, Draws, Closes, Frame, frame_signs, signs_of, all_lines_after, printed_lines}
+use Rattle.prodash_line.specs.Frames.{Body, Unchanged, Draws, Closes, Frame, signs_of, all_lines_after, printed_lines}
 use Rattle.prodash_line.specs.Page.{Canvas, blank, page_after}
 use Rattle.prodash_line.specs.Shows.{cells_of}
 use Rattle.prodash_line.specs.Fits.{HasPlainLines}
@@ -40,21 +42,25 @@ ShowsBody page messages Unchanged after = (messages ≡ []) × (after ≡ page)
 ShowsBody page messages (Draws lines) after = ShowsErased page messages lines after
 ShowsBody page messages (Closes ending) after = ShowsErased page messages [] after
 
--- The signs of a frame are proper, so that reading their bytes gives them; and every page of a terminal of this size shows the frame after them.
-pub record ShowsAnywhere (size : ℕ × ℕ) (f : Frame) (signs : List Sign) : Type 0 where
+-- What is written is the spelling of signs, which are proper, so that reading it gives them; and every page of a terminal of this size shows
+-- the frame after them.
+pub record ShowsAnywhere (size : ℕ × ℕ) (f : Frame) (old new : List ℕ) : Type 0 where
+  pub signs : List Sign
+  pub written : new ≡ old ++ spelling signs
   pub proper : AreProper signs
   pub shows : (page : Canvas) → IsTerminal size page → ShowsBody page f.messages f.body (page_after signs page)
 
--- if the renderer erases rows, and the lines of its frame of an input are plain, every page of the terminal's size shows it, whatever it showed
--- before
-abbrev pub ErasesPages : Renderer → Input → Type 0
-ErasesPages r input =
+-- On success, if the renderer erases rows and the lines of its frame of an input are plain, every page of the terminal's size shows it after what
+-- was written, whatever the page showed before.
+abbrev pub ErasesPages : Renderer → Input → ScreenState → Result Answer Refusal → ScreenState → Type 0
+ErasesPages r input s result s' =
     let f = frame_at r input in
-    erases_rows r.options ≡ true → HasPlainLines f → ShowsAnywhere (remember r input).options.terminal_dimensions f (frame_signs r.widths f)
+    OnOk result
+    (erases_rows r.options ≡ true → HasPlainLines f → ShowsAnywhere (remember r input).options.terminal_dimensions f s.bytes s'.bytes)
 
--- so does each of the inputs that are rendered one after another
+-- the same of an input that is rendered
 abbrev pub ErasesPagesOf : Renderer → ScreenState → Rendering → ScreenState → Type 0
-ErasesPagesOf r s x s' = ErasesPages r x.input
+ErasesPagesOf r s x s' = ErasesPages r x.input s x.result s'
 
 -- what a page shows since it was as given: it is as it was, or it shows these messages and lines
 abbrev pub ShowsSince : Canvas → List Line → List Line → Canvas → Type 0

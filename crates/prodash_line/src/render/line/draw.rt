@@ -81,7 +81,6 @@ use tracker::keep_observed;
 /// all(alloc, &mut screen, &mut state, tick)?;
 /// all(alloc, &mut screen, &mut state, Input::Quit { at: 1 })?;
 /// ```
-#[tactic(auto, using(crate::proofs::ErasedRenderings::erases_pages))]
 pub fn all<S: Screen>(
     alloc: Global,
     screen: &mut S,
@@ -91,10 +90,11 @@ pub fn all<S: Screen>(
     ensures frame { RendersOn S.state state.old input screen.old result state.new screen.new }
 
     // Every page shows a frame that erases the rows that it writes on.
-    ensures page { ErasesPages state.old input }
+    ensures page { ErasesPages state.old input (S.state screen.old) result (S.state screen.new) }
 
     // No line of a defensive frame has a control character.
-    ensures controls { DrawsNoControls state.old input }
+    ensures controls {
+        DrawsNoControls state.old input (S.state screen.old) result (S.state screen.new) }
 {
     if let Some(refusal) = state.ended() {
         return Err(refusal);
