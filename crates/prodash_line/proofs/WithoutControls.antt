@@ -251,7 +251,7 @@ clean_frame r input e =
     }
 
 pub draws_no_controls : (r : Renderer) (input : Input) (s : ScreenState) (result : Result Answer Refusal) (r' : Renderer) (s' : ScreenState) → Renders r input s result r' s' → DrawsNoControls r input s result s'
-draws_no_controls r input s (Ok answer) r' s' h = λ e. record { written = h.screen.bytes; clean = clean_frame r input e; }
+draws_no_controls r input s (Ok answer) r' s' h = λ e. record { written = h.screen.bytes; clean = clean_frame r input e }
 draws_no_controls r input s (Err refusal) r' s' h = tt
 
 -- each of a list of inputs

@@ -31,6 +31,10 @@ abbrev pub DrawsNoControls : Renderer → Input → ScreenState → Result Answe
 DrawsNoControls r input s result s' =
     OnOk result (r.options.defensive ≡ true → WritesNoControls r.widths (frame_at r input) s.bytes s'.bytes)
 
+-- the same of a screen, given what a screen's state is
+abbrev pub DrawsNoControlsOn : {S : Type 0} → (S → ScreenState) → Renderer → Input → S → Result Answer Refusal → S → Type 0
+DrawsNoControlsOn state r input s result s' = DrawsNoControls r input (state s) result (state s')
+
 -- the same of an input that is rendered
 abbrev pub DrawsNoControlsOf : Renderer → ScreenState → Rendering → ScreenState → Type 0
 DrawsNoControlsOf r s x s' = DrawsNoControls r x.input s x.result s'

@@ -58,6 +58,10 @@ ErasesPages r input s result s' =
     OnOk result
     (erases_rows r.options ≡ true → HasPlainLines f → ShowsAnywhere (remember r input).options.terminal_dimensions f s.bytes s'.bytes)
 
+-- the same of a screen, given what a screen's state is
+abbrev pub ErasesPagesOn : {S : Type 0} → (S → ScreenState) → Renderer → Input → S → Result Answer Refusal → S → Type 0
+ErasesPagesOn state r input s result s' = ErasesPages r input (state s) result (state s')
+
 -- the same of an input that is rendered
 abbrev pub ErasesPagesOf : Renderer → ScreenState → Rendering → ScreenState → Type 0
 ErasesPagesOf r s x s' = ErasesPages r x.input s x.result s'

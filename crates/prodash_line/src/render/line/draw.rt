@@ -3,8 +3,8 @@ ghost use Rattle.std.specs.Prelude.{◌≡◌, ℕ, Bool, None, IsOkUnless, OnOk
 ghost use Rattle.prodash_line.specs.Screens.{WritesFrame, BreaksDuring};
 ghost use Rattle.prodash_line.specs.Renderer.{RendersOn};
 ghost use Rattle.prodash_line.specs.plumbing.FrameWriting.{begun, broken, resize_to, tick_seeing};
-ghost use Rattle.prodash_line.specs.ErasedPages.{ErasesPages};
-ghost use Rattle.prodash_line.specs.ControlCharacters.{DrawsNoControls};
+ghost use Rattle.prodash_line.specs.ErasedPages.{ErasesPagesOn};
+ghost use Rattle.prodash_line.specs.ControlCharacters.{DrawsNoControlsOn};
 
 mod action;
 mod bar;
@@ -90,11 +90,10 @@ pub fn all<S: Screen>(
     ensures frame { RendersOn S.state state.old input screen.old result state.new screen.new }
 
     // Every page shows a frame that erases the rows that it writes on.
-    ensures page { ErasesPages state.old input (S.state screen.old) result (S.state screen.new) }
+    ensures page { ErasesPagesOn S.state state.old input screen.old result screen.new }
 
     // No line of a defensive frame has a control character.
-    ensures controls {
-        DrawsNoControls state.old input (S.state screen.old) result (S.state screen.new) }
+    ensures controls { DrawsNoControlsOn S.state state.old input screen.old result screen.new }
 {
     if let Some(refusal) = state.ended() {
         return Err(refusal);
