@@ -1,13 +1,14 @@
 -- Histories, and what the mark of their end says.
-use Rattle.std.proofs.Common.{◌≡◌, ◌<◌, arith, ℕ, zero, suc, List, [], ◌∷◌, ◌++◌, Some, slice_get, length, refl, ap, sym, ◌∙◌, subst, true≢false}
+use Rattle.std.proofs.Common.{◌≡◌, ◌<◌, ◌≤◌, arith, ℕ, zero, suc, List, [], ◌∷◌, ◌++◌, Some, slice_get, length, refl, ap, sym, ◌∙◌, subst, true≢false, length-append}
 use mathlib.Core.List.{IsPrefix}
 use Rattle.std.proofs.lemmas.List.{append-nil}
 use Rattle.prodash_core.specs.declared.tree.event.Event.{Event}
 use Rattle.prodash_core.specs.declared.tree.event.Reply.{Reply}
 use Rattle.prodash.specs.declared.tree.recorded.history.HistoryEntry.{HistoryEntry}
 use Rattle.prodash.specs.declared.tree.recorded.history.HistoryEntry.TheVariants.{Call, End}
-use Rattle.prodash.proofs.ListPrefixes.{prefix_get}
-use Rattle.prodash.specs.plumbing.Histories.{IsOpen, IsOrderly, history_of, ended}
+use Rattle.prodash.proofs.ListPrefixes.{prefix_get, prefix_length}
+use Rattle.prodash.specs.Journals.{IsAfter}
+use Rattle.prodash.specs.plumbing.Histories.{IsOpen, IsOrderly, history_of, ended, last_number}
 
 -- an entry more keeps an open history orderly
 pub orderly_more : (h : List HistoryEntry) (x : HistoryEntry) → IsOpen h → IsOrderly (h ++ x ∷ [])
@@ -75,7 +76,7 @@ appended es before after same n e is more again at =
 pub open_known : (es : List (Event × Reply)) (h : List HistoryEntry) → h ≡ history_of es → IsOpen h
 open_known es h is = subst IsOpen (sym is) (history_open es)
 
-pub short_known : (es : List (Event × Reply)) (h : List HistoryEntry) → h ≡ history_of es → length es < 4611686018427387904 → length h < 4611686018427387904
+pub short_known : (es : List (Event × Reply)) (h : List HistoryEntry) → h ≡ history_of es → length es < 9223372036854775808 → length h < 9223372036854775808
 short_known es h is short = omega (arith, short, ap (λ (x : List HistoryEntry). length x) is, history_length es)
 
 -- the call that was appended is the last of the history
@@ -85,5 +86,24 @@ appended_last es before after e is more = appended es before after after (length
 pub appended_known : (es : List (Event × Reply)) (before after : List HistoryEntry) (e : Event × Reply) → before ≡ history_of es → after ≡ before ++ Call e ∷ [] → after ≡ history_of (es ++ e ∷ [])
 appended_known es before after e is more = more ∙ (ap (λ (h : List HistoryEntry). h ++ Call e ∷ []) is ∙ sym (history_more es e))
 
+-- the number of the last entry of a history is less than its length, and an entry more has that number
+pub last_appended : (h : List HistoryEntry) (x : HistoryEntry) → last_number (h ++ x ∷ []) ≡ Some (length h)
+last_appended [] x = refl
+last_appended (y ∷ h) x = ap (λ (n : ℕ). Some n) (omega (arith, length-append h (x ∷ [])))
+
+pub last_below : (h : List HistoryEntry) (n : ℕ) → length h ≤ n → IsAfter (last_number h) n
+last_below [] n le = λ x is. absurd (cc)
+last_below (y ∷ h) n le = λ x is. let same : length h ≡ x = cc in omega (arith, le, same)
+
+-- the next call has a greater number than the last of each prefix of the history
+pub numbered_after : (es : List (Event × Reply)) (earlier before : List HistoryEntry) → before ≡ history_of es → IsPrefix earlier before → IsAfter (last_number earlier) (length es)
+numbered_after es earlier before is p = last_below earlier (length es) (omega (arith, prefix_length earlier before p, ap (λ (x : List HistoryEntry). length x) is, history_length es))
+
+-- the call that was appended has the number of the entries before it
+pub numbered_last : (es : List (Event × Reply)) (before after : List HistoryEntry) (e : Event × Reply) → before ≡ history_of es → after ≡ before ++ Call e ∷ [] → last_number after ≡ Some (length es)
+numbered_last es before after e is more =
+    let here : length before ≡ length es = ap (λ (x : List HistoryEntry). length x) is ∙ history_length es in
+    ap last_number more ∙ (last_appended before (Call e) ∙ ap (λ (n : ℕ). Some n) here)
+
 -- the history of a tree is open, and a call more is an entry more
-pub ruleset appending = (open_known, short_known, appended_last, appended_known)
+pub ruleset appending = (open_known, short_known, appended_last, appended_known, numbered_after, numbered_last)

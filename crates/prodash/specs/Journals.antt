@@ -1,5 +1,5 @@
 -- Journals: the accepted events of a tree, each with its reply.
-use Rattle.std.specs.Prelude.{◌≡◌, ℕ, ◌+◌, ◌<◌, ◌⊎◌, List, [], ◌∷◌, ◌++◌, slice_get, Option, Some, None, Ok}
+use Rattle.std.specs.Prelude.{◌≡◌, ℕ, ◌+◌, ◌<◌, ◌⊎◌, List, [], ◌∷◌, slice_get, Option, Some, None, Ok}
 use Rattle.std.specs.List.{sum_by}
 use Rattle.std.specs.Option.{ForSome}
 use Rattle.prodash_base.specs.declared.refusal.Refusal.{Refusal}
@@ -61,6 +61,10 @@ calls_of shares = sum_by (λ share. share.calls) shares
 -- the sum of all shares' sums
 abbrev pub sum_of : List Tally → ℕ
 sum_of shares = sum_by (λ share. share.sum) shares
+
+-- the owner of a recorded tree: how many shares had been made when it was opened
+pub record Opened : Type 0 where
+  pub made : ℕ
 
 -- a receipt of an accepted call: the number of its entry in the journal, its event and its reply
 pub record Received : Type 0 where

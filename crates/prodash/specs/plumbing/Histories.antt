@@ -1,5 +1,5 @@
 -- Histories: the accepted calls of a recorded tree, in order, and a mark at their end.
-use Rattle.std.specs.Prelude.{ℕ, ◌≡◌, ◌==◌, ◌<◌, Bool, true, false, List, [], ◌∷◌, ◌++◌, length, slice_get, Some, MatchBool}
+use Rattle.std.specs.Prelude.{ℕ, ◌≡◌, ◌==◌, ◌<◌, Bool, true, false, List, [], ◌∷◌, ◌++◌, length, slice_get, Option, Some, None, MatchBool}
 use mathlib.Core.List.{IsPrefix}
 use Rattle.logbook.specs.Pages.{Cell, Step, View, Book, Named}
 use Rattle.prodash_core.specs.declared.tree.event.Event.{Event}
@@ -19,6 +19,11 @@ ended entries = history_of entries ++ End ∷ []
 -- the entry with this number, counted from 0, is this call
 abbrev pub HasCallAt : List HistoryEntry → ℕ → Event × Reply → Type 0
 HasCallAt history number entry = slice_get history number ≡ Some (Call entry)
+
+-- the number of the last entry, if there is one
+abbrev pub last_number : List HistoryEntry → Option ℕ
+last_number [] = None
+last_number (entry ∷ history) = Some (length history)
 
 -- the test whether a history has no end yet
 abbrev pub is_open : List HistoryEntry → Bool
@@ -45,10 +50,11 @@ IsOrderly history = is_orderly history ≡ true
 abbrev pub IsLonger : List HistoryEntry → List HistoryEntry → Type 0
 IsLonger before after = IsPrefix before after × (length before < length after)
 
--- whether the entry was appended; if it was not, the history had grown meanwhile
-abbrev pub AppendsOrIsLonger : Bool → List HistoryEntry → HistoryEntry → List HistoryEntry → Type 0
-AppendsOrIsLonger is_appended before entry after =
-    MatchBool is_appended (after ≡ before ++ entry ∷ []) (IsLonger before after)
+-- Whether the entry was appended to a history that has the earlier one. If it was not, the history
+-- had grown meanwhile.
+abbrev pub AppendsOrIsLonger : Bool → List HistoryEntry → List HistoryEntry → HistoryEntry → List HistoryEntry → Type 0
+AppendsOrIsLonger is_appended before earlier entry after =
+    MatchBool is_appended ((after ≡ before ++ entry ∷ []) × IsPrefix earlier before) (IsLonger before after)
 
 -- The first of two words is the length of the history, and nothing follows the history's end. The
 -- second word isn't used.
@@ -60,8 +66,9 @@ pub record IsKept (cells : List Cell) (history : List HistoryEntry) : Type 0 whe
 abbrev pub length_word : Book → Named
 length_word book = record { tracked = true; key = 0; book = book }
 
--- The entry was appended to all that had been seen, or the history was longer and was seen.
+-- The entry was appended to all that had been seen, which was as long as the word said, or the
+-- history was longer and was seen.
 abbrev pub Appends : Step HistoryEntry → View HistoryEntry ℕ → ℕ → View HistoryEntry ℕ → Type 0
 Appends s before found after = MatchBool (found == s.old)
-    ((after.0 ≡ before.0 ++ s.ask ∷ []) × IsOrderly after.0)
+    ((after.0 ≡ before.0 ++ s.ask ∷ []) × (length before.0 ≡ s.old) × IsOrderly after.0)
     ((length after.0 ≡ found) × IsOrderly after.0)

@@ -166,50 +166,57 @@ impl<C: TreeLedger> HistoryPrefix<C> {
         both.learn(&other.seen);
     }
 
-    /// Appends a call to the whole history, which is this prefix. If the history is longer, which
-    /// the lock of its tree rules out, this call never returns.
+    /// Appends a call to the whole history, which is this prefix. So every other prefix is one of
+    /// this prefix, as is `earlier`. If the history is longer, which the lock of its tree rules
+    /// out, this call never returns.
     pub(crate) fn append_call<R: Wait>(
         &mut self,
         rt: &R,
         word: &HistoryLength<C>,
+        earlier: &HistoryPrefix<C>,
         entry: &(Event, Reply),
     )
-        requires room { length self.old < 2 ^ 62 }
+        requires room { length self.old < 2 ^ 63 }
         requires open { IsOpen self.old }
-        ensures { self.new ≡ self.old ++ Call entry.now ∷ [] }
+        ensures more { self.new ≡ self.old ++ Call entry.now ∷ [] }
+        ensures earlier { IsPrefix earlier.now self.old }
     {
         let offer = self.seen.plain::<NoGain, (Event, Reply), Append>(entry);
-        if !self.try_append(word, offer) {
+        if !self.try_append(word, earlier, offer) {
             match block_forever(rt) {}
         }
     }
 
-    /// Appends the end to the whole history, as `append_call` a call.
+    /// Appends the end to the whole history, which is this prefix. If the history is longer, this
+    /// call never returns, as `append_call`.
     pub(crate) fn append_end<R: Wait>(&mut self, rt: &R, word: &HistoryLength<C>)
-        requires room { length self.old < 2 ^ 62 }
+        requires room { length self.old < 2 ^ 63 }
         requires open { IsOpen self.old }
         ensures { self.new ≡ self.old ++ End ∷ [] }
     {
         let offer = self.seen.plain::<NoGain, (), Append>(&());
-        if !self.try_append(word, offer) {
+        let earlier = self.duplicate();
+        if !self.try_append(word, &earlier, offer) {
             match block_forever(rt) {}
         }
     }
 
     /// Appends the entry that is offered if this prefix is the whole history, and returns whether
-    /// it is.
+    /// it is. It learns of the other prefix before, so the whole history has that one.
     fn try_append(
         &mut self,
         word: &HistoryLength<C>,
+        earlier: &HistoryPrefix<C>,
         mut offer: Offer<HistoryEntry, u64, HistoryRule, NoGain>,
     ) -> bool
-        requires room { length self.old < 2 ^ 62 }
+        requires room { length self.old < 2 ^ 63 }
         requires open { IsOpen self.old }
         requires offered { (offer.names ≡ []) × (offer.state ≡ None) }
-        ensures { AppendsOrIsLonger result self.old offer.ask self.new }
+        ensures { AppendsOrIsLonger result self.old earlier.now offer.ask self.new }
     {
-        let mut pen = self.seen.no_pen();
         let before = self.len;
+        self.seen.learn(&earlier.seen);
+        let mut pen = self.seen.no_pen();
         let found = word
             .word
             .compare_exchange::<Append, NoGain>(
@@ -225,7 +232,7 @@ impl<C: TreeLedger> HistoryPrefix<C> {
 }
 
 /// Never returns.
-pub(crate) fn block_forever<R: Wait>(rt: &R) -> Infallible {
+fn block_forever<R: Wait>(rt: &R) -> Infallible {
     for _ in rt.forever() {}
     unreachable!()
 }

@@ -1,14 +1,14 @@
 //! What the lock of a recorded tree protects.
-ghost use Rattle.std.specs.Prelude.{◌≡◌, ◌≢◌, ◌≤◌, ◌↔◌, [], Err, false, IfOk, IfErr, OnOk, OnErr, length};
+ghost use Rattle.std.specs.Prelude.{◌≡◌, ◌≢◌, ◌≤◌, ◌↔◌, [], Some, Err, false, IfOk, IfErr, OnOk, OnErr, length};
 ghost use Rattle.std.specs.Option.{ForSome, ForNone};
 ghost use Rattle.prodash_core.specs.Trees.{is_frame};
-ghost use Rattle.prodash.specs.plumbing.Histories.{history_of, ended, HasCallAt};
+ghost use Rattle.prodash.specs.plumbing.Histories.{history_of, ended, last_number};
 ghost use Rattle.prodash_core.specs.Refusals.{refusal_of};
 ghost use Rattle.prodash.specs.declared.tree.recorded.ledgers.TheConstants.{PARTS};
 ghost use Rattle.prodash.specs.Journals.{IsAfter, RefusesOn, RefusesCall, MayRefuse, with_call, amount};
-ghost use Rattle.prodash.specs.plumbing.Recordings.{MayRecord, MayEnd, Records, RecordsIn, IsReceiptOf};
+ghost use Rattle.prodash.specs.plumbing.Recordings.{Records, RecordsIn, IsReceiptOf};
 
-use crate::tree::recorded::history::{HistoryLength, HistoryPrefix, block_forever};
+use crate::tree::recorded::history::{HistoryLength, HistoryPrefix};
 use crate::tree::recorded::journal::Journal;
 use crate::tree::recorded::ledgers::{PARTS, PartCount, TreeLedger};
 use crate::tree::recorded::receipt::Receipt;
@@ -19,9 +19,6 @@ use prodash_core::tree::{Event, Reply};
 use std::alloc::Global;
 use std::sync::ledger::{Book, Ledger};
 use std::sync::{Wait, ledger};
-
-/// The most entries of a journal to which a call is appended: 2^61, more than any memory holds.
-const MOST_ENTRIES: u64 = 1 << 61;
 
 /// What the lock of a recorded tree protects: the tree with its journal, its history, and the
 /// totals of all calls. Once the journal is taken out, no share has a part of the ledgers.
@@ -41,7 +38,6 @@ pub(crate) struct LockedRecording<C: TreeLedger, S: Ledger> {
     ghost counted: { ForSome state (λ s. calls.total ≡ length s.entries) },
     ghost summed: { ForSome state (λ s. sums.total ≡ amount s.entries) },
     ghost known: { ForSome state (λ s. history ≡ history_of s.entries) },
-    ghost short: { ForSome state (λ s. MayEnd s.entries) },
     ghost taken: { ForNone state (all.parts ≡ PARTS) },
 }
 
@@ -72,8 +68,9 @@ impl<C: TreeLedger, S: Ledger> LockedRecording<C, S> {
         }
     }
 
-    /// Applies an event that is no frame, for the item that has the share and whose last call has
-    /// the number `last`, and returns the reply and the receipt.
+    /// Applies an event that is no frame, for the item that has the share and saw the history up to
+    /// its last call, and returns the reply and the receipt. Then the item saw the history up to
+    /// this call.
     #[tactic(auto, using(crate::proofs::JournalLaws::counting))]
     pub(crate) fn call<R: Wait>(
         &mut self,
@@ -81,14 +78,16 @@ impl<C: TreeLedger, S: Ledger> LockedRecording<C, S> {
         alloc: Global,
         event: Event,
         share: &mut Share<C, S>,
-        last: Option<u64>,
+        seen: &mut HistoryPrefix<C>,
     ) -> Result<(Reply, Receipt<C>), Refusal>
         requires { is_frame event ≡ false }
         ensures reply { IfOk result (λ r. RecordsIn self.old.state event r.0 self.new.state) }
         ensures receipt { IfOk result (λ r. IsReceiptOf self.old.state event r.0 r.1) }
-        ensures number { IfOk result (λ r. IsAfter last r.1.number) }
+        ensures number { IfOk result (λ r. IsAfter (last_number seen.old) r.1.number) }
+        ensures seen { IfOk result (λ r. last_number seen.new ≡ Some r.1.number) }
         ensures ok { OnOk result (share.new ≡ with_call share.old event) }
         ensures err { OnErr result ((share.new ≡ share.old) × (self.new.state ≡ self.old.state)) }
+        ensures unseen { OnErr result (seen.new ≡ seen.old) }
         ensures full { (share.old.calls ≡ u64.MAX) ↔ (result ≡ Err Refusal.TooManyHandles) }
         ensures reason { IfErr result (RefusesOn self.old.state event) }
         ensures refused { IfErr result (RefusesCall event) }
@@ -108,10 +107,9 @@ impl<C: TreeLedger, S: Ledger> LockedRecording<C, S> {
         } = self;
         match state {
             Some(state) => {
-                let number = next_number(rt, last, state);
-                let (reply, entry) = record_call(rt, alloc, event, state, word, history)?;
-                share.count_call(&entry.0, calls, sums);
-                Ok((reply, Receipt::new(number, entry, history.duplicate())))
+                let (reply, receipt) = record_call(rt, alloc, event, state, word, history, seen)?;
+                share.count_call(receipt.event(), calls, sums);
+                Ok((reply, receipt))
             }
             None => {
                 share.show_part(all);
@@ -154,27 +152,8 @@ impl<C: TreeLedger, S: Ledger> LockedRecording<C, S> {
     }
 }
 
-/// Returns the number of the next call, which is greater than that of the item's last call. A
-/// journal is longer than the number of each of its calls, and never too long; otherwise this call
-/// would never return.
-fn next_number<R: Wait>(rt: &R, last: Option<u64>, state: &RecordedState) -> u64
-    ensures number { result ≡ length state.now.entries }
-    ensures after { IsAfter last result }
-    ensures short { MayRecord state.now.entries }
-{
-    let number = state.entries().len() as u64;
-    let is_after = match last {
-        Some(last) => last < number,
-        None => true,
-    };
-    if !is_after || number > MOST_ENTRIES {
-        match block_forever(rt) {}
-    }
-    number
-}
-
 /// Applies an event that is no frame, and appends it to the journal and to the history. Returns the
-/// reply and a copy of the entry.
+/// reply and the receipt, whose number is greater than that of the last call that was seen.
 #[tactic(auto, using(crate::proofs::HistoryLaws::appending))]
 fn record_call<C: TreeLedger, R: Wait>(
     rt: &R,
@@ -183,24 +162,26 @@ fn record_call<C: TreeLedger, R: Wait>(
     state: &mut RecordedState,
     word: &HistoryLength<C>,
     history: &mut HistoryPrefix<C>,
-) -> Result<(Reply, (Event, Reply)), Refusal>
+    seen: &mut HistoryPrefix<C>,
+) -> Result<(Reply, Receipt<C>), Refusal>
     requires frame { is_frame event ≡ false }
     requires known { history.old ≡ history_of state.old.entries }
-    requires short { MayRecord state.old.entries }
     ensures reply { IfOk result (λ r. Records state.old event r.0 state.new) }
-    ensures entry { IfOk result (λ r. r.1 ≡ (event, r.0)) }
-    ensures found { IfOk result (λ r.
-        HasCallAt history.new (length state.old.entries) r.1) }
+    ensures receipt { IfOk result (λ r. IsReceiptOf (Some state.old) event r.0 r.1) }
+    ensures number { IfOk result (λ r. IsAfter (last_number seen.old) r.1.number) }
+    ensures seen { IfOk result (λ r. last_number seen.new ≡ Some r.1.number) }
     ensures capacity { state.new.capacity ≡ state.old.capacity }
     ensures history { history.new ≡ history_of state.new.entries }
-    ensures err { OnErr result (state.new ≡ state.old) }
+    ensures err { OnErr result ((state.new ≡ state.old) × (seen.new ≡ seen.old)) }
     ensures reason { IfErr result (MayRefuse (refusal_of state.old.tree event)) }
     ensures handles { IfErr result (λ e. e ≢ Refusal.TooManyHandles) }
 {
+    let number = state.entries().len() as u64;
     let (reply, copy) = state.apply_and_copy(alloc, &event)?;
     let entry = (event, copy);
-    history.append_call(rt, word, &entry);
-    Ok((reply, entry))
+    history.append_call(rt, word, seen, &entry);
+    *seen = history.duplicate();
+    Ok((reply, Receipt::new(number, entry, history.duplicate())))
 }
 
 /// Returns the history of a tree with its end appended.
@@ -212,10 +193,10 @@ fn ended_history<C: TreeLedger, R: Wait>(
     state: &RecordedState,
 ) -> HistoryPrefix<C>
     requires known { history.now ≡ history_of state.now.entries }
-    requires short { MayEnd state.now.entries }
     ensures { result ≡ ended state.now.entries }
 {
     let mut history = history.duplicate();
+    let _len = state.entries().len();
     history.append_end(rt, word);
     history
 }

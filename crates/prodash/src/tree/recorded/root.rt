@@ -1,17 +1,18 @@
 //! Owners of recorded trees, and their items.
-ghost use Rattle.std.specs.Prelude.{◌≡◌, ◌+◌, ◌↔◌, Err, false, IfOk, IfErr, OnOk, OnErr, length, IsOkUnless};
+ghost use Rattle.std.specs.Prelude.{◌≡◌, ◌+◌, ◌<◌, ◌↔◌, [], Err, false, IfOk, IfErr, OnOk, OnErr, length, IsOkUnless};
 ghost use Rattle.prodash.specs.declared.tree.recorded.ledgers.TheConstants.{PARTS};
 ghost use Rattle.prodash_base.specs.Refusals.{RefusesHandle};
 ghost use Rattle.prodash_core.specs.Trees.{is_frame};
 ghost use Rattle.prodash.specs.Journals.{IsJournal, IsAfter, RefusesCall, new_caller, after_call, amount, calls_of, sum_of};
 
+use crate::tree::recorded::history::HistoryPrefix;
 use crate::tree::recorded::journal::Journal;
 use crate::tree::recorded::ledgers::{Ledgers, TreeLedger};
 use crate::tree::recorded::locked_recording::LockedRecording;
 use crate::tree::recorded::receipt::Receipt;
 use crate::tree::recorded::share::Share;
 use crate::tree::recorded::state::RecordedState;
-use crate::tree::recorded::unshared_parts::UnsharedParts;
+use crate::tree::recorded::unshared_parts::{LockedParts, UnsharedParts};
 use crate::tree::root::Options;
 use prodash_base::Refusal;
 use prodash_core::tree::{Event, Reply};
@@ -20,7 +21,9 @@ use std::marker::Model;
 use std::sync::ledger::Ledger;
 use std::sync::{Arc, Mutex, Wait};
 
-/// The owner of a recorded tree. Its two ledgers, of calls and of sums, name the tree.
+/// The owner of a recorded tree. Its two ledgers, of calls and of sums, name the tree. Contracts see
+/// how many shares had been made when it was opened: none of a new tree, and if `close` returns the
+/// owner, all that have been made so far.
 ///
 /// ```rust
 /// let root = RecordedRoot::<C, S>::new(alloc, ledgers, &Options::default())?;
@@ -36,7 +39,20 @@ use std::sync::{Arc, Mutex, Wait};
 #[derive(Drop)]
 pub struct RecordedRoot<C: TreeLedger, S: Ledger> {
     tree: Arc<Mutex<LockedRecording<C, S>>>,
-    unshared: Mutex<UnsharedParts<C, S>>,
+    unshared: LockedParts<C, S>,
+    /// The empty history, which is all that a new item has seen.
+    start: HistoryPrefix<C>,
+}
+
+impl<C: TreeLedger, S: Ledger> Model for RecordedRoot<C, S> {
+    ghost use Rattle.std.specs.Prelude.{◌≡◌, []};
+    ghost use Rattle.prodash.specs.Journals.{Opened};
+
+    ghost Value = { Opened };
+
+    ghost view = { λ root. record { made = root.unshared } };
+
+    ghost invariant = { λ root. root.start ≡ [] };
 }
 
 /// Makes calls on a recorded tree. Contracts see how many calls were accepted, their sum, and the
@@ -45,15 +61,17 @@ pub struct RecordedRoot<C: TreeLedger, S: Ledger> {
 pub struct RecordedItem<C: TreeLedger, S: Ledger> {
     tree: Arc<Mutex<LockedRecording<C, S>>>,
     share: Share<C, S>,
-    last: Option<u64>,
+    /// The history up to its last call.
+    seen: HistoryPrefix<C>,
 }
 
 impl<C: TreeLedger, S: Ledger> Model for RecordedItem<C, S> {
     ghost use Rattle.prodash.specs.Journals.{Caller};
+    ghost use Rattle.prodash.specs.plumbing.Histories.{last_number};
 
     ghost Value = { Caller };
 
-    ghost view = { λ item. record { tally = item.share; last = item.last } };
+    ghost view = { λ item. record { tally = item.share; last = last_number item.seen } };
 }
 
 /// What `close` returns if shares are missing: the root, and the shares that were given. Once the
@@ -81,7 +99,8 @@ impl<C: TreeLedger, S: Ledger> RecordedRoot<C, S> {
         requires sums { (ledgers.sums.name ≡ S.name) × (ledgers.sums.parts ≡ S.parts) }
         requires history { ledgers.history.seen.book ≡ C.history }
         requires capacity { options.now.message_buffer_capacity ≡ C.message_buffer_capacity }
-        ensures { IsOkUnless result Refusal.Memory }
+        ensures made { IfOk result (λ root. root.made ≡ 0) }
+        ensures reason { IsOkUnless result Refusal.Memory }
     {
         let state = RecordedState::new(alloc, options)?;
         let Ledgers {
@@ -91,10 +110,16 @@ impl<C: TreeLedger, S: Ledger> RecordedRoot<C, S> {
         } = ledgers;
         let (calls, mut call_part) = calls.open::<C>();
         let (sums, sum_part) = sums.open::<S>();
-        let locked = LockedRecording::new(state, calls, sums, call_part.empty(), history.of_tree());
+        let (word, start) = history.of_tree::<C>();
+        let of_tree = (word, start.duplicate());
+        let locked = LockedRecording::new(state, calls, sums, call_part.empty(), of_tree);
         let tree = Arc::new(alloc, Mutex::new(locked))?;
-        let unshared = Mutex::new(UnsharedParts::new(call_part, sum_part));
-        Ok(RecordedRoot { tree, unshared })
+        let unshared = LockedParts::new(UnsharedParts::new(call_part, sum_part));
+        Ok(RecordedRoot {
+            tree,
+            unshared,
+            start,
+        })
     }
 
     /// Returns an item that makes calls on the tree. May wait for a lock that only `share` takes.
@@ -107,15 +132,16 @@ impl<C: TreeLedger, S: Ledger> RecordedRoot<C, S> {
         ensures ok { IfOk result (λ item. item ≡ new_caller) }
         ensures reason { IfErr result RefusesHandle }
     {
-        make_item(&self.tree, &mut self.unshared.lock(rt))
+        make_item(&self.tree, &mut self.unshared.lock(rt), &self.start)
     }
 
-    /// Returns the journal of all calls, if `shares` has all shares that have been made. May wait
-    /// for the lock of the tree.
+    /// Returns the journal of all calls, if `shares` has all shares that have been made: an empty
+    /// list, if none has. May wait for the lock of the tree. If the history had an entry that the
+    /// journal lacks, this call would never return, as `RecordedItem::call`.
     ///
     /// # Errors
     ///
-    /// The root and the shares, if there are fewer shares than have been made.
+    /// The root and the shares, exactly if there are fewer shares than have been made.
     pub fn close<R: Wait>(
         self,
         rt: &R,
@@ -125,12 +151,21 @@ impl<C: TreeLedger, S: Ledger> RecordedRoot<C, S> {
         ensures count { IfOk result (λ j. length j ≡ calls_of shares.items) }
         ensures amount { IfOk result (λ j. amount j ≡ sum_of shares.items) }
         ensures err { IfErr result (λ u. u.shares ≡ shares) }
+        ensures missing { IfErr result (λ u. length shares.items < u.root.made) }
     {
-        let RecordedRoot { tree, unshared } = self;
-        let unshared = unshared.into_inner();
+        let RecordedRoot {
+            tree,
+            unshared,
+            start,
+        } = self;
+        let unshared = unshared.into_parts();
         if !unshared.is_complete_with(&shares) {
-            let unshared = Mutex::new(unshared);
-            let root = RecordedRoot { tree, unshared };
+            let unshared = LockedParts::new(unshared);
+            let root = RecordedRoot {
+                tree,
+                unshared,
+                start,
+            };
             return Err(Unclosed { root, shares });
         }
         let (calls, sums) = unshared.merge_shares(shares);
@@ -143,8 +178,12 @@ impl<C: TreeLedger, S: Ledger> RecordedRoot<C, S> {
 
 impl<C: TreeLedger, S: Ledger> RecordedItem<C, S> {
     /// Applies an event that is no frame, and returns the reply, and a receipt by which the call is
-    /// found in the journal. The numbers of the receipts rise from call to call. May wait for the
-    /// lock of the tree. A refused event gets no entry in the journal.
+    /// found in the journal. The numbers of the receipts rise from call to call. A refused event
+    /// gets no entry in the journal.
+    ///
+    /// May wait for the lock of the tree. Under the lock, this call would never return if the
+    /// history had an entry that the journal lacks. Only calls that hold the lock append one, and
+    /// they append it to both, but no contract rules that case out.
     ///
     /// # Errors
     ///
@@ -164,10 +203,8 @@ impl<C: TreeLedger, S: Ledger> RecordedItem<C, S> {
         ensures full { (self.old.tally.calls ≡ u64.MAX) ↔ (result ≡ Err Refusal.TooManyHandles) }
         ensures reason { IfErr result (RefusesCall event) }
     {
-        let RecordedItem { tree, share, last } = self;
-        let (reply, receipt) = tree.lock(rt).call(rt, alloc, event, share, *last)?;
-        *last = Some(receipt.number());
-        Ok((reply, receipt))
+        let RecordedItem { tree, share, seen } = self;
+        tree.lock(rt).call(rt, alloc, event, share, seen)
     }
 
     /// Returns the item's share, which says what the item has done.
@@ -177,17 +214,20 @@ impl<C: TreeLedger, S: Ledger> RecordedItem<C, S> {
         let RecordedItem {
             tree: _,
             share: given,
-            last: _,
+            seen: _,
         } = self;
         given
     }
 }
 
-/// Returns an item that makes calls on a tree, with a share that is split off.
+/// Returns an item that makes calls on a tree, with a share that is split off. It has
+/// seen nothing of the history but its start.
 fn make_item<C: TreeLedger, S: Ledger>(
     tree: &Arc<Mutex<LockedRecording<C, S>>>,
     unshared: &mut UnsharedParts<C, S>,
+    start: &HistoryPrefix<C>,
 ) -> Result<RecordedItem<C, S>, Refusal>
+    requires { start.now ≡ [] }
     ensures item { IfOk result (λ item. item ≡ new_caller) }
     ensures ok { OnOk result (unshared.new.made ≡ unshared.old.made + 1) }
     ensures err { OnErr result (unshared.new ≡ unshared.old) }
@@ -202,6 +242,6 @@ fn make_item<C: TreeLedger, S: Ledger>(
     Ok(RecordedItem {
         tree,
         share,
-        last: None,
+        seen: start.duplicate(),
     })
 }

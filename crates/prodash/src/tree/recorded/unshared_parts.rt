@@ -5,8 +5,10 @@ ghost use Rattle.prodash.specs.Journals.{no_calls, calls_of, sum_of};
 
 use crate::tree::recorded::ledgers::{PARTS, TreeLedger};
 use crate::tree::recorded::share::Share;
-use std::sync::ledger;
+use std::marker::Model;
+use std::snapshot::Snapshot;
 use std::sync::ledger::Ledger;
+use std::sync::{Mutex, MutexGuard, Wait, ledger};
 
 /// The parts of the ledgers that no share has yet. They have a lock of their own.
 #[derive(Drop)]
@@ -19,6 +21,46 @@ pub(crate) struct UnsharedParts<C: TreeLedger, S: Ledger> {
     ghost sums: { sum_part.parts + made ≡ PARTS },
     ghost no_calls: { call_part.amount ≡ 0 },
     ghost no_sum: { sum_part.amount ≡ 0 },
+}
+
+/// The parts that no share has yet, under a lock. Contracts see how many shares had been made before
+/// they came under it.
+#[derive(Drop)]
+pub(crate) struct LockedParts<C: TreeLedger, S: Ledger> {
+    parts: Mutex<UnsharedParts<C, S>>,
+    before: Snapshot<u64>,
+}
+
+impl<C: TreeLedger, S: Ledger> Model for LockedParts<C, S> {
+    ghost use Rattle.std.specs.Prelude.{ℕ};
+
+    ghost Value = { ℕ };
+
+    ghost view = { λ locked. locked.before.value };
+}
+
+impl<C: TreeLedger, S: Ledger> LockedParts<C, S> {
+    /// Returns these parts under a lock.
+    pub(crate) fn new(parts: UnsharedParts<C, S>) -> LockedParts<C, S>
+        ensures { result ≡ parts.made }
+    {
+        let before = Snapshot::of(&parts.made);
+        LockedParts {
+            parts: Mutex::new(parts),
+            before,
+        }
+    }
+
+    /// Takes the lock.
+    pub(crate) fn lock<R: Wait>(&self, rt: &R) -> MutexGuard<'_, UnsharedParts<C, S>> {
+        self.parts.lock(rt)
+    }
+
+    /// Returns the parts.
+    pub(crate) fn into_parts(self) -> UnsharedParts<C, S> {
+        let LockedParts { parts, before: _ } = self;
+        parts.into_inner()
+    }
 }
 
 impl<C: TreeLedger, S: Ledger> UnsharedParts<C, S> {
