@@ -159,6 +159,11 @@ fn a_refused_call_does_not_count(rt: HostRuntime) {
     run_on_new_tree(rt, rt.alloc(), DROPPED, 2, Replay::Replies);
 }
 
+#[test]
+fn a_tree_without_shares_closes(rt: HostRuntime) {
+    run_on_new_tree(rt, rt.alloc(), &[], 0, Replay::Replies);
+}
+
 /// Makes the calls of these rounds on a new tree, whose ledgers have types of their own, and
 /// asserts how many entries its journal has, and what its replay ends with.
 pub(crate) fn run_on_new_tree<R: Threads + Wait + Abort + Copy + Send + Sync + 'static>(
@@ -408,18 +413,31 @@ fn assert_unclosed<C: TreeLedger, S: Ledger>(
     unclosed
 }
 
-/// Closes a tree with all its shares, after it was refused without the last.
+/// Closes a tree with all its shares, after it was refused without the last, if there is one.
 fn close_tree<C: TreeLedger, S: Ledger>(
     rt: &(impl Wait + Abort),
     root: RecordedRoot<C, S>,
     shares: Vec<Share<C, S>>,
 ) -> Journal<C> {
     let mut shares = shares;
-    let last = shares.pop().expect(rt, "a share");
-    let unclosed = assert_unclosed(rt, root, shares);
-    let mut shares = unclosed.shares;
-    shares.push(last).expect(rt, "memory");
-    let closed = unclosed.root.close(rt, shares).ok();
+    match shares.pop() {
+        Some(last) => {
+            let unclosed = assert_unclosed(rt, root, shares);
+            let mut shares = unclosed.shares;
+            shares.push(last).expect(rt, "memory");
+            close_whole(rt, unclosed.root, shares)
+        }
+        None => close_whole(rt, root, shares),
+    }
+}
+
+/// Closes a tree with all its shares.
+fn close_whole<C: TreeLedger, S: Ledger>(
+    rt: &(impl Wait + Abort),
+    root: RecordedRoot<C, S>,
+    shares: Vec<Share<C, S>>,
+) -> Journal<C> {
+    let closed = root.close(rt, shares).ok();
     closed.expect(rt, "a journal")
 }
 
