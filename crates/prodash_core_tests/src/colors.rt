@@ -8,6 +8,12 @@ const COLORED: Options = Options {
     ..TERMINAL
 };
 
+/// The same on five columns.
+const COLORED_NARROW: Options = Options {
+    terminal_dimensions: (5, 20),
+    ..COLORED
+};
+
 /// Messages with their times.
 const TIMES: Options = Options {
     timestamp: true,
@@ -88,6 +94,10 @@ add 0 task; info 1 0 ; hold 0 -> Drawn
 add 0 task; add 0 ab; info 1 0 x; info 2 0 y; hold 0 -> Drawn
 " \u{1b}[2mtask\u{1b}[0m \u{1b}[1;37mx\u{1b}[0m\n \u{1b}[2m  ab\u{1b}[0m \u{1b}[1;37my\u{1b}[0m\n""#;
 
+const COLORED_NARROW_RUNS: &str = r#"# a row that is cut in its values
+add 0 t; init 1 10 -; set 1 3; tick 0 -> Drawn
+" \u{1b}[1;36mt\u{1b}[0m \u{1b}[1;2m3/\u{1b}[0m\n\u{1b}[1A""#;
+
 /// Messages are sent at the first moment, or one hour, two minutes and three seconds after it.
 const TIMES_RUNS: &str = r#"# messages with their times
 add 0 task; info 1 3723000000000 one; hold 0 -> Drawn
@@ -111,6 +121,7 @@ add 0 task; done 1 3723000000000 one; tick 0 -> Drawn
 
 const RUNS: &[(Options, &str)] = &[
     (COLORED, COLORED_RUNS),
+    (COLORED_NARROW, COLORED_NARROW_RUNS),
     (TIMES, TIMES_RUNS),
     (COLORED_TIMES, COLORED_TIMES_RUNS),
     (COLORED_PLAIN, COLORED_PLAIN_RUNS),

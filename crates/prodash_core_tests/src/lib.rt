@@ -18,6 +18,8 @@ mod fixtures;
 #[cfg(test)]
 mod hashed;
 #[cfg(test)]
+mod hashed_session;
+#[cfg(test)]
 mod options;
 #[cfg(test)]
 mod runs;

@@ -11,6 +11,12 @@ const PLAIN: Options = Options {
     ..TERMINAL
 };
 
+/// The same of twenty columns, which its lines may be wider than.
+const PLAIN_NARROW: Options = Options {
+    terminal_dimensions: (20, 20),
+    ..PLAIN
+};
+
 /// A renderer that closes once there is no task.
 const STOPS: Options = Options {
     keep_running_if_progress_is_empty: false,
@@ -124,6 +130,10 @@ droproot; tick 0 -> Ended
 quit 0; resize 0 30 4 -> Refused(Closed)
 """#;
 
+const PLAIN_NARROW_RUNS: &str =
+    r#"add 0 task; info 1 0 a long message of many words; hold 0 -> Drawn
+" task a long message of many words\n""#;
+
 const HIDES_RUNS: &str =
     r#"# the first frame hides the cursor, whatever it draws, and the closing one shows it
 hold 0 -> Drawn
@@ -221,6 +231,7 @@ const RUNS: &[(Options, &str)] = &[
     (STOPS_PLAIN, STOPS_PLAIN_RUNS),
     (TERMINAL, TERMINAL_RUNS),
     (PLAIN, PLAIN_RUNS),
+    (PLAIN_NARROW, PLAIN_NARROW_RUNS),
     (HIDES, HIDES_RUNS),
     (HIDES_PLAIN, HIDES_PLAIN_RUNS),
     (SECOND, SECOND_RUNS),
