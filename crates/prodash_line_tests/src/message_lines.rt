@@ -1,4 +1,4 @@
-use crate::drawings::Ask::{Print, Resize, Show};
+use crate::drawings::Ask::{Print, PrintHidden, Quit, Resize, Show};
 use crate::drawings::{Drawing, assert_draws};
 
 #[rattlefmt::skip]
@@ -8,15 +8,32 @@ const LINES: &[Drawing] = &[
         (Print(&[("ab", "x"), ("task", "y"), ("c", "z")], &[]), Ok(" ab x\n task y\n    c z\n")),
         (Print(&[], &[]), Ok("")),
     ]),
+    // also where no row is shown
+    Drawing((40, 20), &[
+        (PrintHidden(&[("ab", "x"), ("task", "y"), ("c", "z")], &[]), Ok(" ab x\n task y\n    c z\n")),
+    ]),
+    Drawing((40, 20), &[
+        (PrintHidden(&[("test", "one")], &[("test", None)]), Ok(" test one\n")),
+        (Quit, Ok("\x1b[2K\r")),
+    ]),
     // with one row, the width of the last origin counts alone; with none, no width does
     Drawing((40, 1), &[
         (Print(&[("task", "x")], &[]), Ok(" task x\n")),
         (Print(&[("ab", "y")], &[]), Ok("   ab y\n")),
         (Print(&[("c", "z")], &[]), Ok("  c z\n")),
     ]),
+    Drawing((40, 1), &[
+        (PrintHidden(&[("task", "x")], &[]), Ok(" task x\n")),
+        (PrintHidden(&[("ab", "y")], &[]), Ok("   ab y\n")),
+        (PrintHidden(&[("c", "z")], &[]), Ok("  c z\n")),
+    ]),
     Drawing((40, 0), &[
         (Print(&[("task", "x")], &[]), Ok(" task x\n")),
         (Print(&[("ab", "y")], &[]), Ok(" ab y\n")),
+    ]),
+    Drawing((40, 0), &[
+        (PrintHidden(&[("task", "x")], &[]), Ok(" task x\n")),
+        (PrintHidden(&[("ab", "y")], &[]), Ok(" ab y\n")),
     ]),
     // a higher terminal brings no width back: they are cut as a tick is accepted, and at a resize
     Drawing((40, 1), &[

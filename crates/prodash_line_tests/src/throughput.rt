@@ -72,7 +72,7 @@ const SECOND: &[Turn] = &[
 /// Nothing is recorded after the clock went back, but the new moment is kept.
 #[rattlefmt::skip]
 const BACK: &[Turn] = &[
-    (1000, None, None),
+    (1000, Some(5), None),
     (400, Some(5), None),
     (900, Some(5), None),
     (1_000_000_901, Some(12), Some(6)),
