@@ -172,10 +172,10 @@ fn steps_draw_or_are_refused(rt: HostRuntime) {
 }
 
 /// The nanoseconds between two frames.
-const FRAME: u64 = 1_000_000;
+pub(crate) const FRAME: u64 = 1_000_000;
 
 /// Frames of 40 columns and 20 rows.
-fn options() -> Options {
+pub(crate) fn options() -> Options {
     Options {
         terminal_dimensions: (40, 20),
         colored: false,
@@ -194,7 +194,7 @@ const NEXT_NARROW: &str = " task 4/10 [======>----------]\n\x1b[1A";
 pub(crate) const CLOSING_WIDE: &str = "                                        \n\x1b[1A\x1b[2K\r";
 
 /// Starts a renderer.
-fn start<
+pub(crate) fn start<
     R: Host,
     O: Write + Drop + Send + 'static,
     T: Root + Drop + Send + 'static,
@@ -305,6 +305,20 @@ fn a_thread_draws(rt: HostRuntime) {
     it.collected.open();
     it.handle.shutdown_and_wait();
     let frames = [TASK_FRAME, RESIZED_FRAME, NEXT_NARROW, CLOSING_FRAME];
+    assert_frames(&rt, &it.collected, &frames);
+    assert_ended(&rt, &it.clock);
+    drop(it.item);
+}
+
+/// The same with a size alone: after its frame the last one has nothing new.
+#[test]
+fn a_thread_draws_a_size(rt: HostRuntime) {
+    let it = make_drawn(&rt, rt.alloc(), false);
+    assert_same(&rt, it.root.num_tasks(), 1, "tasks");
+    it.handle.resize(30, 4);
+    it.collected.open();
+    it.handle.shutdown_and_wait();
+    let frames = [TASK_FRAME, RESIZED_FRAME, CLOSING_FRAME];
     assert_frames(&rt, &it.collected, &frames);
     assert_ended(&rt, &it.clock);
     drop(it.item);

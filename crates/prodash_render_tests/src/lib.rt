@@ -17,6 +17,10 @@ mod initial_delay;
 #[cfg(test)]
 mod logs;
 #[cfg(test)]
+mod moments;
+#[cfg(test)]
+mod room;
+#[cfg(test)]
 mod stacks;
 #[cfg(test)]
 mod waiting;

@@ -119,6 +119,36 @@ fn one_line_for_each_turn(rt: HostRuntime) {
     drop(bench);
 }
 
+/// A child begins at step 0, whichever step its parent is at, and logs that.
+#[test]
+fn children_begin_at_zero(rt: HostRuntime) {
+    let alloc: Global = rt.alloc();
+    let bench = make_bench(&rt, alloc, "main", Some(0));
+    bench.log.set(3);
+    let work = add_work(&rt, alloc, &bench.log);
+    assert_same(&rt, work.step(), 0, "step of a child");
+    work.inc();
+    assert_same(&rt, work.step(), 1, "next step of a child");
+    assert_same(&rt, bench.log.step(), 3, "step of the parent");
+    drop(work);
+    assert_logged(&rt, &bench, "INFO main → 3\n");
+    drop(bench);
+}
+
+/// A message is logged beside the line that is due, and not in place of it.
+#[test]
+fn messages_leave_a_line_due(rt: HostRuntime) {
+    let alloc: Global = rt.alloc();
+    let bench = make_bench(&rt, alloc, "main", None);
+    bench
+        .log
+        .message(alloc, 0, MessageLevel::Info, "so")
+        .expect(&rt, "no refusal");
+    bench.log.set(1);
+    assert_logged(&rt, &bench, "INFO ℹmain → so\nINFO main → 1\n");
+    drop(bench);
+}
+
 /// Deeper than the greatest level no step is logged, and the line of the others stays due.
 #[test]
 fn levels_that_are_logged(rt: HostRuntime) {

@@ -4,7 +4,7 @@ use crate::fixtures::{Host, arc, assert_same, share};
 use log::kv::Source;
 use log::span::Spans;
 use log::{Log as Logger, Metadata, Record};
-use prodash::time::Clock;
+use prodash::time::{Clock, Moment};
 use std::alloc::Global;
 use std::fmt::Display;
 use std::io::{self, Error, ErrorKind, Write};
@@ -61,8 +61,9 @@ impl<T> Awaited for SoleOwner<'_, T> {
     }
 }
 
-/// A clock at the first moment, on which as many sleeps of one length end as the test lets end, or
-/// each after twenty seconds. A sleep of another length takes a millisecond.
+/// A clock that the test sets, at first to the first moment, on which as many sleeps of one length
+/// end as the test lets end, or each after twenty seconds. A sleep of another length takes a
+/// millisecond.
 #[derive(Drop)]
 pub(crate) struct SteppedClock<R: rt::Clock + Drop> {
     rt: R,
@@ -76,6 +77,8 @@ pub(crate) struct SteppedClock<R: rt::Clock + Drop> {
     first_goes_on: AtomicBool,
     /// The length of the latest sleep, in nanoseconds.
     pub length: AtomicU64,
+    /// The moment that it is.
+    moment: AtomicU64,
 }
 
 impl<R: Host> SteppedClock<R> {
@@ -88,6 +91,7 @@ impl<R: Host> SteppedClock<R> {
             ending: AtomicU64::new(0),
             first_goes_on: AtomicBool::new(false),
             length: AtomicU64::new(0),
+            moment: AtomicU64::new(0),
         };
         arc(rt, alloc, clock)
     }
@@ -99,6 +103,11 @@ impl<R: Host> SteppedClock<R> {
 }
 
 impl<R: rt::Clock + Drop> SteppedClock<R> {
+    /// Makes it this moment.
+    pub(crate) fn set_moment(&self, moment: Moment) {
+        self.moment.store(moment, Ordering::SeqCst);
+    }
+
     /// Lets the first sleeps end, this many.
     pub(crate) fn end(&self, count: u64) {
         self.ending.store(count, Ordering::SeqCst);
@@ -135,8 +144,8 @@ impl<R: rt::Clock + Drop> SteppedClock<R> {
 }
 
 impl<R: rt::Clock + Drop> Clock for SteppedClock<R> {
-    fn now(&self) -> u64 {
-        0
+    fn now(&self) -> Moment {
+        self.moment.load(Ordering::SeqCst)
     }
 
     fn sleep(&self, nanoseconds: u64) {
