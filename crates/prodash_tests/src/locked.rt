@@ -3,14 +3,14 @@ use crate::fixtures::{
     ShortMessage, ShortRow, assert_messages, assert_name, assert_rows, assert_same, child, key_at,
     new_root, root_with_task,
 };
-use prodash::messages::{MessageLevel, Messages};
+use prodash::messages::{Message, MessageLevel, Messages};
 use prodash::progress::Rows;
 use prodash::tree::root::{Options, WeakHandle};
 use prodash::tree::{Item, Root, Steps};
 use std::alloc::Global;
 use std::process::Abort;
-use std::sync::Wait;
 use std::sync::atomic::Ordering;
+use std::sync::{Arc, Wait};
 use std::thread;
 use std::thread::Threads;
 
@@ -101,6 +101,18 @@ fn items_show_key_and_step(rt: HostRuntime) {
     let text = format!(in rt.alloc(); "{item:?}").expect(&rt, "memory");
     let want = "Item { key: Key [0], step: 3, .. }";
     assert_same(&rt, text.as_str(), want, "text");
+}
+
+/// A dropped item leaves nothing in the tree: the only owner of its counter is then the one that
+/// asked for it.
+#[test]
+fn a_dropped_item_lets_go_of_its_counter(rt: HostRuntime) {
+    let (root, item) = root_with_task(rt, rt.alloc());
+    let counter = item.counter().expect(&rt, "no refusal");
+    assert_same(&rt, Arc::strong_count(&counter), 3, "owners before");
+    drop(item);
+    assert_same(&rt, Arc::strong_count(&counter), 1, "owners after");
+    drop(root);
 }
 
 /// Asserts that a tree keeps these messages.
@@ -298,16 +310,28 @@ fn deep_clones_are_apart(rt: HostRuntime) {
     assert_same(&rt, copy.num_tasks(), 1, "tasks");
 }
 
-/// Adds tasks with parts, sets their steps, sends two messages for each, and drops them.
-fn add_and_drop<R: Wait + Clone + Drop>(rt: &impl Abort, alloc: Global, root: &Root<R>) {
-    for n in 0..100u64 {
+/// How many messages a thread sends.
+const SENT_BY_EACH: u64 = 200;
+
+/// Adds tasks with parts, sets their steps, sends two messages for each, and drops them. The
+/// moments of the messages of a thread go up by one, and those of the next thread begin after them.
+fn add_and_drop<R: Wait + Clone + Drop>(
+    rt: &impl Abort,
+    alloc: Global,
+    root: &Root<R>,
+    number: u64,
+) {
+    let first = number.wrapping_mul(SENT_BY_EACH);
+    for n in 0..SENT_BY_EACH / 2 {
         let mut item = child(rt, alloc, root, "task");
         item.init(Some(100), None);
         item.set(n);
-        send_info(rt, alloc, &item, "begun");
-        let part = item.add_child(alloc, "part").expect(rt, "no refusal");
+        let at = first.wrapping_add(n.wrapping_mul(2));
+        item.info(alloc, at, "begun").expect(rt, "no refusal");
+        let mut part = item.add_child(alloc, "part").expect(rt, "no refusal");
         part.inc();
-        send_info(rt, alloc, &part, "done");
+        part.info(alloc, at.wrapping_add(1), "done")
+            .expect(rt, "no refusal");
     }
 }
 
@@ -339,9 +363,10 @@ fn do_job<R: Wait + Clone + Drop>(
     root: &Root<R>,
     item: &Item<R>,
     job: Job,
+    number: u64,
 ) {
     match job {
-        Job::AddAndDrop => add_and_drop(rt, alloc, root),
+        Job::AddAndDrop => add_and_drop(rt, alloc, root, number),
         Job::CountUp => count_up(item),
     }
 }
@@ -355,15 +380,24 @@ fn run_in_four_threads<R: Threads + Wait + Abort + Copy + Drop + Send + Sync>(
     job: Job,
 ) {
     thread::scope(thread::scope_env(), &rt, |scope| {
-        for _ in 0..4u32 {
-            if scope
-                .spawn(move || do_job(&rt, alloc, root, item, job))
-                .is_err()
-            {
-                do_job(&rt, alloc, root, item, job);
-            }
+        for number in 0..4u64 {
+            let started = scope.spawn(move || do_job(&rt, alloc, root, item, job, number));
+            assert_same(&rt, started.is_ok(), true, "a thread is started");
         }
     });
+}
+
+/// Asserts that the messages of each of the four threads are the last that it has sent, in their
+/// order.
+fn assert_last_of_each(rt: &impl Abort, messages: &[Message]) {
+    // the moments of the messages before those that are looked at
+    let mut before: [u64; 4] = [200, 400, 600, 800];
+    for message in messages.iter().rev() {
+        let number = (message.time / SENT_BY_EACH) as usize;
+        let at = before.get_mut(number).expect(rt, "a thread");
+        *at = at.wrapping_sub(1);
+        assert_same(rt, message.time, *at, "moment of a message");
+    }
 }
 
 /// No task is left, and of 800 messages the tree keeps the last 20.
@@ -378,6 +412,7 @@ fn four_threads_share_a_root(rt: HostRuntime) {
     let sent = state.expect(&rt, "no refusal").pushed();
     assert_same(&rt, kept.len(), 20, "messages");
     assert_same(&rt, sent, 800, "messages sent");
+    assert_last_of_each(&rt, &kept);
 }
 
 /// No step is lost if four threads add to one counter, which wraps.

@@ -16,8 +16,9 @@ pub(crate) const START: Moment = 1_000_000_000;
 /// The moment at which messages are sent.
 pub(crate) const NOW: Moment = 3_500_000_000;
 
-/// Makes each call of a counter that changes it.
+/// Makes each call of a counter that changes it. What it is set to first is gone then.
 fn count_each<C: Count>(progress: &C) {
+    progress.set(3);
     progress.set(7);
     progress.inc_by(2);
     progress.inc();
