@@ -6,6 +6,7 @@ mod messages;
 mod pages;
 mod rates;
 mod renders;
+mod runs;
 mod scene;
 mod sessions;
 mod texts;
@@ -33,6 +34,7 @@ pub(crate) fn run<R: Threads + Wait + Print + rt::Clock + Clone + Drop + Send + 
         "rates" => rates::run(alloc, calls)?,
         "texts" => texts::run(alloc, calls)?,
         "pages" => pages::run(alloc, calls)?,
+        "runs" => runs::run(alloc, calls)?,
         "sessions" => sessions::run(alloc, calls)?,
         "engines" => engines::run(alloc, calls)?,
         "logs" => logs::run(rt, alloc, calls)?,

@@ -4,8 +4,8 @@ use log::span::Spans;
 use log::{Log as Logger, Metadata, Record};
 use prodash::Refusal;
 use prodash::messages::MessageLevel;
-use prodash::progress::Log;
-use prodash::time::SystemClock;
+use prodash::progress::{Log, Step};
+use prodash::time::{Clock, Moment, SystemClock};
 use prodash_fixtures::Calls;
 use prodash_programs::Fault;
 use std::alloc::Global;
@@ -15,10 +15,27 @@ use std::sync::atomic::{AtomicU64, Ordering};
 use std::sync::{Arc, Wait};
 use std::thread::Threads;
 
-/// A logger that counts what it gets.
+/// The lines that are logged, whole. The thread of the log has its second turn before the second.
+const LINES: &[&str] = &[
+    "main::rest → 3 / 10",
+    "main::rest → 5 / 10",
+    "ℹmain::rest → on its way",
+];
+
+/// What a logger gets.
+#[derive(Drop)]
+struct Records {
+    count: AtomicU64,
+    /// How many of them weren't whole.
+    wrong: AtomicU64,
+}
+
+/// A logger that counts what it gets, and compares it with the lines that are logged. It does
+/// without the comparison if there is no memory for it.
 #[derive(Drop)]
 struct Counter {
-    records: Arc<AtomicU64>,
+    alloc: Global,
+    records: Arc<Records>,
 }
 
 impl Logger for Counter {
@@ -26,8 +43,14 @@ impl Logger for Counter {
         true
     }
 
-    fn log<D: Display, K: Source, S: Spans>(&self, _record: &Record<'_, D, K, S>) {
-        self.records.fetch_add(1, Ordering::SeqCst);
+    fn log<D: Display, K: Source, S: Spans>(&self, record: &Record<'_, D, K, S>) {
+        self.records.count.fetch_add(1, Ordering::SeqCst);
+        let args = record.args();
+        if let Ok(line) = format!(in self.alloc; "{args}") {
+            if !LINES.iter().any(|it| *it == line.as_str()) {
+                self.records.wrong.fetch_add(1, Ordering::SeqCst);
+            }
+        }
     }
 
     fn flush(&self) {}
@@ -37,8 +60,59 @@ impl Logger for Counter {
     }
 }
 
+/// The nanoseconds between two looks at whether something has happened.
+const PAUSE: u64 = 1_000_000;
+
+/// How often it is looked for.
+const LOOKS: u32 = 20_000;
+
+/// A clock at the first moment, on which as many sleeps end as are let end, or each after a long
+/// time.
+#[derive(Drop)]
+struct SteppedClock<R: rt::Clock + Drop> {
+    clock: SystemClock<R>,
+    begun: AtomicU64,
+    ending: AtomicU64,
+}
+
+impl<R: rt::Clock + Drop> SteppedClock<R> {
+    /// Lets the first sleeps end, this many, and waits until the next one begins.
+    fn end(&self, count: u64) {
+        self.ending.store(count, Ordering::SeqCst);
+        for _ in 0..LOOKS {
+            if self.begun.load(Ordering::SeqCst) > count {
+                break;
+            }
+            self.clock.sleep(PAUSE);
+        }
+    }
+}
+
+impl<R: rt::Clock + Drop + Send + Sync> Clock for SteppedClock<R> {
+    fn now(&self) -> Moment {
+        0
+    }
+
+    fn sleep(&self, _nanoseconds: u64) {
+        let before = self.begun.fetch_add(1, Ordering::SeqCst);
+        for _ in 0..LOOKS {
+            if self.ending.load(Ordering::SeqCst) > before {
+                break;
+            }
+            self.clock.sleep(PAUSE);
+        }
+    }
+}
+
 /// Progress whose lines are counted.
-type Counted<R> = Log<Counter, SystemClock<R>>;
+type Counted<R> = Log<Counter, SteppedClock<R>>;
+
+/// What a log shares with its calls.
+#[derive(Drop)]
+struct Bench<R: rt::Clock + Drop> {
+    records: Arc<Records>,
+    clock: Arc<SteppedClock<R>>,
+}
 
 /// Makes each call on a log and one below it.
 pub(crate) fn run<R: Threads + Wait + rt::Clock + Clone + Drop + Send + Sync + 'static>(
@@ -46,42 +120,85 @@ pub(crate) fn run<R: Threads + Wait + rt::Clock + Clone + Drop + Send + Sync + '
     alloc: Global,
     calls: &mut Calls,
 ) -> Result<(), Fault> {
-    let records = Arc::new(alloc, AtomicU64::new(0))?;
-    let log = new(rt, alloc, &records, calls)?;
+    let bench = new_bench(rt, alloc)?;
+    let log = new(rt, alloc, &bench, calls)?;
     let mut work = add_child(alloc, &log, calls)?;
-    make_calls(alloc, &mut work, &records, calls)
+    make_calls(alloc, &mut work, &bench, calls)
+}
+
+fn new_bench<R: Wait + rt::Clock + Clone + Drop>(
+    rt: &R,
+    alloc: Global,
+) -> Result<Bench<R>, Refusal> {
+    let records = Records {
+        count: AtomicU64::new(0),
+        wrong: AtomicU64::new(0),
+    };
+    let clock = SteppedClock {
+        clock: SystemClock::new(rt.clone()?),
+        begun: AtomicU64::new(0),
+        ending: AtomicU64::new(0),
+    };
+    Ok(Bench {
+        records: Arc::new(alloc, records)?,
+        clock: Arc::new(alloc, clock)?,
+    })
 }
 
 /// Makes each call on a log that is below another.
 fn make_calls<R: rt::Clock + Drop + Send + Sync + 'static>(
     alloc: Global,
     work: &mut Counted<R>,
-    records: &AtomicU64,
+    bench: &Bench<R>,
     calls: &mut Calls,
 ) -> Result<(), Fault> {
     expect_line(alloc, work, "main::work → 0", calls)?;
     set_name(alloc, work, calls)?;
     name(alloc, work, calls)?;
     work.init(Some(10), None);
-    work.set(3);
-    expect_line(alloc, work, "main::rest → 3 / 10", calls)?;
+    set(work, 3, &bench.records, calls);
+    bench.clock.end(1);
+    set(work, 5, &bench.records, calls);
+    expect_line(alloc, work, "main::rest → 5 / 10", calls)?;
     message_line(alloc, work, calls)?;
-    message(alloc, work, records, calls)?;
-    message(alloc, work, records, calls)
+    message(alloc, work, &bench.records, calls)?;
+    message(alloc, work, &bench.records, calls)?;
+    calls.expect(bench.records.wrong.load(Ordering::SeqCst) == 0);
+    Ok(())
+}
+
+/// Sets a step, whose line is due. If it is refused memory it is left out. The line of the step
+/// after it isn't due, either way.
+fn set<R: rt::Clock + Drop + Send + Sync + 'static>(
+    work: &Counted<R>,
+    step: Step,
+    records: &Records,
+    calls: &mut Calls,
+) {
+    calls.begin("Log::set");
+    let before = records.count.load(Ordering::SeqCst);
+    work.set(step);
+    let after = records.count.load(Ordering::SeqCst);
+    if after == before {
+        calls.refuse(Refusal::Memory, true);
+    }
+    work.inc_by(0);
+    calls.expect(records.count.load(Ordering::SeqCst) == after);
+    calls.expect(after.wrapping_sub(before) <= 1 && work.step() == step);
 }
 
 /// Makes a log.
 fn new<R: Threads + Wait + rt::Clock + Clone + Drop + Send + Sync + 'static>(
     rt: &R,
     alloc: Global,
-    records: &Arc<AtomicU64>,
+    bench: &Bench<R>,
     calls: &mut Calls,
 ) -> Result<Counted<R>, Fault> {
     calls.begin("Log::new");
-    match start(rt, alloc, records) {
+    match start(rt, alloc, bench) {
         Ok(log) => Ok(log),
         Err(refusal) => {
-            let again = start(rt, alloc, records);
+            let again = start(rt, alloc, bench);
             // a thread that finds no memory can't be started
             let reason = match refusal {
                 Refusal::NoThread => Refusal::Memory,
@@ -96,12 +213,13 @@ fn new<R: Threads + Wait + rt::Clock + Clone + Drop + Send + Sync + 'static>(
 fn start<R: Threads + Wait + rt::Clock + Clone + Drop + Send + Sync + 'static>(
     rt: &R,
     alloc: Global,
-    records: &Arc<AtomicU64>,
+    bench: &Bench<R>,
 ) -> Result<Counted<R>, Refusal> {
     let logger = Counter {
-        records: Arc::try_clone(records)?,
+        alloc,
+        records: Arc::try_clone(&bench.records)?,
     };
-    let clock = Arc::new(alloc, SystemClock::new(rt.clone()?))?;
+    let clock = Arc::try_clone(&bench.clock)?;
     Log::new(rt, alloc, "main", None, logger, clock)
 }
 
@@ -200,17 +318,17 @@ fn message_line<R: rt::Clock + Drop + Send + Sync + 'static>(
 fn message<R: rt::Clock + Drop + Send + Sync + 'static>(
     alloc: Global,
     log: &Counted<R>,
-    records: &AtomicU64,
+    records: &Records,
     calls: &mut Calls,
 ) -> Result<(), Fault> {
     calls.begin("Log::message");
-    let before = records.load(Ordering::SeqCst);
+    let before = records.count.load(Ordering::SeqCst);
     if let Err(refusal) = log.message(alloc, 0, MessageLevel::Info, "on its way") {
-        let is_unlogged = records.load(Ordering::SeqCst) == before;
+        let is_unlogged = records.count.load(Ordering::SeqCst) == before;
         let again = log.message(alloc, 0, MessageLevel::Info, "on its way");
         calls.refuse(refusal, is_unlogged && again.is_ok());
         again?;
     }
-    calls.expect(records.load(Ordering::SeqCst) == before.wrapping_add(1));
+    calls.expect(records.count.load(Ordering::SeqCst) == before.wrapping_add(1));
     Ok(())
 }
