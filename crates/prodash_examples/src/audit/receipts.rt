@@ -71,8 +71,8 @@ fn close_tree<C: TreeLedger, S: Ledger>(
 ///
 /// # Errors
 ///
-/// `Journal`, if the numbers of a worker's receipts don't ascend, if one doesn't agree, or if an
-/// entry has none.
+/// `Journal`, if the numbers of a worker's receipts don't ascend, if one doesn't agree or isn't what
+/// the entry at its number says, or if an entry has none.
 fn count_agreed<C: TreeLedger>(
     journal: &Journal<C>,
     workers: &[Vec<Receipt<C>>],
@@ -81,7 +81,8 @@ fn count_agreed<C: TreeLedger>(
 {
     let mut count: usize = 0;
     for receipts in workers {
-        if !numbers_ascend(receipts) || !all_agree(journal, receipts) {
+        let are_right = all_agree(journal, receipts) && are_entries(journal, receipts);
+        if !are_right || !numbers_ascend(receipts) {
             return Err(Fault::Journal);
         }
         count = count.wrapping_add(receipts.len());
@@ -115,6 +116,19 @@ fn all_agree<C: TreeLedger>(journal: &Journal<C>, receipts: &[Receipt<C>]) -> bo
         }
     }
     true
+}
+
+/// Returns whether all receipts are what the entries at their numbers say.
+fn are_entries<C: TreeLedger>(journal: &Journal<C>, receipts: &[Receipt<C>]) -> bool {
+    receipts.iter().all(|receipt| is_entry(journal, receipt))
+}
+
+/// Returns whether the entry at a receipt's number has its event and its reply.
+fn is_entry<C: TreeLedger>(journal: &Journal<C>, receipt: &Receipt<C>) -> bool {
+    match journal.entries().get(receipt.number() as usize) {
+        Some((event, reply)) => event == receipt.event() && reply == receipt.reply(),
+        None => false,
+    }
 }
 
 /// Returns the lines of the journal's events, each with a line feed. Every event of a worker has
