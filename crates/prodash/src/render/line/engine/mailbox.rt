@@ -1,4 +1,6 @@
 //! The requests to the event loop, from the ticker and from the handle of the renderer.
+ghost use Rattle.std.specs.Prelude.{◌≡◌, Some, true, false, is_some};
+
 use std::sync::{Condvar, Mutex, Wait};
 
 /// A request to the event loop.
@@ -69,6 +71,17 @@ impl Pending {
         self.quit = false;
         Request::Quit
     }
+
+    /// Requests a size again that was refused, unless another was requested since then.
+    fn restore_size(&mut self, columns: u16, rows: u16)
+        ensures newer { is_some self.old.size ≡ true → self.new ≡ self.old }
+        ensures refused { is_some self.old.size ≡ false
+            → self.new ≡ record self.old { size = Some (columns, rows) } }
+    {
+        if self.size.is_none() {
+            self.size = Some((columns, rows));
+        }
+    }
 }
 
 impl Mailbox {
@@ -134,9 +147,7 @@ impl Mailbox {
     pub(crate) fn request_again<R: Wait>(&self, rt: &R, refused: Request) -> bool {
         let mut pending = self.pending.lock(rt);
         match refused {
-            Request::Resize(columns, rows) => {
-                pending.size = pending.size.or(Some((columns, rows)));
-            }
+            Request::Resize(columns, rows) => pending.restore_size(columns, rows),
             Request::Tick if pending.quit => pending.tick = true,
             Request::Quit => pending.quit = true,
             Request::Tick | Request::Cancel => return false,
