@@ -189,13 +189,13 @@ impl Slow {
         text: &Text,
     ) -> Reply {
         let origin = match self.tasks.get(&place.key) {
-            Some(task) => task.name.as_str(),
-            None => "",
+            Some(task) => Text::from_str(alloc, task.name.as_str()),
+            None => Text::from_str(alloc, ""),
         };
         let message = Message {
             time,
             level,
-            origin: Text::from_str(alloc, origin).expect(rt, "memory"),
+            origin: origin.expect(rt, "memory"),
             message: Text::from_str(alloc, text.as_str()).expect(rt, "memory"),
         };
         if self.messages.len() == KEPT {

@@ -2,7 +2,6 @@
 mod changes;
 mod children;
 mod copies;
-mod owners;
 
 use prodash::Refusal;
 use prodash::messages::Message;
@@ -41,8 +40,7 @@ fn make_calls<R: Wait + Clone + Drop>(
 ) -> Result<(), Fault> {
     children::make_calls(root, alloc, item, calls)?;
     changes::make_calls(root, alloc, item, calls)?;
-    copies::make_calls(root, alloc, item, calls)?;
-    owners::make_calls(root, item, calls)
+    copies::make_calls(root, alloc, item, calls)
 }
 
 /// Makes a tree without tasks, which must keep this many messages.
