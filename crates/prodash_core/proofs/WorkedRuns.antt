@@ -123,7 +123,7 @@ page_of n xs = page_after (signs_of [] (take n (drawn_frames renderer xs))) (bla
 
 -- a page that shows these rows, with the cursor at the beginning of one
 abbrev shows : List (List ℕ) → ℕ → Canvas
-shows rows row = record { columns = 40; height = 4; rows = rows; row = row; column = 0 }
+shows rows row = record { columns = 40; height = 4; rows = rows; row = row; column = 0; wraps = true }
 
 abbrev cells : List ℕ → ℕ → List ℕ
 cells text blanks = text ++ replicate blanks 32

@@ -13,6 +13,7 @@ use Rattle.prodash_line.specs.Screens.{ScreenState}
 use Rattle.prodash_line.specs.ErasedPages.{ErasesPagesOf, FitsTerminal, ShowsErasing}
 use Rattle.prodash_line.specs.ControlCharacters.{DrawsNoControlsOf}
 use Rattle.prodash_line.specs.Page.{Canvas}
+use Rattle.prodash_line.specs.Terminals.{Terminal}
 use Rattle.prodash_core.specs.declared.tree.slot.Slot.{Slot}
 use Rattle.prodash_core.specs.Trees.{Tree, Effect, OnTree, OnRenderer, effect_of, item_at, message_by}
 use Rattle.prodash_core.specs.Sessions.{SessionState, new_session, tree_after, is_memory, Steps}
@@ -172,16 +173,17 @@ ShowsOnPages options es rs s s' =
     → ShowsFrames s.bytes s'.bytes
     (drawn_frames (new_session options).renderer (renderings_of options es rs)) above page
 
--- if rows are erased, every page of the terminal's size shows each frame, whatever it showed before
+-- if rows are erased, every page of the terminal's size shows each frame, whatever it showed before, and however many columns its terminal gives
+-- each character
 abbrev pub EachErases : SessionOptions → List Event → List Reply → ScreenState → ScreenState → Type 0
 EachErases options es rs s s' =
     RendersEach ErasesPagesOf (new_session options).renderer s (renderings_of options es rs) s'
 
--- and a page of the terminal, whatever it shows at first, shows the frames one after another
+-- and a page of the terminal's size, whatever it shows at first, shows the frames one after another
 abbrev pub ErasesOnPages : SessionOptions → List Event → List Reply → ScreenState → ScreenState
     → Type 0
 ErasesOnPages options es rs s s' =
-    (page : Canvas)
+    (page : Terminal)
     → FitsTerminal (new_session options).renderer (renderings_of options es rs) s'.broken page
     → ShowsErasing s.bytes s'.bytes
     (drawn_frames (new_session options).renderer (renderings_of options es rs)) page
@@ -217,7 +219,7 @@ pub record Ran (options : SessionOptions) (es : List Event) (rs : List Reply) (s
   -- messages printed so far, then the lines on screen, then blank rows
   pub page : ShowsOnPages options es rs s s'
   -- if rows are erased, every page of the terminal's size shows each frame, whatever it showed
-  -- before
+  -- before, and however many columns its terminal gives each character
   pub erases : EachErases options es rs s s'
   -- and such a page, whatever it shows at first, shows after each frame the rows above as they
   -- were, then the messages printed so far, then the lines drawn last, then blank rows

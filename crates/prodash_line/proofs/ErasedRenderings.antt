@@ -1,6 +1,7 @@
--- The frames of a renderer that erases rows, on any page of the terminal's size.
-use Rattle.std.proofs.Common.{◌≡◌, ℕ, Result, Ok, Err, ◌+◌, ◌-◌, ◌<◌, nat_eq, nat_lt, Bool, true, false, cond, List, [], ◌∷◌, ◌++◌, length, refl, sym, ap, subst, ◌∙◌, length-append, Some, None, arith}
+-- The frames of a renderer that erases rows, on any page of the terminal's size, for any widths of characters.
+use Rattle.std.proofs.Common.{◌≡◌, ℕ, Result, Ok, Err, ◌+◌, ◌-◌, ◌<◌, ◌≤◌, nat_eq, nat_lt, Bool, true, false, cond, List, [], ◌∷◌, ◌++◌, length, refl, sym, ap, subst, ◌∙◌, length-append, Some, None, arith}
 use Rattle.std.specs.Prelude.{◌&&◌, ◌||◌, not, min}
+use Rattle.std.specs.Char.{IsScalar, is_control}
 use Rattle.std.specs.List.{AllByRecursion}
 use Rattle.std.proofs.lemmas.List.{length-map, length-take}
 use Rattle.std.proofs.lemmas.Bool.Decides.{nat_tests}
@@ -17,23 +18,27 @@ use Rattle.prodash_line.specs.declared.render.line.draw.layout.Layout.{Layout}
 use Rattle.prodash_line.specs.declared.render.line.draw.layout.Layout.TheVariants.{Overwriting, Erasing}
 use Rattle.prodash_line.specs.declared.render.line.page.sign.Sign.{Sign}
 use Rattle.prodash_line.specs.declared.render.line.page.sign.Sign.TheVariants.{CarriageReturn, EraseLine, ShowCursor}
-use Rattle.prodash_line.specs.Lines.{Line}
+use Rattle.prodash_line.specs.Lines.{Line, columns_of, line_text}
 use Rattle.prodash_line.specs.DrawnLines.{as_drawn, erases_rows, layout_of}
 use Rattle.prodash_line.specs.ProgressRows.{DrawnRow, drawn_row_line, row_lines, fitting_count, fitting, more_line, more_lines}
 use Rattle.prodash_line.specs.MessageLines.{message_lines}
-use Rattle.prodash_line.specs.Frames.{body_lines, frame_signs}
-use Rattle.prodash_line.specs.Fits.{IsPlain, HasPlainLines, LinesFit, BodyFits}
+use Rattle.prodash_line.specs.Frames.{Body, Unchanged, Draws, Closes, Frame, body_lines, frame_signs}
+use Rattle.prodash_line.specs.ControlCharacters.{IsWithoutControls, HasNoControls}
+use Rattle.prodash_line.specs.Reading.{AreProper}
 use Rattle.prodash_line.specs.Renderer.{Renderer, Drawing, has_messages, closes_at, is_drawn, is_cursor_hidden, ending_of, drawn_rows, drawn_lines, latest_rows, remember, moment_of, drawing_at, action_at, printed_at, body_of, frame_at, Renders, frame_bytes}
 use Rattle.prodash_line.specs.Screens.{ScreenState, WritesFrame}
 use Rattle.prodash_line.specs.Renderings.{Rendering, RendersEach, renderer_after}
 use Rattle.prodash_line.specs.plumbing.RenderedInputs.{RendersAll}
-use Rattle.prodash_line.specs.ErasedPages.{ErasesPages, ErasesPagesOf, ShowsAnywhere}
-use Rattle.prodash_line.proofs.FittingFrames.{lines_fit, body_fits, frame_cut}
+use Rattle.prodash_line.specs.ErasedPages.{lines_of, HasScalars, ShowsWhole, ErasesPages, ErasesPagesOf, ShowsAnywhere}
+use Rattle.prodash_line.proofs.FittingFrames.{AreWithin, BodyWithin, FrameWithin, frame_cut}
+use Rattle.prodash_line.proofs.Lists.{AllByRecursion-append, AllByRecursion-parts}
 use Rattle.prodash_line.proofs.OrderlyFrames.{orderly_at}
-use Rattle.prodash_line.proofs.ProperFrames.{frame_proper}
+use Rattle.prodash_line.proofs.ProperFrames.{IsProperText, IsProperLine, HasProperLines, frame_proper}
 use Rattle.prodash_line.proofs.UnseenSigns.{IsUnseen}
 use Rattle.prodash_line.proofs.Renderings.{each}
-use Rattle.prodash_line.proofs.ErasedPages.{EndsUnseen, NoneLeft, ErasesRows, shows_frame}
+use Rattle.prodash_line.proofs.ErasedPages.{IsLow, EndsUnseen, NoneLeft, ErasesRows, shows_frame}
+use Rattle.prodash_line.proofs.WholeTexts.{shows_whole}
+use Rattle.prodash_line.proofs.WithoutControls.{clean_frame}
 
 first_true : (a b : Bool) → (a && b) ≡ true → a ≡ true
 first_true true b e = refl
@@ -80,18 +85,13 @@ erases_still r (Tick at show None) = refl
 erases_still r (Resize at show width rows) = refl
 erases_still r (Quit at) = refl
 
--- ---- the lines fit
+-- ---- drawn lines are low
 
-plain_fit : (columns : ℕ) (lines : List Line) → AllByRecursion IsPlain lines → LinesFit true columns lines
-plain_fit columns [] h = tt
-plain_fit columns (line ∷ lines) h = (record { plain = h.0; within = tt }, plain_fit columns lines h.1)
-
-body_fit : (action : Action) (drawing : Drawing) (ending : List Sign) (columns height : ℕ) → length drawing.lines < height → 0 < height
-    → AllByRecursion IsPlain (body_lines [] (body_of action drawing ending)) → BodyFits true columns height (body_of action drawing ending)
-body_fit Leave drawing ending columns height few i h = tt
-body_fit Redraw drawing ending columns height few i h = (plain_fit columns drawing.lines h, few)
-body_fit Erase drawing ending columns height few i h = (tt, i)
-body_fit Close drawing ending columns height few i h = tt
+body_low : (action : Action) (drawing : Drawing) (ending : List Sign) (height : ℕ) → length drawing.lines < height → 0 < height → IsLow height (body_of action drawing ending)
+body_low Leave drawing ending height few i = tt
+body_low Redraw drawing ending height few i = few
+body_low Erase drawing ending height few i = i
+body_low Close drawing ending height few i = tt
 
 -- ---- how frames end
 
@@ -138,37 +138,83 @@ none_printed r (Tick at show None) c e = refl
 none_printed r (Resize at show width rows) c e = refl
 none_printed r (Quit at) c e = refl
 
+-- ---- characters
+
+-- scalar values that are no control characters are proper
+chars_proper : (text : List ℕ) → AllByRecursion IsScalar text → AllByRecursion (λ c. is_control c ≡ false) text → IsProperText text
+chars_proper [] scalars clean = tt
+chars_proper (c ∷ text) scalars clean = ((scalars.0, clean.0), chars_proper text scalars.1 clean.1)
+
+line_proper : (line : Line) → AllByRecursion IsScalar (line_text line) → IsWithoutControls line → IsProperLine line
+line_proper [] scalars clean = tt
+line_proper (p ∷ ps) scalars clean =
+    let parts = AllByRecursion-parts IsScalar p.text (line_text ps) scalars in
+    (chars_proper p.text parts.0 clean.0, line_proper ps parts.1 clean.1)
+
+lines_proper : (lines : List Line) → AllByRecursion (λ line. AllByRecursion IsScalar (line_text line)) lines → AllByRecursion IsWithoutControls lines → AllByRecursion IsProperLine lines
+lines_proper [] scalars clean = tt
+lines_proper (line ∷ lines) scalars clean = (line_proper line scalars.0 clean.0, lines_proper lines scalars.1 clean.1)
+
+pub has_proper : (f : Frame) → HasScalars f → HasNoControls f → HasProperLines f
+has_proper f scalars clean =
+    let parts = AllByRecursion-parts (λ line. AllByRecursion IsScalar (line_text line)) f.messages (body_lines [] f.body) scalars in
+    record { messages = lines_proper f.messages parts.0 clean.messages; drawn = lines_proper (body_lines [] f.body) parts.1 clean.drawn }
+
+-- ---- lines that show whole
+
+line_whole : (columns : ℕ → ℕ) (width : ℕ) (line : Line) → columns_of line ≤ width → ShowsWhole columns width line
+line_whole columns width line within = λ fits. shows_whole columns width (line_text line) (omega arith)
+
+lines_whole : (columns : ℕ → ℕ) (width : ℕ) (lines : List Line) → AreWithin true width lines → AllByRecursion (ShowsWhole columns width) lines
+lines_whole columns width [] h = tt
+lines_whole columns width (line ∷ lines) h = (line_whole columns width line h.0, lines_whole columns width lines h.1)
+
+drawn_within : (width : ℕ) (b : Body) → BodyWithin true width b → AreWithin true width (body_lines [] b)
+drawn_within width Unchanged h = tt
+drawn_within width (Draws lines) h = h
+drawn_within width (Closes ending) h = tt
+
+frame_whole : (columns : ℕ → ℕ) (width : ℕ) (f : Frame) → FrameWithin true width f → AllByRecursion (ShowsWhole columns width) (lines_of f)
+frame_whole columns width f h = AllByRecursion-append (ShowsWhole columns width) f.messages (body_lines [] f.body)
+    (lines_whole columns width f.messages h.messages) (lines_whole columns width (body_lines [] f.body) (drawn_within width f.body h.body))
+
 -- ---- the frame of an input
 
-pub frame_erases : (r : Renderer) (input : Input) → erases_rows r.options ≡ true → HasPlainLines (frame_at r input) → 0 < (remember r input).options.terminal_dimensions.1
-    → ErasesRows (remember r input).options.terminal_dimensions.0 (remember r input).options.terminal_dimensions.1 (frame_at r input)
-frame_erases r input c plain high =
+pub frame_erases : (r : Renderer) (input : Input) → erases_rows r.options ≡ true → 0 < (remember r input).options.terminal_dimensions.1
+    → ErasesRows (remember r input).options.terminal_dimensions.1 (frame_at r input)
+frame_erases r input c high =
     let r' = remember r input in
     let f = frame_at r input in
     let drawing = drawing_at r input in
-    let size = r'.options.terminal_dimensions in
+    let height = r'.options.terminal_dimensions.1 in
     let c' : erases_rows r'.options ≡ true = erases_still r input ∙ c in
-    let within = frame_cut r input (second_true r.options.defensive r.options.output_is_terminal c) in
     let few = few_drawn r' (moment_of input) (latest_rows r'.last_rows) c' high in
     record {
       layout = erasing_layout r'.options c';
       opening = (orderly_at r input).opening;
-      messages = lines_fit true size.0 f.messages (plain_fit size.0 f.messages plain.messages) within.messages;
-      body = body_fits true size.0 size.1 f.body (body_fit (action_at r input) drawing (ending_of r) size.0 size.1 few high plain.drawn) within.body;
+      low = body_low (action_at r input) drawing (ending_of r) height few high;
       ends = body_ends (action_at r input) drawing (ending_of r) (ends (is_cursor_hidden r) r.options.defensive r.options.output_is_terminal c);
       left = left_by (action_at r input) drawing (ending_of r) f.messages (none_printed r input c);
     }
 
+-- its signs are proper
+pub erased_proper : (r : Renderer) (input : Input) (widths : List ℕ) → erases_rows r.options ≡ true → HasScalars (frame_at r input) → AreProper (frame_signs widths (frame_at r input))
+erased_proper r input widths c scalars =
+    let f = frame_at r input in
+    frame_proper widths f (has_proper f scalars (clean_frame r input (first_true r.options.defensive r.options.output_is_terminal c))) (orderly_at r input)
+
 -- every page shows the frame after its signs
-erased_frame : (r : Renderer) (input : Input) (s : ScreenState) (s' : ScreenState) → WritesFrame (frame_bytes r input) s s' → erases_rows r.options ≡ true → HasPlainLines (frame_at r input) → ShowsAnywhere (remember r input).options.terminal_dimensions (frame_at r input) s.bytes s'.bytes
-erased_frame r input s s' writes c plain = record {
+erased_frame : (r : Renderer) (input : Input) (s : ScreenState) (s' : ScreenState) → WritesFrame (frame_bytes r input) s s' → erases_rows r.options ≡ true → ShowsAnywhere (remember r input).options.terminal_dimensions (frame_at r input) s.bytes s'.bytes
+erased_frame r input s s' writes c = record {
   signs = frame_signs r.widths (frame_at r input);
   written = writes.bytes;
-  proper = frame_proper r.widths (frame_at r input) plain (orderly_at r input);
-  shows = λ page terminal.
+  proper = erased_proper r input r.widths c;
+  shows = λ columns page has.
       let size = (remember r input).options.terminal_dimensions in
-      let high : 0 < size.1 = omega (arith, terminal.row, terminal.window, terminal.height) in
-      shows_frame size page r.widths (frame_at r input) terminal (frame_erases r input c plain high);
+      let high : 0 < size.1 = omega (arith, has.row, has.window, has.height) in
+      shows_frame columns size page r.widths (frame_at r input) has (frame_erases r input c high);
+  whole = λ columns.
+      frame_whole columns (remember r input).options.terminal_dimensions.0 (frame_at r input) (frame_cut r input (second_true r.options.defensive r.options.output_is_terminal c));
 }
 
 pub erases_pages : (r : Renderer) (input : Input) (s : ScreenState) (result : Result Answer Refusal) (r' : Renderer) (s' : ScreenState) → Renders r input s result r' s' → ErasesPages r input s result s'

@@ -40,11 +40,14 @@ pub mod Sequences
 pub mod SignPrefixes
 pub mod StyleCodes
 pub mod StyleParameters
+pub mod TerminalRows
 pub mod UnseenSigns
+pub mod WholeTexts
 pub mod WithoutControls
 pub mod WorkedCuts
 pub mod WorkedFrames
 pub mod WorkedPages
 pub mod WorkedWriters
 pub mod WorkedSigns
+pub mod WorkedTerminals
 pub mod WorkedUnits

@@ -8,6 +8,10 @@ pub AllByRecursion-append : {X : Type 0} (P : X → Type 0) (xs ys : List X) →
 AllByRecursion-append P [] ys h i = i
 AllByRecursion-append P (x ∷ xs) ys h i = (h.0, AllByRecursion-append P xs ys h.1 i)
 
+pub AllByRecursion-parts : {X : Type 0} (P : X → Type 0) (xs ys : List X) → AllByRecursion P (xs ++ ys) → AllByRecursion P xs × AllByRecursion P ys
+AllByRecursion-parts P [] ys h = (tt, h)
+AllByRecursion-parts P (x ∷ xs) ys h = let others = AllByRecursion-parts P xs ys h.1 in ((h.0, others.0), others.1)
+
 -- of copies of one element
 pub AllByRecursion-replicate : {X : Type 0} (P : X → Type 0) (n : ℕ) (x : X) → P x → AllByRecursion P (replicate n x)
 AllByRecursion-replicate P zero x h = tt

@@ -10,12 +10,12 @@ use Rattle.prodash_line.specs.declared.render.line.draw.layout.Layout.{Layout}
 use Rattle.prodash_line.specs.declared.render.line.draw.layout.Layout.TheVariants.{Overwriting, Erasing}
 use Rattle.prodash_line.specs.Signs.{spelling_of, spelling}
 use Rattle.prodash_line.specs.Lines.{Line, spaces, columns_of}
-use Rattle.prodash_line.specs.Frames.{Frame, line_signs, piece_signs, row_start, covered, overwrite_line, first_width, lines_over, overwrite, cursor_up, erased_rows, redraw, body_signs, frame_start, frame_signs}
+use Rattle.prodash_line.specs.Frames.{Frame, line_signs, piece_signs, row_start, covered, overwrite_line, first_width, lines_over, overwrite, cursor_up, erased_rows, redraw, body_signs, frame_start, frame_end, frame_signs}
 use Rattle.prodash_line.specs.declared.render.line.draw.input.Options.{Options}
 use Rattle.prodash_line.specs.MessageLines.{drawn_message_line, message_lines, origin_width, widths_of_origins, greatest_width}
 use Rattle.prodash_line.specs.plumbing.Writing.{line_bytes}
 use Rattle.prodash_line.specs.plumbing.OverwriteBytes.{row_end, overwrite_line_bytes, lines_bytes, blank_bytes}
-use Rattle.prodash_line.specs.plumbing.FrameWriting.{action_start, erasing_end}
+use Rattle.prodash_line.specs.plumbing.FrameWriting.{action_start, action_end, erasing_end}
 use Rattle.prodash_line.specs.Renderer.{Drawing, body_of}
 use Rattle.prodash_line.specs.declared.render.line.draw.action.Action.{Action}
 use Rattle.prodash_line.specs.declared.render.line.draw.action.Action.TheVariants.{Leave, Redraw, Erase, Close}
@@ -176,19 +176,31 @@ action_starts (Erasing height) Redraw drawing ending = refl
 action_starts (Erasing height) Erase drawing ending = refl
 action_starts (Erasing height) Close drawing ending = refl
 
--- what it begins with, the messages over the lines on screen, and the body over those that are left
-pub frame_bytes_of : (f : Frame) (start : List Sign) (widths left o a b : List ℕ) (count : ℕ) → o ≡ spelling (f.opening ++ start) → start ≡ frame_start f.layout f.body
-    → a ≡ o ++ lines_bytes f.layout (covered f.layout widths) f.messages → left ≡ drop count widths
-    → count ≡ length f.messages → b ≡ a ++ spelling (body_signs f.layout left f.body) → b ≡ spelling (frame_signs widths f)
-frame_bytes_of f start widths left o a b count eo es ea l n eb =
+-- and ends as it says
+pub action_ends : (layout : Layout) (action : Action) (drawing : Drawing) (ending : List Sign) → action_end layout action ≡ frame_end layout (body_of action drawing ending)
+action_ends Overwriting action drawing ending = refl
+action_ends (Erasing height) Leave drawing ending = refl
+action_ends (Erasing height) Redraw drawing ending = refl
+action_ends (Erasing height) Erase drawing ending = refl
+action_ends (Erasing height) Close drawing ending = refl
+
+-- what it begins with, the messages over the lines on screen, the body over those that are left, and what it ends with
+pub frame_bytes_of : (f : Frame) (start end : List Sign) (widths left o a b z : List ℕ) (count : ℕ) → o ≡ spelling (f.opening ++ start) → start ≡ frame_start f.layout f.body
+    → end ≡ frame_end f.layout f.body → a ≡ o ++ lines_bytes f.layout (covered f.layout widths) f.messages → left ≡ drop count widths
+    → count ≡ length f.messages → b ≡ a ++ spelling (body_signs f.layout left f.body) → z ≡ b ++ spelling end → z ≡ spelling (frame_signs widths f)
+frame_bytes_of f start end widths left o a b z count eo es ee ea l n eb ez =
     let first = frame_start f.layout f.body in
+    let last = frame_end f.layout f.body in
     let printed = lines_over f.layout (covered f.layout widths) f.messages in
-    let end = body_signs f.layout (drop (length f.messages) widths) f.body in
+    let body = body_signs f.layout (drop (length f.messages) widths) f.body in
     let begins : o ≡ spelling f.opening ++ spelling first = eo ∙ ap (λ t. spelling (f.opening ++ t)) es ∙ spelling-append f.opening first in
-    eb ∙ ap (λ t. t ++ spelling (body_signs f.layout left f.body)) (ea ∙ ap (λ t. o ++ t) (overwritten f.layout (covered f.layout widths) f.messages) ∙ ap (λ t. t ++ spelling printed) begins)
-    ∙ ap (λ w. ((spelling f.opening ++ spelling first) ++ spelling printed) ++ spelling (body_signs f.layout w f.body)) (l ∙ ap (λ k. drop k widths) n)
-    ∙ append_assoc (spelling f.opening ++ spelling first) (spelling printed) (spelling end)
-    ∙ append_assoc (spelling f.opening) (spelling first) (spelling printed ++ spelling end)
-    ∙ ap (λ t. spelling f.opening ++ (spelling first ++ t)) (sym (spelling-append printed end))
-    ∙ ap (λ t. spelling f.opening ++ t) (sym (spelling-append first (printed ++ end)))
-    ∙ sym (spelling-append f.opening (first ++ (printed ++ end)))
+    ez ∙ ap (λ t. b ++ spelling t) ee
+    ∙ ap (λ t. t ++ spelling last) (eb ∙ ap (λ t. t ++ spelling (body_signs f.layout left f.body)) (ea ∙ ap (λ t. o ++ t) (overwritten f.layout (covered f.layout widths) f.messages) ∙ ap (λ t. t ++ spelling printed) begins)
+    ∙ ap (λ w. ((spelling f.opening ++ spelling first) ++ spelling printed) ++ spelling (body_signs f.layout w f.body)) (l ∙ ap (λ k. drop k widths) n))
+    ∙ append_assoc ((spelling f.opening ++ spelling first) ++ spelling printed) (spelling body) (spelling last)
+    ∙ append_assoc (spelling f.opening ++ spelling first) (spelling printed) (spelling body ++ spelling last)
+    ∙ append_assoc (spelling f.opening) (spelling first) (spelling printed ++ (spelling body ++ spelling last))
+    ∙ ap (λ t. spelling f.opening ++ (spelling first ++ (spelling printed ++ t))) (sym (spelling-append body last))
+    ∙ ap (λ t. spelling f.opening ++ (spelling first ++ t)) (sym (spelling-append printed (body ++ last)))
+    ∙ ap (λ t. spelling f.opening ++ t) (sym (spelling-append first (printed ++ (body ++ last))))
+    ∙ sym (spelling-append f.opening (first ++ (printed ++ (body ++ last))))

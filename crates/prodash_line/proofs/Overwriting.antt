@@ -1,5 +1,5 @@
 -- Lines on a page, each over the line on screen in its row.
-use Rattle.std.proofs.Common.{false, ◌≡◌, ℕ, zero, suc, ◌-◌, ◌<◌, ◌≤◌, List, [], ◌∷◌, ◌++◌, length, drop, map, refl, sym, ap, subst, ◌∙◌, append_assoc, length-append, arith}
+use Rattle.std.proofs.Common.{Bool, false, ◌≡◌, ℕ, zero, suc, ◌-◌, ◌<◌, ◌≤◌, List, [], ◌∷◌, ◌++◌, length, drop, map, refl, sym, ap, subst, ◌∙◌, append_assoc, length-append, arith}
 use Rattle.std.specs.Prelude.{replicate, max}
 use Rattle.std.proofs.lemmas.List.{append-nil, drop_at, length-replicate, drop_all, drop-map}
 use Rattle.prodash_line.specs.Lines.{Line, columns_of, line_text}
@@ -63,15 +63,15 @@ ShowsLines-first columns (l ∷ ls) row below fit h =
     )
 
 -- the lines come below the rows above, over as many lines on screen
-pub overwrite_at : (columns height : ℕ) (old lines : List Line) (above below : List (List ℕ))
+pub overwrite_at : (columns height : ℕ) (wraps : Bool) (old lines : List Line) (above below : List (List ℕ))
     → LinesFit false columns old → LinesFit false columns lines → ShowsLines columns old below → 0 < length below
-    → page_after (overwrite (widths_of old) lines) (at columns height above below) ≡ at columns height (above ++ map (cells_of columns) lines) (rows_after columns (length lines) below)
-overwrite_at columns height old [] above below s p h i = ap (λ (a : List (List ℕ)). at columns height a below) (sym (append-nil above))
-overwrite_at columns height old (l ∷ ls) above [] s p h i = absurd (omega arith)
-overwrite_at columns height old (l ∷ ls) above (row ∷ below) s p h i =
+    → page_after (overwrite (widths_of old) lines) (at columns height wraps above below) ≡ at columns height wraps (above ++ map (cells_of columns) lines) (rows_after columns (length lines) below)
+overwrite_at columns height wraps old [] above below s p h i = ap (λ (a : List (List ℕ)). at columns height wraps a below) (sym (append-nil above))
+overwrite_at columns height wraps old (l ∷ ls) above [] s p h i = absurd (omega arith)
+overwrite_at columns height wraps old (l ∷ ls) above (row ∷ below) s p h i =
     let begins = ShowsLines-first columns old row below s h in
-    page_after-append (overwrite_line (first_width (widths_of old)) l) (overwrite (drop 1 (widths_of old)) ls) (at columns height above (row ∷ below))
-    ∙ ap (page_after (overwrite (drop 1 (widths_of old)) ls)) (overwrite_line_at columns height (first_width (widths_of old)) above row below l p.0 begins.0 begins.1 begins.2)
-    ∙ ap (λ (widths : List ℕ). page_after (overwrite widths ls) (at columns height (above ++ cells_of columns l ∷ []) (some_row columns below))) (drop-map columns_of 1 old)
-    ∙ overwrite_at columns height (drop 1 old) ls (above ++ cells_of columns l ∷ []) (some_row columns below) (AllByRecursion-drop (LineFits false columns) 1 old s) p.1 (ShowsLines-next columns old row below h) (some_is columns below)
-    ∙ ap (λ (a : List (List ℕ)). at columns height a (rows_after columns (length ls) (some_row columns below))) (append_assoc above (cells_of columns l ∷ []) (map (cells_of columns) ls))
+    page_after-append (overwrite_line (first_width (widths_of old)) l) (overwrite (drop 1 (widths_of old)) ls) (at columns height wraps above (row ∷ below))
+    ∙ ap (page_after (overwrite (drop 1 (widths_of old)) ls)) (overwrite_line_at columns height wraps (first_width (widths_of old)) above row below l p.0 begins.0 begins.1 begins.2)
+    ∙ ap (λ (widths : List ℕ). page_after (overwrite widths ls) (at columns height wraps (above ++ cells_of columns l ∷ []) (some_row columns below))) (drop-map columns_of 1 old)
+    ∙ overwrite_at columns height wraps (drop 1 old) ls (above ++ cells_of columns l ∷ []) (some_row columns below) (AllByRecursion-drop (LineFits false columns) 1 old s) p.1 (ShowsLines-next columns old row below h) (some_is columns below)
+    ∙ ap (λ (a : List (List ℕ)). at columns height wraps a (rows_after columns (length ls) (some_row columns below))) (append_assoc above (cells_of columns l ∷ []) (map (cells_of columns) ls))

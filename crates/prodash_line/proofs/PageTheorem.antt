@@ -17,6 +17,6 @@ pub shows_each_prefix : (r : Renderer) (xs : List Rendering) (page : Canvas) (ab
     (page_after (signs_of [] (take j (drawn_frames r xs))) page)
 shows_each_prefix r xs page above j w shows fits =
     let frames = drawn_frames r xs in
-    Shows-Home page.columns page.height _ _ _
-    (Home-frames page.columns page.height above [] page (take j frames) w (Home-Shows above page shows)
+    Shows-Home page.columns page.height page.wraps _ _ _
+    (Home-frames page.columns page.height page.wraps above [] page (take j frames) w (Home-Shows above page shows)
     (AllByRecursion-take (FrameFits false page.columns page.height) j frames fits) (AllByRecursion-take IsOrderly j frames (orderly_frames r xs)))

@@ -1,4 +1,4 @@
--- The signs of frames whose lines are plain are proper, so their bytes are read as them.
+-- The signs of frames whose lines have proper characters are proper, so their bytes are read as them.
 use Rattle.std.proofs.Common.{◌≡◌, false, ℕ, zero, suc, ◌+◌, ◌-◌, List, [], ◌∷◌, Option, Some, None, length, map, drop, refl, arith}
 use Rattle.std.specs.Prelude.{max, replicate}
 use Rattle.std.specs.List.{AllByRecursion}
@@ -11,10 +11,10 @@ use Rattle.prodash_line.specs.declared.render.line.draw.layout.Layout.{Layout}
 use Rattle.prodash_line.specs.declared.render.line.draw.layout.Layout.TheVariants.{Overwriting, Erasing}
 use Rattle.prodash_line.specs.declared.render.line.page.style.Style.{Style}
 use Rattle.prodash_line.specs.Signs.{IsProper}
-use Rattle.prodash_line.specs.Lines.{Line, spaces, columns_of}
-use Rattle.prodash_line.specs.Frames.{styled_signs, piece_signs, line_signs, overwrite_line, first_width, row_start, covered, lines_over, cursor_up, erased_rows, left_over, redraw, frame_start, widths_of, Body, Frame, body_lines, body_signs, frame_signs, lines_after, signs_of}
+use Rattle.prodash_line.specs.Lines.{Piece, Line, spaces, columns_of}
+use Rattle.prodash_line.specs.Frames.{styled_signs, piece_signs, line_signs, overwrite_line, first_width, row_start, covered, lines_over, cursor_up, erased_rows, left_over, redraw, frame_start, frame_end, widths_of, Body, Frame, body_lines, body_signs, frame_signs, lines_after, signs_of}
 use Rattle.prodash_line.specs.Reading.{AreProper}
-use Rattle.prodash_line.specs.Fits.{IsPlainChar, IsPlainPiece, IsPlain, HasPlainLines, LineFits, LinesFit, BodyFits, FrameFits}
+use Rattle.prodash_line.specs.Fits.{IsPlainChar, IsPlainPiece, IsPlain, LineFits, LinesFit, BodyFits, FrameFits}
 use Rattle.prodash_line.proofs.Lists.{AllByRecursion-append, AllByRecursion-replicate, AllByRecursion-map}
 use Rattle.prodash_line.proofs.StyledLines.{HasCode, HasCodes, HaveCodes}
 use Rattle.prodash_line.proofs.UnseenSigns.{IsUnseen, unseen_proper}
@@ -28,23 +28,43 @@ no_control c e = grind (arith, nat_tests, e)
 plain_proper : (c : ℕ) → IsPlainChar c → IsProper (Char c)
 plain_proper c h = (h.scalar, no_control c h.width)
 
+-- the characters of a text are proper
+abbrev pub IsProperText : List ℕ → Type 0
+IsProperText text = AllByRecursion (λ c. IsProper (Char c)) text
+
+-- and of each text of a line
+abbrev pub IsProperLine : Line → Type 0
+IsProperLine line = AllByRecursion (λ p. IsProperText p.text) line
+
+-- as those of a plain line are
+piece_plain : (p : Piece) → IsPlainPiece p → IsProperText p.text
+piece_plain p h = AllByRecursion-map IsPlainChar (λ c. IsProper (Char c)) p.text plain_proper h.each
+
+line_plain : (line : Line) → IsPlain line → IsProperLine line
+line_plain line h = AllByRecursion-map IsPlainPiece (λ p. IsProperText p.text) line piece_plain h.pieces
+
+-- the messages and the drawn lines of a frame are such lines
+pub record HasProperLines (f : Frame) : Type 0 where
+  pub messages : AllByRecursion IsProperLine f.messages
+  pub drawn : AllByRecursion IsProperLine (body_lines [] f.body)
+
 -- of proper characters
-chars_proper : (text : List ℕ) → AllByRecursion (λ c. IsProper (Char c)) text → AreProper (map Char text)
+chars_proper : (text : List ℕ) → IsProperText text → AreProper (map Char text)
 chars_proper [] h = tt
 chars_proper (c ∷ cs) h = (h.0, chars_proper cs h.1)
 
 -- of a text in a style
-styled_proper : (style : Option Style) (text : List ℕ) → AllByRecursion (λ c. IsProper (Char c)) text → HasCode style → AreProper (styled_signs style text)
+styled_proper : (style : Option Style) (text : List ℕ) → IsProperText text → HasCode style → AreProper (styled_signs style text)
 styled_proper None text h code = chars_proper text h
 styled_proper (Some style) [] h code = tt
 styled_proper (Some style) (c ∷ text) h code = (code, AllByRecursion-append IsProper (map Char (c ∷ text)) (Reset ∷ []) (chars_proper (c ∷ text) h) (tt, tt))
 
--- of plain pieces
-line_proper : (line : Line) → AllByRecursion IsPlainPiece line → HasCodes line → AreProper (line_signs line)
+-- of a line
+line_proper : (line : Line) → IsProperLine line → HasCodes line → AreProper (line_signs line)
 line_proper [] h codes = tt
 line_proper (p ∷ ps) h codes =
     AllByRecursion-append IsProper (piece_signs p) (line_signs ps)
-    (styled_proper p.style p.text (AllByRecursion-map IsPlainChar (λ c. IsProper (Char c)) p.text plain_proper h.0.each) codes.0)
+    (styled_proper p.style p.text h.0 codes.0)
     (line_proper ps h.1 codes.1)
 
 -- of spaces
@@ -52,8 +72,8 @@ spaces_proper : (n : ℕ) → AreProper (piece_signs (spaces n))
 spaces_proper n = chars_proper (replicate n 32) (AllByRecursion-replicate (λ c. IsProper (Char c)) n 32 (refl, refl))
 
 -- of a line over another one
-overwrite_line_proper : (width : ℕ) (line : Line) → IsPlain line → HasCodes line → AreProper (overwrite_line width line)
-overwrite_line_proper width line h codes = AllByRecursion-append IsProper (line_signs line) _ (line_proper line h.pieces codes)
+overwrite_line_proper : (width : ℕ) (line : Line) → IsProperLine line → HasCodes line → AreProper (overwrite_line width line)
+overwrite_line_proper width line h codes = AllByRecursion-append IsProper (line_signs line) _ (line_proper line h codes)
     (AllByRecursion-append IsProper (piece_signs (spaces (width - columns_of line))) (LineFeed ∷ []) (spaces_proper (width - columns_of line)) (tt, tt))
 
 -- of what a row begins with
@@ -62,7 +82,7 @@ row_start_proper Overwriting = tt
 row_start_proper (Erasing height) = (tt, tt)
 
 -- of lines
-lines_proper : (layout : Layout) (widths : List ℕ) (lines : List Line) → AllByRecursion IsPlain lines → HaveCodes lines → AreProper (lines_over layout widths lines)
+lines_proper : (layout : Layout) (widths : List ℕ) (lines : List Line) → AllByRecursion IsProperLine lines → HaveCodes lines → AreProper (lines_over layout widths lines)
 lines_proper layout widths [] h codes = tt
 lines_proper layout widths (l ∷ ls) h codes = AllByRecursion-append IsProper (row_start layout) _ (row_start_proper layout)
     (AllByRecursion-append IsProper (overwrite_line (first_width widths) l) (lines_over layout (drop 1 widths) ls) (overwrite_line_proper (first_width widths) l h.0 codes.0)
@@ -79,11 +99,11 @@ erased_proper zero = tt
 erased_proper (suc n) = (tt, (tt, erased_proper n))
 
 -- of lines drawn anew
-redraw_proper : (layout : Layout) (widths : List ℕ) (lines : List Line) → AllByRecursion IsPlain lines → HaveCodes lines → AreProper (redraw layout widths lines)
+redraw_proper : (layout : Layout) (widths : List ℕ) (lines : List Line) → AllByRecursion IsProperLine lines → HaveCodes lines → AreProper (redraw layout widths lines)
 redraw_proper Overwriting widths lines h codes =
     let n = length widths - length lines in
     AllByRecursion-append IsProper _ _
-    (lines_proper Overwriting widths _ (AllByRecursion-append IsPlain lines _ h (AllByRecursion-replicate IsPlain n [] (record { pieces = tt; columns = refl })))
+    (lines_proper Overwriting widths _ (AllByRecursion-append IsProperLine lines _ h (AllByRecursion-replicate IsProperLine n [] tt))
     (AllByRecursion-append HasCodes lines _ codes (AllByRecursion-replicate HasCodes n [] tt)))
     (cursor_up_proper (max (length lines) (length widths)))
 redraw_proper (Erasing height) widths lines h codes =
@@ -98,7 +118,7 @@ ending_proper EraseLine h = tt
 ending_proper s h = unseen_proper s h
 
 -- of what a frame does after its messages
-body_proper : (layout : Layout) (widths : List ℕ) (b : Body) → AllByRecursion IsPlain (body_lines [] b) → EndsOrderly b → AreProper (body_signs layout widths b)
+body_proper : (layout : Layout) (widths : List ℕ) (b : Body) → AllByRecursion IsProperLine (body_lines [] b) → EndsOrderly b → AreProper (body_signs layout widths b)
 body_proper layout widths Body.Unchanged h o = tt
 body_proper layout widths (Body.Draws lines) h o = redraw_proper layout widths lines h o
 body_proper layout widths (Body.Closes ending) h o =
@@ -108,21 +128,29 @@ body_proper layout widths (Body.Closes ending) h o =
 start_proper : (layout : Layout) (b : Body) → AreProper (frame_start layout b)
 start_proper Overwriting b = tt
 start_proper (Erasing height) Body.Unchanged = tt
-start_proper (Erasing height) (Body.Draws lines) = (tt, tt)
-start_proper (Erasing height) (Body.Closes ending) = (tt, tt)
+start_proper (Erasing height) (Body.Draws lines) = (tt, (tt, tt))
+start_proper (Erasing height) (Body.Closes ending) = (tt, (tt, tt))
+
+-- and of what it ends with
+end_proper : (layout : Layout) (b : Body) → AreProper (frame_end layout b)
+end_proper Overwriting b = tt
+end_proper (Erasing height) Body.Unchanged = tt
+end_proper (Erasing height) (Body.Draws lines) = (tt, tt)
+end_proper (Erasing height) (Body.Closes ending) = (tt, tt)
 
 -- of a frame
-pub frame_proper : (widths : List ℕ) (f : Frame) → HasPlainLines f → IsOrderly f → AreProper (frame_signs widths f)
+pub frame_proper : (widths : List ℕ) (f : Frame) → HasProperLines f → IsOrderly f → AreProper (frame_signs widths f)
 frame_proper widths f h o = AllByRecursion-append IsProper f.opening _ (AllByRecursion-map IsUnseen IsProper f.opening unseen_proper o.opening)
     (AllByRecursion-append IsProper (frame_start f.layout f.body) _ (start_proper f.layout f.body)
     (AllByRecursion-append IsProper (lines_over f.layout (covered f.layout widths) f.messages) _ (lines_proper f.layout (covered f.layout widths) f.messages h.messages o.messages)
-    (body_proper f.layout (drop (length f.messages) widths) f.body h.drawn o.body)))
+    (AllByRecursion-append IsProper (body_signs f.layout (drop (length f.messages) widths) f.body) _
+    (body_proper f.layout (drop (length f.messages) widths) f.body h.drawn o.body) (end_proper f.layout f.body))))
 
--- lines that fit are plain
-lines_plain : (columns : ℕ) (lines : List Line) → LinesFit false columns lines → AllByRecursion IsPlain lines
-lines_plain columns lines h = AllByRecursion-map (LineFits false columns) IsPlain lines (λ line fits. fits.plain) h
+-- lines that fit are plain, so their characters are proper
+lines_plain : (columns : ℕ) (lines : List Line) → LinesFit false columns lines → AllByRecursion IsProperLine lines
+lines_plain columns lines h = AllByRecursion-map (LineFits false columns) IsProperLine lines (λ line fits. line_plain line fits.plain) h
 
-drawn_plain : (columns height : ℕ) (b : Body) → BodyFits false columns height b → AllByRecursion IsPlain (body_lines [] b)
+drawn_plain : (columns height : ℕ) (b : Body) → BodyFits false columns height b → AllByRecursion IsProperLine (body_lines [] b)
 drawn_plain columns height Body.Unchanged h = tt
 drawn_plain columns height (Body.Draws lines) h = lines_plain columns lines h.0
 drawn_plain columns height (Body.Closes ending) h = tt

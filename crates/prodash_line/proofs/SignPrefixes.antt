@@ -9,7 +9,7 @@ use Rattle.std.proofs.lemmas.Fmt.{decimal_is_IsNumeral}
 use Rattle.std.proofs.lemmas.List.{take-append-drop, take_at, get_or_at, length-take-le, append-nil, nil_from_length}
 use Rattle.std.proofs.lemmas.Str.{char_from_byte, encode_same}
 use Rattle.prodash_line.specs.declared.render.line.page.sign.Sign.{Sign}
-use Rattle.prodash_line.specs.declared.render.line.page.sign.Sign.TheVariants.{Char, LineFeed, CarriageReturn, Up, EraseLine, EraseBelow, HideCursor, ShowCursor, Open, Reset}
+use Rattle.prodash_line.specs.declared.render.line.page.sign.Sign.TheVariants.{Char, LineFeed, CarriageReturn, Up, EraseLine, EraseBelow, HideCursor, ShowCursor, NoWrap, Wrap, Open, Reset}
 use Rattle.prodash_line.specs.Styles.{style_parameters}
 use Rattle.prodash_line.specs.Signs.{spelling_of, spelling, sequence, IsProper}
 use Rattle.prodash_line.specs.Reading.{AreProper, IsLongestPrefix}
@@ -46,6 +46,8 @@ begins_sequence EraseLine bytes rest p e = sequence_begins (50 ∷ []) 75 EraseL
 begins_sequence EraseBelow bytes rest p e = sequence_begins [] 74 EraseBelow bytes rest refl tt refl e
 begins_sequence HideCursor bytes rest p e = sequence_begins (63 ∷ 50 ∷ 53 ∷ []) 108 HideCursor bytes rest refl (refl, (refl, (refl, tt))) refl e
 begins_sequence ShowCursor bytes rest p e = sequence_begins (63 ∷ 50 ∷ 53 ∷ []) 104 ShowCursor bytes rest refl (refl, (refl, (refl, tt))) refl e
+begins_sequence NoWrap bytes rest p e = sequence_begins (63 ∷ 55 ∷ []) 108 NoWrap bytes rest refl (refl, (refl, tt)) refl e
+begins_sequence Wrap bytes rest p e = sequence_begins (63 ∷ 55 ∷ []) 104 Wrap bytes rest refl (refl, (refl, tt)) refl e
 begins_sequence (Open style) bytes rest p e = sequence_begins (style_parameters style) 109 (Open style) bytes rest refl (style_is_parameters style) refl e
 begins_sequence Reset bytes rest p e = sequence_begins (48 ∷ []) 109 Reset bytes rest refl (refl, tt) refl e
 

@@ -1,10 +1,11 @@
 -- Signs that a page doesn't show: styles, and those that hide or show the cursor.
-use Rattle.std.proofs.Common.{◌≡◌, refl}
+use Rattle.std.proofs.Common.{◌≡◌, ℕ, refl}
 use Rattle.std.specs.Prelude.{⊤}
 use Rattle.prodash_line.specs.declared.render.line.page.sign.Sign.{Sign}
 use Rattle.prodash_line.specs.declared.render.line.page.sign.Sign.TheVariants.{HideCursor, ShowCursor, Open, Reset}
 use Rattle.prodash_line.specs.Signs.{IsProper}
 use Rattle.prodash_line.specs.Page.{Canvas, after_sign}
+use Rattle.prodash_line.specs.Terminals.{Terminal, terminal_after_sign}
 
 -- a proper sign that changes no cell and doesn't move the cursor
 abbrev pub IsUnseen : Sign → Type 0
@@ -21,6 +22,14 @@ after_unseen ShowCursor p h = refl
 after_unseen (Open style) p h = refl
 after_unseen Reset p h = refl
 after_unseen _ p h = absurd h
+
+-- however many columns a terminal gives characters
+pub unseen_on_terminal : (columns : ℕ → ℕ) (s : Sign) (t : Terminal) → IsUnseen s → terminal_after_sign columns s t ≡ t
+unseen_on_terminal columns HideCursor t h = refl
+unseen_on_terminal columns ShowCursor t h = refl
+unseen_on_terminal columns (Open style) t h = refl
+unseen_on_terminal columns Reset t h = refl
+unseen_on_terminal columns _ t h = absurd h
 
 pub unseen_proper : (s : Sign) → IsUnseen s → IsProper s
 unseen_proper HideCursor h = tt

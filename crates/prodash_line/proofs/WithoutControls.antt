@@ -241,7 +241,7 @@ defensive_still r (Tick at show None) = refl
 defensive_still r (Resize at show columns height) = refl
 defensive_still r (Quit at) = refl
 
-clean_frame : (r : Renderer) (input : Input) → r.options.defensive ≡ true → HasNoControls (frame_at r input)
+pub clean_frame : (r : Renderer) (input : Input) → r.options.defensive ≡ true → HasNoControls (frame_at r input)
 clean_frame r input e =
     let r' = remember r input in
     let still : r'.options.defensive ≡ true = defensive_still r input ∙ e in

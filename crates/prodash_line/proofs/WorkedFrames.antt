@@ -10,7 +10,7 @@ use Rattle.prodash_base.specs.Messages.{message_of}
 use Rattle.prodash_base.specs.declared.messages.Message.{Message}
 use Rattle.prodash_base.specs.declared.messages.MessageLevel.TheVariants.{Info, Failure}
 use Rattle.prodash_line.specs.declared.render.line.page.sign.Sign.{Sign}
-use Rattle.prodash_line.specs.declared.render.line.page.sign.Sign.TheVariants.{Char, LineFeed, CarriageReturn, Up, EraseLine, EraseBelow, HideCursor, ShowCursor, Open, Reset}
+use Rattle.prodash_line.specs.declared.render.line.page.sign.Sign.TheVariants.{Char, LineFeed, CarriageReturn, Up, EraseLine, EraseBelow, NoWrap, Wrap, HideCursor, ShowCursor, Open, Reset}
 use Rattle.prodash_line.specs.declared.render.line.draw.input.Options.{Options}
 use Rattle.prodash_line.specs.declared.render.line.draw.input.Input.{Input}
 use Rattle.prodash_line.specs.declared.render.line.draw.input.Input.TheVariants.{Tick, Resize, Quit}
@@ -176,14 +176,14 @@ defensive = new_renderer (record options { defensive = true }) false
 abbrev task_row : Input
 task_row = tick 0 true (row (codes "task") ∷ []) []
 
--- at the beginning of the row, which is erased; nothing is left below it
-pub erases_row : signs_at defensive task_row ≡ CarriageReturn ∷ EraseLine ∷ map Char (codes " task") ++ LineFeed ∷ EraseBelow ∷ Up 1 ∷ []
+-- at the beginning of the row, which is erased; nothing is left below it, and nothing wraps in between
+pub erases_row : signs_at defensive task_row ≡ CarriageReturn ∷ NoWrap ∷ EraseLine ∷ map Char (codes " task") ++ LineFeed ∷ EraseBelow ∷ Up 1 ∷ Wrap ∷ []
 unfolding chars str_width step past_emoji
 erases_row = refl
 
 -- a message, and the rows again though they haven't changed; its row is left over
 pub draws_again : signs_at (next_renderer defensive task_row) (tick 1 true (row (codes "task") ∷ []) (message_of 0 Info (codes "b") (codes "x") ∷ []))
-    ≡ CarriageReturn ∷ EraseLine ∷ map Char (codes " b x") ++ LineFeed ∷ EraseLine ∷ map Char (codes " task") ++ LineFeed ∷ EraseBelow ∷ Up 1 ∷ []
+    ≡ CarriageReturn ∷ NoWrap ∷ EraseLine ∷ map Char (codes " b x") ++ LineFeed ∷ EraseLine ∷ map Char (codes " task") ++ LineFeed ∷ EraseBelow ∷ Up 1 ∷ Wrap ∷ []
 unfolding chars str_width step past_emoji
 draws_again = refl
 
@@ -191,12 +191,12 @@ draws_again = refl
 abbrev hidden_message : Input
 hidden_message = tick 1 false (row (codes "task") ∷ []) (message_of 0 Info (codes "b") (codes "x") ∷ [])
 
-pub erases_rows : signs_at (next_renderer defensive task_row) hidden_message ≡ CarriageReturn ∷ EraseLine ∷ map Char (codes " b x") ++ LineFeed ∷ EraseBelow ∷ []
+pub erases_rows : signs_at (next_renderer defensive task_row) hidden_message ≡ CarriageReturn ∷ NoWrap ∷ EraseLine ∷ map Char (codes " b x") ++ LineFeed ∷ EraseBelow ∷ Wrap ∷ []
 unfolding chars str_width step past_emoji
 erases_rows = refl
 
 pub draws_erased : signs_at (next_renderer (next_renderer defensive task_row) hidden_message) (tick 2 true (row (codes "task") ∷ []) [])
-    ≡ CarriageReturn ∷ EraseLine ∷ map Char (codes " task") ++ LineFeed ∷ EraseBelow ∷ Up 1 ∷ []
+    ≡ CarriageReturn ∷ NoWrap ∷ EraseLine ∷ map Char (codes " task") ++ LineFeed ∷ EraseBelow ∷ Up 1 ∷ Wrap ∷ []
 unfolding chars str_width step past_emoji
 draws_erased = refl
 
@@ -226,7 +226,7 @@ pub no_row_for_others : more_lines (record options { terminal_dimensions = (40, 
 no_row_for_others = refl
 
 -- a row that is left over is erased, and no row is erased at the end
-pub closes_erased : signs_at (next_renderer defensive task_row) (Quit 1) ≡ CarriageReturn ∷ EraseLine ∷ LineFeed ∷ EraseBelow ∷ Up 1 ∷ []
+pub closes_erased : signs_at (next_renderer defensive task_row) (Quit 1) ≡ CarriageReturn ∷ NoWrap ∷ EraseLine ∷ LineFeed ∷ EraseBelow ∷ Up 1 ∷ Wrap ∷ []
 unfolding chars str_width step past_emoji
 closes_erased = refl
 

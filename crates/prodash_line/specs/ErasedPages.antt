@@ -1,62 +1,84 @@
--- What a page shows after a frame that erases the rows that it writes on, whatever the page showed before.
-use Rattle.std.specs.Prelude.{◌≡◌, ◌<◌, Result, OnOk, ◌≤◌, ◌^◌, ◌⊎◌, ℕ, ◌+◌, Bool, true, false, List, [], ◌++◌, length, map, take, replicate}
+-- What a page shows after a frame that erases the rows that it writes on, whatever the page showed before, and however many columns its terminal
+-- gives each character.
+use Rattle.std.specs.Prelude.{◌≡◌, ◌<◌, Result, OnOk, ◌≤◌, ◌^◌, ◌⊎◌, ℕ, ◌+◌, ◌-◌, Bool, true, false, List, [], ◌++◌, length, map, take, replicate}
+use Rattle.std.specs.Char.{IsScalar}
 use Rattle.std.specs.List.{AllByRecursion}
 use Rattle.prodash_base.specs.declared.refusal.Refusal.{Refusal}
 use Rattle.prodash_line.specs.declared.render.line.draw.input.Answer.{Answer}
 use Rattle.prodash_line.specs.declared.render.line.draw.input.Input.{Input}
 use Rattle.prodash_line.specs.declared.render.line.page.sign.Sign.{Sign}
 use Rattle.prodash_line.specs.Signs.{spelling}
-use Rattle.prodash_line.specs.Lines.{Line}
+use Rattle.prodash_line.specs.Lines.{Line, columns_of, line_text}
 use Rattle.prodash_line.specs.DrawnLines.{erases_rows}
-use Rattle.prodash_line.specs.Frames.{Body, Unchanged, Draws, Closes, Frame, signs_of, all_lines_after, printed_lines}
-use Rattle.prodash_line.specs.Page.{Canvas, blank, page_after}
-use Rattle.prodash_line.specs.Shows.{cells_of}
-use Rattle.prodash_line.specs.Fits.{HasPlainLines}
+use Rattle.prodash_line.specs.Frames.{Body, Unchanged, Draws, Closes, Frame, body_lines, signs_of, all_lines_after, printed_lines}
+use Rattle.prodash_line.specs.CellRows.{Cell, blank_cells, played, text_columns, shown}
+use Rattle.prodash_line.specs.Terminals.{Terminal, terminal_after}
 use Rattle.prodash_line.specs.Reading.{AreProper}
 use Rattle.prodash_line.specs.Renderer.{Renderer, remember, frame_at}
-use Rattle.prodash_line.specs.Renderings.{Rendering, drawn_frames, KeepsSize}
+use Rattle.prodash_line.specs.Renderings.{Rendering, KeepsSize}
 use Rattle.prodash_line.specs.Screens.{ScreenState}
 
--- the page of a terminal of this size: the cursor is in a row of its window, which is lower than 2^16 rows
-pub record IsTerminal (size : ℕ × ℕ) (page : Canvas) : Type 0 where
-  pub columns : page.columns ≡ size.0
+-- a page of this size: the cursor is in a row of its window, which is lower than 2^16 rows
+pub record HasSize (size : ℕ × ℕ) (page : Terminal) : Type 0 where
+  pub width : page.width ≡ size.0
   pub height : page.height ≡ size.1
   pub low : page.height < 2 ^ 16
   pub row : page.row < length page.rows
   pub window : length page.rows ≤ page.row + page.height
 
--- The rows above the cursor's are as they were. From the cursor's on are the messages, then these lines, then blank rows, and there are no
--- fewer rows than before. The cursor is at the beginning of the row below the messages, inside the window.
-pub record ShowsErased (page : Canvas) (messages lines : List Line) (after : Canvas) : Type 0 where
+-- the row of a line: what its text leaves in a blank row, where no character goes to the next one
+abbrev pub line_row : (ℕ → ℕ) → ℕ → Line → List Cell
+line_row columns width line = played columns width (line_text line)
+
+-- The rows above the cursor's are as they were. From the cursor's on are the rows of the messages, then those of these lines, then blank rows,
+-- and there are no fewer rows than before. The cursor is at the beginning of the row below the messages, inside the window, and characters wrap.
+pub record ShowsErased (columns : ℕ → ℕ) (page : Terminal) (messages lines : List Line) (after : Terminal) : Type 0 where
   pub blanks : ℕ
-  pub rows : after.rows ≡ take page.row page.rows ++ (map (cells_of page.columns) (messages ++ lines) ++ replicate blanks (blank page.columns))
+  pub rows : after.rows ≡ take page.row page.rows ++ (map (line_row columns page.width) (messages ++ lines) ++ replicate blanks (blank_cells page.width))
   pub kept : length page.rows ≤ length after.rows
   pub row : after.row ≡ page.row + length messages
   pub column : after.column ≡ 0
-  pub terminal : IsTerminal (page.columns, page.height) after
+  pub size : HasSize (page.width, page.height) after
+  pub wraps : after.wraps ≡ true
 
 -- A frame with this body: one that leaves the lines on screen prints no message and leaves the page. Any other shows its messages and the
 -- lines that it draws.
-abbrev pub ShowsBody : Canvas → List Line → Body → Canvas → Type 0
-ShowsBody page messages Unchanged after = (messages ≡ []) × (after ≡ page)
-ShowsBody page messages (Draws lines) after = ShowsErased page messages lines after
-ShowsBody page messages (Closes ending) after = ShowsErased page messages [] after
+abbrev pub ShowsBody : (ℕ → ℕ) → Terminal → List Line → Body → Terminal → Type 0
+ShowsBody columns page messages Unchanged after = (messages ≡ []) × (after ≡ page)
+ShowsBody columns page messages (Draws lines) after = ShowsErased columns page messages lines after
+ShowsBody columns page messages (Closes ending) after = ShowsErased columns page messages [] after
 
--- What is written is the spelling of signs, which are proper, so that reading it gives them; and every page of a terminal of this size shows
--- the frame after them.
+-- the lines that a frame prints and draws
+abbrev pub lines_of : Frame → List Line
+lines_of f = f.messages ++ body_lines [] f.body
+
+-- the characters of the lines are scalar values, as those of every `str` are
+abbrev pub HasScalars : Frame → Type 0
+HasScalars f = AllByRecursion (λ line. AllByRecursion IsScalar (line_text line)) (lines_of f)
+
+-- A line for which the terminal takes no more columns than the renderer did shows whole: each character in its cells, and blanks behind the last.
+abbrev pub ShowsWhole : (ℕ → ℕ) → ℕ → Line → Type 0
+ShowsWhole columns width line =
+    let n = text_columns columns (line_text line) in
+    n ≤ columns_of line → line_row columns width line ≡ shown columns (line_text line) ++ blank_cells (width - n)
+
+-- What is written is the spelling of signs, which are proper if the lines' characters are scalar values, so that reading it gives them. However
+-- many columns a terminal gives each character, every page of this size shows the frame after the signs, and lines that are no wider than the
+-- renderer took them for show whole.
 pub record ShowsAnywhere (size : ℕ × ℕ) (f : Frame) (old new : List ℕ) : Type 0 where
   pub signs : List Sign
   pub written : new ≡ old ++ spelling signs
-  pub proper : AreProper signs
-  pub shows : (page : Canvas) → IsTerminal size page → ShowsBody page f.messages f.body (page_after signs page)
+  pub proper : HasScalars f → AreProper signs
+  pub shows : (columns : ℕ → ℕ) (page : Terminal) → HasSize size page → ShowsBody columns page f.messages f.body (terminal_after columns signs page)
+  pub whole : (columns : ℕ → ℕ) → AllByRecursion (ShowsWhole columns size.0) (lines_of f)
 
--- On success, if the renderer erases rows and the lines of its frame of an input are plain, every page of the terminal's size shows it after what
--- was written, whatever the page showed before.
+-- On success, if the renderer erases rows, every page of the terminal's size shows its frame of an input after what was written, whatever the
+-- page showed before.
 abbrev pub ErasesPages : Renderer → Input → ScreenState → Result Answer Refusal → ScreenState → Type 0
 ErasesPages r input s result s' =
     let f = frame_at r input in
     OnOk result
-    (erases_rows r.options ≡ true → HasPlainLines f → ShowsAnywhere (remember r input).options.terminal_dimensions f s.bytes s'.bytes)
+    (erases_rows r.options ≡ true → ShowsAnywhere (remember r input).options.terminal_dimensions f s.bytes s'.bytes)
 
 -- the same of a screen, given what a screen's state is
 abbrev pub ErasesPagesOn : {S : Type 0} → (S → ScreenState) → Renderer → Input → S → Result Answer Refusal → S → Type 0
@@ -67,23 +89,21 @@ abbrev pub ErasesPagesOf : Renderer → ScreenState → Rendering → ScreenStat
 ErasesPagesOf r s x s' = ErasesPages r x.input s x.result s'
 
 -- what a page shows since it was as given: it is as it was, or it shows these messages and lines
-abbrev pub ShowsSince : Canvas → List Line → List Line → Canvas → Type 0
-ShowsSince page messages lines after = ((messages ≡ []) × (lines ≡ []) × (after ≡ page)) ⊎ ShowsErased page messages lines after
+abbrev pub ShowsSince : (ℕ → ℕ) → Terminal → List Line → List Line → Terminal → Type 0
+ShowsSince columns page messages lines after = ((messages ≡ []) × (lines ≡ []) × (after ≡ page)) ⊎ ShowsErased columns page messages lines after
 
--- The renderer erases rows; the page is that of its terminal, which no input resizes; the lines of each frame are plain; and the screen isn't
--- broken afterwards.
-pub record FitsTerminal (r : Renderer) (xs : List Rendering) (broken : Bool) (page : Canvas) : Type 0 where
+-- The renderer erases rows; the page is of its terminal's size, which no input changes; and the screen isn't broken afterwards.
+pub record FitsTerminal (r : Renderer) (xs : List Rendering) (broken : Bool) (page : Terminal) : Type 0 where
   pub erasing : erases_rows r.options ≡ true
-  pub terminal : IsTerminal r.options.terminal_dimensions page
-  pub sizes : AllByRecursion (λ x. KeepsSize page.columns page.height x.input) xs
-  pub plain : AllByRecursion HasPlainLines (drawn_frames r xs)
+  pub size : HasSize r.options.terminal_dimensions page
+  pub sizes : AllByRecursion (λ x. KeepsSize page.width page.height x.input) xs
   pub unbroken : broken ≡ false
 
--- What is written is the spelling of the frames' signs, which are proper, so that reading it gives them. After each prefix of the frames the
--- page is as it was, if each left it; or it shows the rows above the cursor's as they were, then the messages printed so far, then the lines
--- drawn last, then blank rows.
-pub record ShowsErasing (old new : List ℕ) (frames : List Frame) (page : Canvas) : Type 0 where
+-- What is written is the spelling of the frames' signs, which are proper if the lines' characters are scalar values, so that reading it gives
+-- them. However many columns a terminal gives each character, after each prefix of the frames the page is as it was, if each left it; or it shows
+-- the rows above the cursor's as they were, then the messages printed so far, then the lines drawn last, then blank rows.
+pub record ShowsErasing (old new : List ℕ) (frames : List Frame) (page : Terminal) : Type 0 where
   pub written : new ≡ old ++ spelling (signs_of [] frames)
-  pub proper : AreProper (signs_of [] frames)
+  pub proper : AllByRecursion HasScalars frames → AreProper (signs_of [] frames)
   pub prefix : (j : ℕ) → (rest : List Sign) × (signs_of [] frames ≡ signs_of [] (take j frames) ++ rest)
-  pub shows : (j : ℕ) → ShowsSince page (printed_lines (take j frames)) (all_lines_after [] (take j frames)) (page_after (signs_of [] (take j frames)) page)
+  pub shows : (columns : ℕ → ℕ) (j : ℕ) → ShowsSince columns page (printed_lines (take j frames)) (all_lines_after [] (take j frames)) (terminal_after columns (signs_of [] (take j frames)) page)

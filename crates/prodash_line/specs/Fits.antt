@@ -1,10 +1,10 @@
 -- Lines and frames that fit a page: of characters that are one column wide each, no wider than the page, and lower than its window.
-use Rattle.std.specs.Prelude.{ℕ, ◌≡◌, ◌<◌, ◌≤◌, Bool, false, MatchBool, ⊤, Some, List, [], length}
+use Rattle.std.specs.Prelude.{ℕ, ◌≡◌, ◌<◌, ◌≤◌, Bool, false, MatchBool, ⊤, Some, List, length}
 use Rattle.std.specs.List.{AllByRecursion}
 use Rattle.std.specs.Char.{IsScalar}
 use Rattle.unicode_width.specs.Width.{char_width}
 use Rattle.prodash_line.specs.Lines.{Piece, Line, width_of, columns_of, line_text}
-use Rattle.prodash_line.specs.Frames.{Body, Unchanged, Draws, Closes, Frame, body_lines}
+use Rattle.prodash_line.specs.Frames.{Body, Unchanged, Draws, Closes, Frame}
 use Rattle.prodash_line.specs.declared.render.line.draw.layout.Layout.TheVariants.{Overwriting}
 
 -- one column wide, as no control character is
@@ -21,11 +21,6 @@ pub record IsPlainPiece (p : Piece) : Type 0 where
 pub record IsPlain (line : Line) : Type 0 where
   pub pieces : AllByRecursion IsPlainPiece line
   pub columns : columns_of line ≡ length (line_text line)
-
--- the messages and the drawn lines of a frame are plain
-pub record HasPlainLines (f : Frame) : Type 0 where
-  pub messages : AllByRecursion IsPlain f.messages
-  pub drawn : AllByRecursion IsPlain (body_lines [] f.body)
 
 -- a plain line, no wider than the page; a line that is cut to the page's width need only be plain
 pub record LineFits (cut : Bool) (columns : ℕ) (line : Line) : Type 0 where

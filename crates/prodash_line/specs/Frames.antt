@@ -6,7 +6,7 @@ use Rattle.prodash_line.specs.declared.render.line.draw.layout.Layout.{Layout}
 use Rattle.prodash_line.specs.declared.render.line.draw.layout.Layout.TheVariants.{Overwriting, Erasing}
 use Rattle.prodash_line.specs.declared.render.line.page.sign.Sign.{Sign}
 use Rattle.prodash_line.specs.declared.render.line.page.style.Style.{Style}
-use Rattle.prodash_line.specs.declared.render.line.page.sign.Sign.TheVariants.{Char, LineFeed, CarriageReturn, Up, EraseLine, EraseBelow, Open, Reset}
+use Rattle.prodash_line.specs.declared.render.line.page.sign.Sign.TheVariants.{Char, LineFeed, CarriageReturn, Up, EraseLine, EraseBelow, NoWrap, Wrap, Open, Reset}
 
 -- the signs of a text in a style; an empty text has none
 abbrev pub styled_signs : Option Style → List ℕ → List Sign
@@ -94,19 +94,27 @@ body_signs layout widths Unchanged = []
 body_signs layout widths (Draws lines) = redraw layout widths lines
 body_signs layout widths (Closes ending) = redraw layout widths [] ++ ending
 
--- a frame that erases rows begins at the beginning of the cursor's row
+-- a frame that erases rows begins at the beginning of the cursor's row, and writes without wrapping
 abbrev pub frame_start : Layout → Body → List Sign
 frame_start Overwriting body = []
 frame_start (Erasing height) Unchanged = []
-frame_start (Erasing height) (Draws lines) = CarriageReturn ∷ []
-frame_start (Erasing height) (Closes ending) = CarriageReturn ∷ []
+frame_start (Erasing height) (Draws lines) = CarriageReturn ∷ NoWrap ∷ []
+frame_start (Erasing height) (Closes ending) = CarriageReturn ∷ NoWrap ∷ []
+
+-- and wraps again at its end
+abbrev pub frame_end : Layout → Body → List Sign
+frame_end Overwriting body = []
+frame_end (Erasing height) Unchanged = []
+frame_end (Erasing height) (Draws lines) = Wrap ∷ []
+frame_end (Erasing height) (Closes ending) = Wrap ∷ []
 
 -- the signs of a frame, by the widths of the lines on screen before it
 abbrev pub frame_signs : List ℕ → Frame → List Sign
 frame_signs widths f =
     f.opening
     ++ (frame_start f.layout f.body
-    ++ (lines_over f.layout (covered f.layout widths) f.messages ++ body_signs f.layout (drop (length f.messages) widths) f.body))
+    ++ (lines_over f.layout (covered f.layout widths) f.messages
+    ++ (body_signs f.layout (drop (length f.messages) widths) f.body ++ frame_end f.layout f.body)))
 
 -- the lines on screen after a body, by those before it
 abbrev pub body_lines : List Line → Body → List Line

@@ -11,6 +11,8 @@ pub mod Screens
 pub mod Writers
 pub mod Renderer
 pub mod Page
+pub mod CellRows
+pub mod Terminals
 pub mod Reading
 pub mod Shows
 pub mod Fits

@@ -1,15 +1,17 @@
 -- A page: all rows ever, of which the last are the window, and a cursor.
-use Rattle.std.specs.Prelude.{◌≡◌, ◌<◌, Bool, false, ◌&&◌, nat_le, ℕ, ◌+◌, ◌-◌, max, List, [], ◌∷◌, ◌++◌, length, take, replicate, slice_index_or, slice_set, nat_lt, if◌then◌else◌}
+use Rattle.std.specs.Prelude.{◌≡◌, ◌<◌, Bool, true, false, ◌&&◌, nat_le, ℕ, ◌+◌, ◌-◌, max, List, [], ◌∷◌, ◌++◌, length, take, replicate, slice_index_or, slice_set, nat_lt, if◌then◌else◌}
 use Rattle.prodash_line.specs.declared.render.line.page.sign.Sign.{Sign}
-use Rattle.prodash_line.specs.declared.render.line.page.sign.Sign.TheVariants.{Char, LineFeed, CarriageReturn, Up, EraseLine, EraseBelow, HideCursor, ShowCursor, Open, Reset}
+use Rattle.prodash_line.specs.declared.render.line.page.sign.Sign.TheVariants.{Char, LineFeed, CarriageReturn, Up, EraseLine, EraseBelow, HideCursor, ShowCursor, NoWrap, Wrap, Open, Reset}
 
--- how many columns it has, the height of its window, its rows from the first ever on, and the row and column of the cursor
+-- how many columns it has, the height of its window, its rows from the first ever on, the row and column of the cursor, and whether a character
+-- past the last column goes to the next row
 pub record Canvas : Type 0 where
   pub columns : ℕ
   pub height : ℕ
   pub rows : List (List ℕ)
   pub row : ℕ
   pub column : ℕ
+  pub wraps : Bool
 
 -- a row of spaces
 abbrev pub blank : ℕ → List ℕ
@@ -21,7 +23,7 @@ IsRow rows n row = (n < length rows) × (row ≡ slice_index_or rows n [])
 
 -- a page of blank rows, with the cursor at its beginning
 abbrev pub blank_page : ℕ → ℕ → Canvas
-blank_page columns height = record { columns = columns; height = height; rows = replicate height (blank columns); row = 0; column = 0 }
+blank_page columns height = record { columns = columns; height = height; rows = replicate height (blank columns); row = 0; column = 0; wraps = true }
 
 -- the rows, with a blank one below the last if this row isn't there
 abbrev pub with_row : ℕ → ℕ → List (List ℕ) → List (List ℕ)
@@ -51,10 +53,13 @@ blank_below columns n rows = take n rows ++ replicate (length rows - n) (blank c
 abbrev pub with_blank_from : ℕ → ℕ → ℕ → List (List ℕ) → List (List ℕ)
 with_blank_from columns row column rows = slice_set rows row (blank_row_from columns column (slice_index_or rows row []))
 
--- The page after one sign: a character past the last column goes to the next row, and the cursor goes up no further than the window's top.
--- Styles, and whether the cursor is hidden, change no cell.
+-- a character past the last column: in the next row, or without wrapping in the last column
+abbrev pub put_past : ℕ → Canvas → Canvas
+put_past c p = put_char c (if p.wraps then next_row p else record p { column = p.columns - 1 })
+
+-- The page after one sign: the cursor goes up no further than the window's top. Styles, and whether the cursor is hidden, change no cell.
 abbrev pub after_sign : Sign → Canvas → Canvas
-after_sign (Char c) p = if nat_lt p.column p.columns then put_char c p else put_char c (next_row p)
+after_sign (Char c) p = if nat_lt p.column p.columns then put_char c p else put_past c p
 after_sign LineFeed p = next_row p
 after_sign CarriageReturn p = record p { column = 0 }
 after_sign (Up n) p = record p { row = max (length p.rows - p.height) (p.row - n) }
@@ -62,12 +67,14 @@ after_sign EraseLine p = record p { rows = slice_set p.rows p.row (blank p.colum
 after_sign EraseBelow p = record p { rows = blank_below p.columns (p.row + 1) (with_blank_from p.columns p.row p.column p.rows) }
 after_sign HideCursor p = p
 after_sign ShowCursor p = p
+after_sign NoWrap p = record p { wraps = false }
+after_sign Wrap p = record p { wraps = true }
 after_sign (Open style) p = p
 after_sign Reset p = p
 
 -- does the sign lead to a row that isn't there yet?
 abbrev pub adds_row : Sign → Canvas → Bool
-adds_row (Char c) p = nat_le p.columns p.column && nat_le (length p.rows) (p.row + 1)
+adds_row (Char c) p = p.wraps && nat_le p.columns p.column && nat_le (length p.rows) (p.row + 1)
 adds_row LineFeed p = nat_le (length p.rows) (p.row + 1)
 adds_row CarriageReturn p = false
 adds_row (Up n) p = false
@@ -75,6 +82,8 @@ adds_row EraseLine p = false
 adds_row EraseBelow p = false
 adds_row HideCursor p = false
 adds_row ShowCursor p = false
+adds_row NoWrap p = false
+adds_row Wrap p = false
 adds_row (Open style) p = false
 adds_row Reset p = false
 

@@ -15,7 +15,7 @@ use Rattle.prodash_line.specs.declared.render.line.draw.action.Composed.{Compose
 use Rattle.prodash_line.specs.declared.render.line.draw.layout.Layout.{Layout}
 use Rattle.prodash_line.specs.declared.render.line.draw.layout.Layout.TheVariants.{Overwriting, Erasing}
 use Rattle.prodash_line.specs.declared.render.line.draw.action.Action.TheVariants.{Leave}
-use Rattle.prodash_line.specs.declared.render.line.page.sign.Sign.TheVariants.{CarriageReturn, EraseBelow}
+use Rattle.prodash_line.specs.declared.render.line.page.sign.Sign.TheVariants.{CarriageReturn, EraseBelow, NoWrap, Wrap}
 use Rattle.prodash_line.specs.declared.render.line.draw.frame.Scene.{Scene}
 use Rattle.prodash_line.specs.declared.render.line.draw.line_writer.LineWriter.{LineWriter}
 use Rattle.prodash_line.specs.declared.render.line.page.sign.Sign.{Sign}
@@ -84,7 +84,13 @@ AddsOrigins options messages old new = new.items ≡ old.items ++ widths_of_orig
 abbrev pub action_start : Layout → Action → List Sign
 action_start Overwriting action = []
 action_start (Erasing height) Leave = []
-action_start (Erasing height) _ = CarriageReturn ∷ []
+action_start (Erasing height) _ = CarriageReturn ∷ NoWrap ∷ []
+
+-- and what it ends with there
+abbrev pub action_end : Layout → Action → List Sign
+action_end Overwriting action = []
+action_end (Erasing height) Leave = []
+action_end (Erasing height) _ = Wrap ∷ []
 
 -- the buffer holds the beginning of a frame with this action
 abbrev pub BeginsFrame : Renderer → Layout → Action → LineWriter → Type 0

@@ -7,7 +7,7 @@ use Rattle.prodash_line.specs.declared.render.line.page.Page.TheInside.{Inside}
 
 -- the page that contracts see
 abbrev pub canvas : Inside → Canvas
-canvas p = record { columns = p.columns; height = p.height; rows = cells p.rows.items; row = p.row; column = p.column }
+canvas p = record { columns = p.columns; height = p.height; rows = cells p.rows.items; row = p.row; column = p.column; wraps = p.wraps }
 
 -- the page has a column and a row, the cursor is in a row, each row is as wide as the page
 pub record IsPage (p : Inside) : Type 0 where

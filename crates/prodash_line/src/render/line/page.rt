@@ -39,6 +39,7 @@ pub struct Page {
     rows: Vec<Vec<char>>,
     row: usize,
     column: u16,
+    wraps: bool,
 }
 
 impl Model for Page {
@@ -141,6 +142,7 @@ impl Page {
             rows: blanks,
             row: 0,
             column: 0,
+            wraps: true,
         })
     }
 
@@ -160,11 +162,14 @@ impl Page {
                 if self.column < self.columns {
                     write_cell(&mut self.rows, self.row, self.column as usize, c);
                     self.column += 1;
-                } else {
+                } else if self.wraps {
                     add_row(alloc, &mut self.rows, self.columns, self.row + 1)?;
                     write_cell(&mut self.rows, self.row + 1, 0, c);
                     self.row += 1;
                     self.column = 1;
+                } else {
+                    write_cell(&mut self.rows, self.row, self.columns as usize - 1, c);
+                    self.column = self.columns;
                 }
             }
             Sign::LineFeed => {
@@ -179,6 +184,8 @@ impl Page {
                 erase_row_from(&mut self.rows, self.columns, self.row, self.column as usize);
                 erase_rows(&mut self.rows, self.columns, self.row + 1);
             }
+            Sign::NoWrap => self.wraps = false,
+            Sign::Wrap => self.wraps = true,
             Sign::HideCursor | Sign::ShowCursor | Sign::Open(_) | Sign::Reset => {}
         }
         Ok(())

@@ -1,7 +1,7 @@
 //! Frames that erase the rows that they write on.
 ghost use Rattle.std.specs.Prelude.{◌≡◌, OnOk};
 ghost use Rattle.prodash_line.specs.Frames.{row_start, left_over, erased_rows};
-ghost use Rattle.prodash_line.specs.plumbing.FrameWriting.{AppendsSigns, action_start, erasing_end};
+ghost use Rattle.prodash_line.specs.plumbing.FrameWriting.{AppendsSigns, action_start, action_end, erasing_end};
 
 use crate::render::line::draw::action::Action;
 use crate::render::line::draw::frame::push_up;
@@ -10,7 +10,8 @@ use crate::render::line::draw::line_writer::LineWriter;
 use crate::render::line::page::Sign;
 use std::alloc::AllocError;
 
-/// Moves the cursor to the beginning of its row, if a frame with this action erases rows.
+/// Moves the cursor to the beginning of its row and turns wrapping off, if a frame with this action
+/// erases rows.
 pub(crate) fn start_frame(
     out: &mut LineWriter,
     layout: Layout,
@@ -20,7 +21,24 @@ pub(crate) fn start_frame(
 {
     match (layout, action) {
         (Layout::Overwriting, _) | (_, Action::Leave) => Ok(()),
-        (Layout::Erasing(_), _) => out.push_sign(Sign::CarriageReturn),
+        (Layout::Erasing(_), _) => {
+            out.push_sign(Sign::CarriageReturn)?;
+            out.push_sign(Sign::NoWrap)
+        }
+    }
+}
+
+/// Turns wrapping on again, if a frame with this action erases rows.
+pub(crate) fn end_frame(
+    out: &mut LineWriter,
+    layout: Layout,
+    action: Action,
+) -> Result<(), AllocError>
+    ensures { OnOk result (AppendsSigns out.old (action_end layout action) out.new) }
+{
+    match (layout, action) {
+        (Layout::Overwriting, _) | (_, Action::Leave) => Ok(()),
+        (Layout::Erasing(_), _) => out.push_sign(Sign::Wrap),
     }
 }
 

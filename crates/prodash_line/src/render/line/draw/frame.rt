@@ -10,7 +10,7 @@ ghost use Rattle.prodash_line.specs.plumbing.OverwriteBytes.{blank_bytes};
 
 use crate::render::line::draw::action::{Action, Composed, Drawn};
 use crate::render::line::draw::drawn_text::drawn_text;
-use crate::render::line::draw::erasing::{finish_erasing, start_frame, start_row};
+use crate::render::line::draw::erasing::{end_frame, finish_erasing, start_frame, start_row};
 use crate::render::line::draw::input::Options;
 use crate::render::line::draw::layout::Layout;
 use crate::render::line::draw::line_writer::LineWriter;
@@ -81,6 +81,7 @@ pub(crate) fn compose_tick(
         rows: seen.0.as_slice(),
     };
     let drawn = write_body(alloc, out, tracker, &scene, action, left)?;
+    end_frame(out, layout, action)?;
     Ok(Composed {
         drawn,
         origin_widths,
@@ -94,6 +95,7 @@ pub(crate) fn compose_closing(out: &mut LineWriter, past: &Past) -> Result<(), A
     let layout = past.options.layout();
     begin_frame(out, past, layout, Action::Close)?;
     write_closing(out, past, layout, &past.widths)?;
+    end_frame(out, layout, Action::Close)?;
     Ok(())
 }
 
@@ -117,8 +119,9 @@ pub(crate) fn compose_resized(
         terminal_dimensions: size,
         ..past.options
     };
+    let layout = options.layout();
     let action = past.resize_action(show);
-    begin_frame(out, past, options.layout(), action)?;
+    begin_frame(out, past, layout, action)?;
     let scene = Scene {
         past,
         options,
@@ -126,11 +129,12 @@ pub(crate) fn compose_resized(
         rows: past.latest_rows(),
     };
     let drawn = write_body(alloc, out, tracker, &scene, action, &past.widths)?;
+    end_frame(out, layout, action)?;
     Ok(drawn)
 }
 
 /// Begins a frame with this action: empties the buffer, hides the cursor if this frame is to hide
-/// it, and moves it to the beginning of its row if the frame erases rows.
+/// it, and moves it to the beginning of its row and turns wrapping off if the frame erases rows.
 fn begin_frame(
     out: &mut LineWriter,
     past: &Past,

@@ -19,6 +19,10 @@ pub enum Sign {
     HideCursor,
     /// `CSI ? 25 h`: shows the cursor.
     ShowCursor,
+    /// DECAWM reset, `CSI ? 7 l`: a character past the last column replaces the one in it.
+    NoWrap,
+    /// DECAWM, `CSI ? 7 h`: a character past the last column goes to the next row.
+    Wrap,
     /// SGR, `CSI n ; .. m`: begins a style, which has at least one code.
     Open(Style),
     /// SGR, `CSI 0 m`: ends all styles.

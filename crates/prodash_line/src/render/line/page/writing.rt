@@ -114,6 +114,8 @@ pub(crate) fn push_sign(out: &mut ByteBuffer, sign: Sign) -> Result<(), AllocErr
         Sign::EraseBelow => out.extend_from_slice(b"\x1b[J"),
         Sign::HideCursor => out.extend_from_slice(b"\x1b[?25l"),
         Sign::ShowCursor => out.extend_from_slice(b"\x1b[?25h"),
+        Sign::NoWrap => out.extend_from_slice(b"\x1b[?7l"),
+        Sign::Wrap => out.extend_from_slice(b"\x1b[?7h"),
         Sign::Open(style) => push_open(out, style),
         Sign::Reset => push_reset(out),
     }

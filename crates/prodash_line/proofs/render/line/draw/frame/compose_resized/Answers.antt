@@ -8,35 +8,35 @@ use Rattle.prodash_line.specs.declared.render.line.draw.layout.Layout.{Layout}
 use Rattle.prodash_line.specs.Signs.{spelling}
 use Rattle.prodash_line.specs.DrawnLines.{layout_of}
 use Rattle.prodash_line.specs.Frames.{body_signs}
-use Rattle.prodash_line.specs.plumbing.FrameWriting.{action_start, state_by}
+use Rattle.prodash_line.specs.plumbing.FrameWriting.{action_start, action_end, state_by}
 use Rattle.prodash_line.specs.Tracking.{tracked}
 use Rattle.prodash_line.specs.Renderer.{Renderer, Drawing, frame_at, remember, drawing_of, drawing_at, action_at, body_of, ending_of, state_after}
-use Rattle.prodash_line.proofs.OverwriteBytes.{action_starts, frame_bytes_of}
+use Rattle.prodash_line.proofs.OverwriteBytes.{action_starts, action_ends, frame_bytes_of}
 use Rattle.prodash_line.proofs.render.line.draw.frame.compose_resized.Goals as goal
 
-abbrev input : goal.In_ok-drawn → Input
+abbrev input : goal.In_ok-end_frame → Input
 input c = Resize c.args.at c.args.show c.args.size.0 c.args.size.1
 
 -- the renderer
-abbrev whole : goal.In_ok-drawn → Renderer
+abbrev whole : goal.In_ok-end_frame → Renderer
 whole c = tracked c.args.past.now c.args.tracker.now
 
 -- the options that the frame is drawn with
-abbrev sized : goal.In_ok-drawn → Options
+abbrev sized : goal.In_ok-end_frame → Options
 sized c = record c.past.inside.options { terminal_dimensions = c.args.size }
 
-sized_is : (c : goal.In_ok-drawn) → sized c ≡ (remember c.args.past.now (input c)).options
+sized_is : (c : goal.In_ok-end_frame) → sized c ≡ (remember c.args.past.now (input c)).options
 sized_is c = ap (λ (x : Renderer). record x.options { terminal_dimensions = c.args.size }) c.past.view_is
 
-abbrev drawing : goal.In_ok-drawn → Drawing
+abbrev drawing : goal.In_ok-end_frame → Drawing
 drawing c = drawing_of (record (whole c) { options = sized c }) c.args.at (rows_of c.latest_rows.result.now)
 
-drawing_is : (c : goal.In_ok-drawn) → drawing c ≡ drawing_at (whole c) (input c)
+drawing_is : (c : goal.In_ok-end_frame) → drawing c ≡ drawing_at (whole c) (input c)
 drawing_is c =
     ap (λ (o : Options). drawing_of (record (whole c) { options = o }) c.args.at (rows_of c.latest_rows.result.now)) (sized_is c)
     ∙ ap (λ rows. drawing_of (remember (whole c) (input c)) c.args.at rows) c.latest_rows.ensures
 
-left_is : (c : goal.In_ok-drawn) → c.deref.result.now ≡ c.args.past.now.widths
+left_is : (c : goal.In_ok-end_frame) → c.deref.result.now ≡ c.args.past.now.widths
 left_is c = c.deref.ensures.value ∙ ap (λ (x : Renderer). x.widths) c.past.view_is
 
 pub returns-clause-bytes : goal.returns-clause-bytes
@@ -47,15 +47,18 @@ returns-clause-bytes c =
     let layout = layout_of (remember r (input c)).options in
     let action = action_at r (input c) in
     let ending = ending_of r in
-    frame_bytes_of (frame_at r (input c)) _ r.widths left before before _ 0
+    frame_bytes_of (frame_at r (input c)) _ _ r.widths left before before c.write_body.new.out.bytes _ 0
     c.in_ok-begin_frame.ensures
-    (ap (λ (l : Layout). action_start l c.resize_action-action.result) (c.layout.ensures ∙ ap layout_of (sized_is c))
+    (ap (λ (l : Layout). action_start l c.resize_action-action.result) (c.layout-layout.ensures ∙ ap layout_of (sized_is c))
     ∙ ap (action_start layout) c.resize_action-action.ensures ∙ action_starts layout action (drawing_at r (input c)) ending)
+    (ap (λ (l : Layout). action_end l c.resize_action-action.result) (c.layout-layout.ensures ∙ ap layout_of (sized_is c))
+    ∙ ap (action_end layout) c.resize_action-action.ensures ∙ action_ends layout action (drawing_at r (input c)) ending)
     (sym (append-nil before)) (left_is c) refl
     (c.in_ok-drawn.ensures.bytes
     ∙ ap (λ (o : Options). before ++ spelling (body_signs (layout_of o) left (body_of c.resize_action-action.result (drawing c) ending))) (sized_is c)
     ∙ ap (λ (a : Action). before ++ spelling (body_signs layout left (body_of a (drawing c) ending))) c.resize_action-action.ensures
     ∙ ap (λ (d : Drawing). before ++ spelling (body_signs layout left (body_of action d ending))) (drawing_is c))
+    c.in_ok-end_frame.ensures
 
 pub returns-clause-state : goal.returns-clause-state
 returns-clause-state c =

@@ -9,50 +9,50 @@ use Rattle.prodash_line.specs.declared.render.line.draw.input.Input.TheVariants.
 use Rattle.prodash_line.specs.Signs.{spelling}
 use Rattle.prodash_line.specs.Frames.{covered, body_signs}
 use Rattle.prodash_line.specs.plumbing.OverwriteBytes.{lines_bytes}
-use Rattle.prodash_line.specs.plumbing.FrameWriting.{action_start, state_by}
+use Rattle.prodash_line.specs.plumbing.FrameWriting.{action_start, action_end, state_by}
 use Rattle.prodash_line.specs.Tracking.{tracked}
 use Rattle.prodash_line.specs.MessageLines.{message_lines}
 use Rattle.prodash_line.specs.Renderer.{Renderer, Drawing, frame_at, drawing_of, drawing_at, tick_action, action_at, printed_at, body_of, ending_of, state_after}
-use Rattle.prodash_line.proofs.OverwriteBytes.{action_starts, frame_bytes_of, length-message_lines}
+use Rattle.prodash_line.proofs.OverwriteBytes.{action_starts, action_ends, frame_bytes_of, length-message_lines}
 use Rattle.prodash_line.proofs.render.line.draw.frame.compose_tick.Goals as goal
 
-printed : (c : goal.In_ok-drawn) → length c.as_slice-messages.result.now ≡ length (message_lines c.args.past.now.options c.args.past.now.origin_widths c.args.seen.now.1)
+printed : (c : goal.In_ok-end_frame) → length c.as_slice-messages.result.now ≡ length (message_lines c.args.past.now.options c.args.past.now.origin_widths c.args.seen.now.1)
 printed c = ap length c.as_slice-messages.ensures ∙ sym (length-message_lines c.args.past.now.options c.args.past.now.origin_widths c.args.seen.now.1)
 
-left_is : (c : goal.In_ok-drawn) → c.widths_below-left.result.now ≡ drop (length c.as_slice-messages.result.now) c.args.past.now.widths
+left_is : (c : goal.In_ok-end_frame) → c.widths_below-left.result.now ≡ drop (length c.as_slice-messages.result.now) c.args.past.now.widths
 left_is c = search rules
 
-abbrev input : goal.In_ok-drawn → Input
+abbrev input : goal.In_ok-end_frame → Input
 input c = Tick c.args.at c.args.show (Some c.args.seen.now)
 
 -- the renderer
-abbrev whole : goal.In_ok-drawn → Renderer
+abbrev whole : goal.In_ok-end_frame → Renderer
 whole c = tracked c.args.past.now c.args.tracker.now
 
-abbrev drawing : goal.In_ok-drawn → Drawing
+abbrev drawing : goal.In_ok-end_frame → Drawing
 drawing c = drawing_of (record (whole c) { options = c.past.inside.options }) c.args.at (rows_of c.as_slice.result.now)
 
-drawing_is : (c : goal.In_ok-drawn) → drawing c ≡ drawing_at (whole c) (input c)
+drawing_is : (c : goal.In_ok-end_frame) → drawing c ≡ drawing_at (whole c) (input c)
 drawing_is c =
     ap (λ (x : Renderer). drawing_of (record (whole c) { options = x.options }) c.args.at (rows_of c.as_slice.result.now)) c.past.view_is
     ∙ ap (λ rows. drawing_of (whole c) c.args.at rows) c.as_slice.ensures
 
-action_is : (c : goal.In_ok-drawn) → c.tick_action-action.result ≡ action_at c.args.past.now (input c)
+action_is : (c : goal.In_ok-end_frame) → c.tick_action-action.result ≡ action_at c.args.past.now (input c)
 action_is c =
     c.tick_action-action.ensures
     ∙ ap (λ (empty : Bool). tick_action c.args.past.now c.args.show (not empty) c.args.seen.now.0)
     (c.is_empty.ensures ∙ ap (λ (messages : List Message). nat_eq (length messages) 0) c.as_slice-messages.ensures)
 
-layout_is : (c : goal.In_ok-drawn) → c.layout-layout.result ≡ layout_of c.args.past.now.options
+layout_is : (c : goal.In_ok-end_frame) → c.layout-layout.result ≡ layout_of c.args.past.now.options
 layout_is c = search rules
 
-covered_is : (c : goal.In_ok-drawn) → c.covered_widths.result.now ≡ covered (layout_of c.args.past.now.options) c.args.past.now.widths
+covered_is : (c : goal.In_ok-end_frame) → c.covered_widths.result.now ≡ covered (layout_of c.args.past.now.options) c.args.past.now.widths
 covered_is c =
     c.covered_widths.ensures
     ∙ ap (λ (l : Layout). covered l c.deref-2.result.now) (layout_is c)
     ∙ ap (covered (layout_of c.args.past.now.options)) (c.deref-2.ensures.value ∙ ap (λ (x : Renderer). x.widths) c.past.view_is)
 
-over : (c : goal.In_ok-drawn) → c.write_messages.new.out.bytes
+over : (c : goal.In_ok-end_frame) → c.write_messages.new.out.bytes
     ≡ c.begin_frame.new.out.bytes ++ lines_bytes (layout_of c.args.past.now.options) (covered (layout_of c.args.past.now.options) c.args.past.now.widths) (printed_at c.args.past.now (input c))
 over c =
     let r = c.args.past.now in
@@ -74,14 +74,16 @@ returns-clause-bytes c =
     let left = c.widths_below-left.result.now in
     let layout = layout_of r.options in
     let action = action_at r (input c) in
-    frame_bytes_of (frame_at r (input c)) _ r.widths left c.begin_frame.new.out.bytes before _ (length c.as_slice-messages.result.now)
+    frame_bytes_of (frame_at r (input c)) _ _ r.widths left c.begin_frame.new.out.bytes before c.write_body.new.out.bytes _ (length c.as_slice-messages.result.now)
     c.in_ok-begin_frame.ensures
     (ap (λ (l : Layout). action_start l c.tick_action-action.result) (layout_is c) ∙ ap (action_start layout) (action_is c) ∙ action_starts layout action (drawing_at r (input c)) (ending_of r))
+    (ap (λ (l : Layout). action_end l c.tick_action-action.result) (layout_is c) ∙ ap (action_end layout) (action_is c) ∙ action_ends layout action (drawing_at r (input c)) (ending_of r))
     (over c) (left_is c) (printed c)
     (c.in_ok-drawn.ensures.bytes
     ∙ ap (λ (x : Renderer). before ++ spelling (body_signs (layout_of x.options) left (body_of c.tick_action-action.result (drawing c) (ending_of r)))) c.past.view_is
     ∙ ap (λ action. before ++ spelling (body_signs layout left (body_of action (drawing c) (ending_of r)))) (action_is c)
     ∙ ap (λ d. before ++ spelling (body_signs layout left (body_of action d (ending_of r)))) (drawing_is c))
+    c.in_ok-end_frame.ensures
 
 pub returns-clause-state : goal.returns-clause-state
 returns-clause-state c =

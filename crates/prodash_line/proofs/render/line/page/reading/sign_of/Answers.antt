@@ -10,6 +10,8 @@ returns-in_err-number_of-in-65 c = rw c.from_residual.ensures (makes_none c.args
   erase_below = λ e. absurd (omega arith);
   hide = λ e. absurd (omega arith);
   show = λ e. absurd (omega arith);
+  no_wrap = λ e. absurd (omega arith);
+  wrap = λ e. absurd (omega arith);
   open_style = λ e. absurd (omega arith);
   reset = λ e. absurd (omega arith);
 }))
@@ -21,8 +23,10 @@ returns-in_err-style_of-in-109-2 c = rw c.from_residual-in_err-style_of-in-109-2
   erase_below = λ e. absurd (omega arith);
   hide = λ e. absurd (omega arith);
   show = λ e. absurd (omega arith);
+  no_wrap = λ e. absurd (omega arith);
+  wrap = λ e. absurd (omega arith);
   open_style = λ e. c.in_err-style_of-in-109-2.ensures;
-  reset = λ e. differs c.eq-is_zero.result c.args.parameters.now c.as_slice-3.result.now (48 ∷ []) c.if-is_zero.false c.eq-is_zero.ensures c.as_slice-3.ensures refl;
+  reset = λ e. differs c.eq-is_zero.result c.args.parameters.now c.as_slice-4.result.now (48 ∷ []) c.if-is_zero.false c.eq-is_zero.ensures c.as_slice-4.ensures refl;
 }))
 
 pub returns-in_default : goal.returns-in_default
@@ -32,6 +36,8 @@ returns-in_default c = makes_none c.args.parameters.now c.args.final_byte (recor
   erase_below = λ e. absurd (omega arith);
   hide = λ e. absurd (omega arith);
   show = λ e. absurd (omega arith);
+  no_wrap = λ e. absurd (omega arith);
+  wrap = λ e. absurd (omega arith);
   open_style = λ e. absurd (omega arith);
   reset = λ e. absurd (omega arith);
 })
@@ -43,6 +49,8 @@ returns-in_default-2 c = makes_none c.args.parameters.now c.args.final_byte (rec
   erase_below = λ e. absurd (omega arith);
   hide = λ e. differs c.eq-is_cursor.result c.args.parameters.now c.as_slice-2.result.now (63 ∷ 50 ∷ 53 ∷ []) c.if-is_cursor.false c.eq-is_cursor.ensures c.as_slice-2.ensures refl;
   show = λ e. absurd (omega arith);
+  no_wrap = λ e. differs c.eq-is_wrap.result c.args.parameters.now c.as_slice-3.result.now (63 ∷ 55 ∷ []) c.if-is_wrap.false c.eq-is_wrap.ensures c.as_slice-3.ensures refl;
+  wrap = λ e. absurd (omega arith);
   open_style = λ e. absurd (omega arith);
   reset = λ e. absurd (omega arith);
 })
@@ -54,6 +62,8 @@ returns-in_default-3 c = makes_none c.args.parameters.now c.args.final_byte (rec
   erase_below = λ e. absurd (omega arith);
   hide = λ e. absurd (omega arith);
   show = λ e. differs c.eq-is_cursor.result c.args.parameters.now c.as_slice-2.result.now (63 ∷ 50 ∷ 53 ∷ []) c.if-is_cursor-2.false c.eq-is_cursor.ensures c.as_slice-2.ensures refl;
+  no_wrap = λ e. absurd (omega arith);
+  wrap = λ e. differs c.eq-is_wrap.result c.args.parameters.now c.as_slice-3.result.now (63 ∷ 55 ∷ []) c.if-is_wrap-2.false c.eq-is_wrap.ensures c.as_slice-3.ensures refl;
   open_style = λ e. absurd (omega arith);
   reset = λ e. absurd (omega arith);
 })
@@ -65,6 +75,8 @@ returns-in_default-4 c = makes_none c.args.parameters.now c.args.final_byte (rec
   erase_below = λ e none. both_ways c.is_empty.result c.if-is_empty.false (c.is_empty.ensures ∙ ap (λ (p : List ℕ). nat_eq (length p) 0) none);
   hide = λ e. absurd (omega arith);
   show = λ e. absurd (omega arith);
+  no_wrap = λ e. absurd (omega arith);
+  wrap = λ e. absurd (omega arith);
   open_style = λ e. absurd (omega arith);
   reset = λ e. absurd (omega arith);
 })
@@ -76,6 +88,8 @@ returns-in_default-5 c = makes_none c.args.parameters.now c.args.final_byte (rec
   erase_below = λ e. absurd (omega arith);
   hide = λ e. absurd (omega arith);
   show = λ e. absurd (omega arith);
+  no_wrap = λ e. absurd (omega arith);
+  wrap = λ e. absurd (omega arith);
   open_style = λ e. absurd (omega arith);
   reset = λ e. absurd (omega arith);
 })
