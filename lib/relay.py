@@ -10,7 +10,8 @@ The program gets no signal of the terminal, so it isn't ended before its input i
 - After SIGWINCH the program gets a line `size COLUMNS ROWS`, with the size of its terminal, unless
   COLUMNS or LINES says the size from the start.
 
-The status is the program's, or 128 and the number of the signal that ended it.
+The status is the program's, or 128 and the number of the signal that ended it. After such a signal
+the terminal gets back what a frame switches off until its end: wrapping, and the cursor.
 """
 import contextlib
 import os
@@ -22,6 +23,8 @@ import termios
 
 # How many bytes are read at a time, as many as a pipe has.
 READ = 65536
+# DECAWM and DECTCEM: lines are wrapped, and the cursor is shown.
+RESTORED = b"\x1b[?7h\x1b[?25h"
 
 
 class Relay:
@@ -121,6 +124,13 @@ def no_carets(stream):
                 termios.tcsetattr(stream, termios.TCSANOW, before)
 
 
+def restore(stream):
+    """Gives a stream's terminal back what a program that died may have switched off."""
+    with contextlib.suppress(OSError):
+        if os.isatty(stream):
+            os.write(stream, RESTORED)
+
+
 def has_size():
     """Returns whether the environment says a size of the terminal."""
     return "COLUMNS" in os.environ or "LINES" in os.environ
@@ -158,6 +168,8 @@ def run(program, words, terminal=2, follows_size=None):
         Relay(child.stdin.fileno(), terminal).run(woken)
         child.stdin.close()
         status = child.wait()
+    if status < 0:
+        restore(terminal)
     return status if status >= 0 else 128 - status
 
 

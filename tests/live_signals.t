@@ -52,3 +52,15 @@ No signal from the terminal reaches the program itself.
 
   $ relay sh -c 'kill -INT $$; kill -TERM $$; kill -HUP $$; echo alive' </dev/null
   alive
+
+A program that dies may leave wrapping switched off and the cursor hidden. The relay restores both, on
+a terminal alone.
+
+  $ on_terminal() {
+  >   python3 -c 'import pty, sys; pty.spawn(["sh", "-c", sys.argv[1]])' "$1" </dev/null
+  > }
+  $ on_terminal 'relay sh -c "kill -9 \$\$"'
+  \x1b[?7h\x1b[?25h (no-eol) (esc)
+  $ on_terminal 'relay sh -c "exit 3"'
+  $ relay sh -c 'kill -9 $$' 2>&1 </dev/null
+  [137]
