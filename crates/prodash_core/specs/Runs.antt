@@ -11,7 +11,7 @@ use Rattle.prodash_line.specs.declared.render.line.draw.input.Answer.TheVariants
 use Rattle.prodash_line.specs.Renderings.{Rendering, after_result, RendersEach, BreaksExactly, FlushesFrame, WritesAttempts, attempts_of, drawn_frames, FitsPage, ShowsFrames}
 use Rattle.prodash_line.specs.Screens.{ScreenState}
 use Rattle.prodash_line.specs.ErasedPages.{ErasesPagesOf, FitsTerminal, ShowsErasing}
-use Rattle.prodash_line.specs.ControlCharacters.{DrawsNoControlsOf}
+use Rattle.prodash_line.specs.SafeFrames.{DrawsSafelyOf}
 use Rattle.prodash_line.specs.Page.{Canvas}
 use Rattle.prodash_line.specs.Terminals.{Terminal}
 use Rattle.prodash_core.specs.declared.tree.slot.Slot.{Slot}
@@ -188,11 +188,11 @@ ErasesOnPages options es rs s s' =
     → ShowsErasing s.bytes s'.bytes
     (drawn_frames (new_session options).renderer (renderings_of options es rs)) page
 
--- no line of a defensive renderer's frames has a control character
-abbrev pub EachWithoutControls : SessionOptions → List Event → List Reply → ScreenState → ScreenState
+-- no line of a defensive renderer's frames has an unsafe character
+abbrev pub EachDrawsSafely : SessionOptions → List Event → List Reply → ScreenState → ScreenState
     → Type 0
-EachWithoutControls options es rs s s' =
-    RendersEach DrawsNoControlsOf (new_session options).renderer s (renderings_of options es rs) s'
+EachDrawsSafely options es rs s s' =
+    RendersEach DrawsSafelyOf (new_session options).renderer s (renderings_of options es rs) s'
 
 -- a screen that isn't broken has flushed all that it took, if it had before
 abbrev pub StaysFlushed : ScreenState → ScreenState → Type 0
@@ -224,8 +224,8 @@ pub record Ran (options : SessionOptions) (es : List Event) (rs : List Reply) (s
   -- and such a page, whatever it shows at first, shows after each frame the rows above as they
   -- were, then the messages printed so far, then the lines drawn last, then blank rows
   pub erased : ErasesOnPages options es rs s s'
-  -- no line of a defensive renderer's frames has a control character
-  pub controls : EachWithoutControls options es rs s s'
+  -- no line of a defensive renderer's frames has an unsafe character
+  pub safe : EachDrawsSafely options es rs s s'
   -- a screen that isn't broken afterwards has flushed all that it took, if it had before
   pub flushed : StaysFlushed s s'
 

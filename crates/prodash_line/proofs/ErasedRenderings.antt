@@ -1,7 +1,8 @@
 -- The frames of a renderer that erases rows, on any page of the terminal's size, for any widths of characters.
 use Rattle.std.proofs.Common.{◌≡◌, ℕ, Result, Ok, Err, ◌+◌, ◌-◌, ◌<◌, ◌≤◌, nat_eq, nat_lt, Bool, true, false, cond, List, [], ◌∷◌, ◌++◌, length, refl, sym, ap, subst, ◌∙◌, length-append, Some, None, arith}
-use Rattle.std.specs.Prelude.{◌&&◌, ◌||◌, not, min}
+use Rattle.std.specs.Prelude.{◌&&◌, ◌||◌, ◌==◌, not, min}
 use Rattle.std.specs.Char.{IsScalar, is_control}
+use Rattle.std.specs.Int.{is_in_range}
 use Rattle.std.specs.List.{AllByRecursion}
 use Rattle.std.proofs.lemmas.List.{length-map, length-take}
 use Rattle.std.proofs.lemmas.Bool.Decides.{nat_tests}
@@ -23,7 +24,8 @@ use Rattle.prodash_line.specs.DrawnLines.{as_drawn, erases_rows, layout_of}
 use Rattle.prodash_line.specs.ProgressRows.{DrawnRow, drawn_row_line, row_lines, fitting_count, fitting, more_line, more_lines}
 use Rattle.prodash_line.specs.MessageLines.{message_lines}
 use Rattle.prodash_line.specs.Frames.{Body, Unchanged, Draws, Closes, Frame, body_lines, frame_signs}
-use Rattle.prodash_line.specs.ControlCharacters.{IsWithoutControls, HasNoControls}
+use Rattle.prodash_line.specs.UnsafeCharacters.{is_unsafe, is_bidi_control}
+use Rattle.prodash_line.specs.SafeFrames.{IsSafe, HasSafeLines}
 use Rattle.prodash_line.specs.Reading.{AreProper}
 use Rattle.prodash_line.specs.Renderer.{Renderer, Drawing, has_messages, closes_at, is_drawn, is_cursor_hidden, ending_of, drawn_rows, drawn_lines, latest_rows, remember, moment_of, drawing_at, action_at, printed_at, body_of, frame_at, Renders, frame_bytes}
 use Rattle.prodash_line.specs.Screens.{ScreenState, WritesFrame}
@@ -38,7 +40,7 @@ use Rattle.prodash_line.proofs.UnseenSigns.{IsUnseen}
 use Rattle.prodash_line.proofs.Renderings.{each}
 use Rattle.prodash_line.proofs.ErasedPages.{IsLow, EndsUnseen, NoneLeft, ErasesRows, shows_frame}
 use Rattle.prodash_line.proofs.WholeTexts.{shows_whole}
-use Rattle.prodash_line.proofs.WithoutControls.{clean_frame}
+use Rattle.prodash_line.proofs.SafeFrames.{clean_frame}
 
 first_true : (a b : Bool) → (a && b) ≡ true → a ≡ true
 first_true true b e = refl
@@ -140,22 +142,30 @@ none_printed r (Quit at) c e = refl
 
 -- ---- characters
 
--- scalar values that are no control characters are proper
-chars_proper : (text : List ℕ) → AllByRecursion IsScalar text → AllByRecursion (λ c. is_control c ≡ false) text → IsProperText text
-chars_proper [] scalars clean = tt
-chars_proper (c ∷ text) scalars clean = ((scalars.0, clean.0), chars_proper text scalars.1 clean.1)
+first_fails : (a b : Bool) → (a || b) ≡ false → a ≡ false
+first_fails false b e = refl
+first_fails true b e = e
 
-line_proper : (line : Line) → AllByRecursion IsScalar (line_text line) → IsWithoutControls line → IsProperLine line
+-- a safe character is no control character
+no_control : (c : ℕ) → is_unsafe c ≡ false → is_control c ≡ false
+no_control c e = first_fails (is_control c) (is_bidi_control c || is_in_range 0x2028 0x2029 c || c == 0xFEFF) e
+
+-- scalar values that are safe are proper
+chars_proper : (text : List ℕ) → AllByRecursion IsScalar text → AllByRecursion (λ c. is_unsafe c ≡ false) text → IsProperText text
+chars_proper [] scalars clean = tt
+chars_proper (c ∷ text) scalars clean = ((scalars.0, no_control c clean.0), chars_proper text scalars.1 clean.1)
+
+line_proper : (line : Line) → AllByRecursion IsScalar (line_text line) → IsSafe line → IsProperLine line
 line_proper [] scalars clean = tt
 line_proper (p ∷ ps) scalars clean =
     let parts = AllByRecursion-parts IsScalar p.text (line_text ps) scalars in
     (chars_proper p.text parts.0 clean.0, line_proper ps parts.1 clean.1)
 
-lines_proper : (lines : List Line) → AllByRecursion (λ line. AllByRecursion IsScalar (line_text line)) lines → AllByRecursion IsWithoutControls lines → AllByRecursion IsProperLine lines
+lines_proper : (lines : List Line) → AllByRecursion (λ line. AllByRecursion IsScalar (line_text line)) lines → AllByRecursion IsSafe lines → AllByRecursion IsProperLine lines
 lines_proper [] scalars clean = tt
 lines_proper (line ∷ lines) scalars clean = (line_proper line scalars.0 clean.0, lines_proper lines scalars.1 clean.1)
 
-pub has_proper : (f : Frame) → HasScalars f → HasNoControls f → HasProperLines f
+pub has_proper : (f : Frame) → HasScalars f → HasSafeLines f → HasProperLines f
 has_proper f scalars clean =
     let parts = AllByRecursion-parts (λ line. AllByRecursion IsScalar (line_text line)) f.messages (body_lines [] f.body) scalars in
     record { messages = lines_proper f.messages parts.0 clean.messages; drawn = lines_proper (body_lines [] f.body) parts.1 clean.drawn }

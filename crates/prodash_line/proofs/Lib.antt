@@ -43,7 +43,8 @@ pub mod StyleParameters
 pub mod TerminalRows
 pub mod UnseenSigns
 pub mod WholeTexts
-pub mod WithoutControls
+pub mod SafeFrames
+pub mod WorkedCharacters
 pub mod WorkedCuts
 pub mod WorkedFrames
 pub mod WorkedPages

@@ -1,20 +1,20 @@
--- Texts and lines as they are drawn: without control characters if the renderer is defensive, in colour or not, and cut at the width of a
+-- Texts and lines as they are drawn: without unsafe characters if the renderer is defensive, in colour or not, and cut at the width of a
 -- terminal; and how frames are laid out.
 use Rattle.std.specs.Prelude.{ℕ, Bool, ◌&&◌, List, map, chars, Option, if◌then◌else◌}
-use Rattle.std.specs.Char.{is_control}
 use Rattle.std.specs.Bool.{then_some}
 use Rattle.prodash_line.specs.declared.render.line.draw.input.Options.{Options}
+use Rattle.prodash_line.specs.UnsafeCharacters.{is_unsafe}
 use Rattle.prodash_line.specs.Lines.{Line, cut, in_color}
 use Rattle.prodash_line.specs.declared.render.line.draw.layout.Layout.{Layout}
 use Rattle.prodash_line.specs.declared.render.line.draw.layout.Layout.TheVariants.{Overwriting, Erasing}
 
--- a character of a text in a defensive frame: U+FFFD in place of a control character
-abbrev pub without_control : ℕ → ℕ
-without_control c = if is_control c then 0xFFFD else c
+-- a character of a text in a defensive frame: U+FFFD in place of an unsafe character
+abbrev pub safe_char : ℕ → ℕ
+safe_char c = if is_unsafe c then 0xFFFD else c
 
--- the characters of a text as they are drawn: by a defensive renderer without control characters
+-- the characters of a text as they are drawn: by a defensive renderer without unsafe characters
 abbrev pub drawn_chars : Bool → List ℕ → List ℕ
-drawn_chars defensive text = if defensive then map without_control (chars text) else chars text
+drawn_chars defensive text = if defensive then map safe_char (chars text) else chars text
 
 -- the columns to which lines are cut: those of the terminal; on an output that is none, lines are whole
 abbrev pub limit_of : Options → Option ℕ

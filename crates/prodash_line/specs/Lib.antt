@@ -2,6 +2,7 @@ pub mod Styles
 pub mod Signs
 pub mod Lines
 pub mod TextStyles
+pub mod UnsafeCharacters
 pub mod DrawnLines
 pub mod Frames
 pub mod ProgressRows
@@ -18,7 +19,7 @@ pub mod Shows
 pub mod Fits
 pub mod Renderings
 pub mod ErasedPages
-pub mod ControlCharacters
+pub mod SafeFrames
 pub mod Dimensions
 pub mod Environments
 pub mod plumbing

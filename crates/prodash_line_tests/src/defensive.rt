@@ -101,9 +101,9 @@ const PLAIN: &[Drawing] = &[
 /// A task whose name clears a terminal.
 const CLEARING: Task = ("a\x1b[2J", None);
 
-/// Frames of texts that have control characters.
+/// Frames of texts that have unsafe characters.
 #[rattlefmt::skip]
-const CONTROLS: &[Drawing] = &[
+const UNSAFE: &[Drawing] = &[
     // names, origins, messages and units
     Drawing((40, 20), &[
         (Show(&[CLEARING]), Ok("\r\x1b[2K a\u{FFFD}[2J\n\x1b[J\x1b[1A")),
@@ -114,7 +114,23 @@ const CONTROLS: &[Drawing] = &[
     Drawing((20, 20), &[
         (Measure(Kind::Label("i\x1bt"), 2, None), Ok("\r\x1b[2K t 2 i\u{FFFD}t [  ===   =]\n\x1b[J\x1b[1A")),
     ]),
-    // a row has changed if only its control characters have
+    // bidi controls, separators, and the byte order mark
+    Drawing((40, 20), &[
+        (Show(&[("\u{61C}\u{200E}\u{200F}\u{202A}\u{202B}\u{202C}\u{202D}\u{202E}", None)]),
+            Ok("\r\x1b[2K \u{FFFD}\u{FFFD}\u{FFFD}\u{FFFD}\u{FFFD}\u{FFFD}\u{FFFD}\u{FFFD}\n\x1b[J\x1b[1A")),
+        (Show(&[("\u{2066}\u{2067}\u{2068}\u{2069}\u{2028}\u{2029}\u{FEFF}", None)]),
+            Ok("\r\x1b[2K \u{FFFD}\u{FFFD}\u{FFFD}\u{FFFD}\u{FFFD}\u{FFFD}\u{FFFD}\n\x1b[J\x1b[1A")),
+        (PrintHidden(&[("a\u{202E}", "b\u{2066}c")], &[]), Ok("\r\x1b[2K a\u{FFFD} b\u{FFFD}c\n\x1b[J")),
+    ]),
+    Drawing((20, 20), &[
+        (Measure(Kind::Label("i\u{202E}t"), 2, None), Ok("\r\x1b[2K t 2 i\u{FFFD}t [  ===   =]\n\x1b[J\x1b[1A")),
+    ]),
+    // the characters before and after each range of them are kept
+    Drawing((40, 20), &[
+        (Show(&[("\u{61B}\u{61D}\u{200D}\u{2010}\u{2027}\u{202F}\u{2065}\u{206A}\u{FEFE}\u{FF00}", None)]),
+            Ok("\r\x1b[2K \u{61B}\u{61D}\u{200D}\u{2010}\u{2027}\u{202F}\u{2065}\u{206A}\u{FEFE}\u{FF00}\n\x1b[J\x1b[1A")),
+    ]),
+    // a row has changed if only its unsafe characters have
     Drawing((40, 20), &[
         (Show(&[("a\t", None)]), Ok("\r\x1b[2K a\u{FFFD}\n\x1b[J\x1b[1A")),
         (Show(&[("a\n", None)]), Ok("\r\x1b[2K a\u{FFFD}\n\x1b[J\x1b[1A")),
@@ -137,6 +153,7 @@ const KEPT: &[Drawing] = &[
     ]),
     Drawing((20, 20), &[(Measure(Kind::Label("i\x1bt"), 2, None), Ok(" t 2 i\x1bt [  ===   =]\n\x1b[1A"))]),
     Drawing((20, 20), &[(Show(&[("\r\n", THREE_OF_TEN)]), Ok(" \r\n 3/10 [==>-------]\n\x1b[1A"))]),
+    Drawing((20, 20), &[(Show(&[("a\u{202E}b\u{2028}\u{FEFF}", None)]), Ok(" a\u{202E}b\u{2028}\u{FEFF}\n\x1b[1A"))]),
 ];
 
 /// Inputs, and how many bytes the frame of each has, defensive and not: fewer where lines shrink,
@@ -185,12 +202,12 @@ fn only_terminals_have_defensive_frames(rt: HostRuntime) {
 }
 
 #[test]
-fn defensive_frames_have_no_control_characters_of_texts(rt: HostRuntime) {
-    assert_draws_with(&rt, rt.alloc(), DEFENSIVE, CONTROLS)
+fn defensive_frames_have_no_unsafe_characters_of_texts(rt: HostRuntime) {
+    assert_draws_with(&rt, rt.alloc(), DEFENSIVE, UNSAFE)
 }
 
 #[test]
-fn other_frames_keep_control_characters(rt: HostRuntime) {
+fn other_frames_keep_unsafe_characters(rt: HostRuntime) {
     assert_draws(&rt, rt.alloc(), KEPT)
 }
 

@@ -4,7 +4,7 @@ ghost use Rattle.prodash_line.specs.Screens.{WritesFrame, BreaksDuring};
 ghost use Rattle.prodash_line.specs.Renderer.{RendersOn};
 ghost use Rattle.prodash_line.specs.plumbing.FrameWriting.{begun, broken, resize_to, tick_seeing};
 ghost use Rattle.prodash_line.specs.ErasedPages.{ErasesPagesOn};
-ghost use Rattle.prodash_line.specs.ControlCharacters.{DrawsNoControlsOn};
+ghost use Rattle.prodash_line.specs.SafeFrames.{DrawsSafelyOn};
 
 mod action;
 mod bar;
@@ -92,8 +92,8 @@ pub fn all<S: Screen>(
     // Every page shows a frame that erases the rows that it writes on.
     ensures page { ErasesPagesOn S.state state.old input screen.old result screen.new }
 
-    // No line of a defensive frame has a control character.
-    ensures controls { DrawsNoControlsOn S.state state.old input screen.old result screen.new }
+    // No line of a defensive frame has an unsafe character.
+    ensures safe { DrawsSafelyOn S.state state.old input screen.old result screen.new }
 {
     if let Some(refusal) = state.ended() {
         return Err(refusal);

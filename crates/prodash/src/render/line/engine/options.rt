@@ -31,8 +31,9 @@ pub struct Options {
     /// them, and draws no more rows than the terminal has. Then nothing is left on screen of what
     /// other programs print between two frames, or of a terminal whose size has changed.
     ///
-    /// Also whether U+FFFD is written in place of each control character of a name, an origin, a
-    /// message or a text of a unit, on a terminal or not.
+    /// Also whether U+FFFD is written in place of each unsafe character of a name, an origin, a
+    /// message or a text of a unit, on a terminal or not: of each control character, each
+    /// character with Unicode's property Bidi_Control, U+2028, U+2029 and U+FEFF.
     pub defensive: bool,
     /// Whether rows show the throughput of values whose unit asks for it.
     pub throughput: bool,

@@ -4,7 +4,7 @@ use Rattle.prodash_core.proofs.RunLaws.{completes_more, completes_all, pushed_is
 use Rattle.prodash_core.proofs.AcceptedMessages.{rings_of_prefixes}
 use Rattle.prodash_line.proofs.Renderings.{writes_attempts, breaks_exactly, flushes_each, stays_flushed}
 use Rattle.prodash_line.proofs.ErasedRenderings.{erases_each}
-use Rattle.prodash_line.proofs.WithoutControls.{draws_no_controls_each}
+use Rattle.prodash_line.proofs.SafeFrames.{draws_safely_each}
 use Rattle.prodash_line.proofs.ErasedPrefixes.{shows_erasing}
 use Rattle.prodash_line.proofs.PageRenderings.{shows_on_page}
 use Rattle.prodash_core.proofs.tree.runs.run.Goals as goal
@@ -35,6 +35,6 @@ returns-clause-ok g c =
       page = λ page above. shows_on_page _ _ _ _ above page renders refl refl (omega arith);
       erases = erases_each _ _ _ _ renders;
       erased = λ page. shows_erasing _ _ _ _ page renders refl refl;
-      controls = draws_no_controls_each _ _ _ _ renders;
+      safe = draws_safely_each _ _ _ _ renders;
       flushed = stays_flushed _ _ _ _ renders;
     }

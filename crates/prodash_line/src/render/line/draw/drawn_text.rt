@@ -1,8 +1,8 @@
-//! Texts as they are drawn: by a defensive renderer without control characters.
+//! Texts as they are drawn: by a defensive renderer without unsafe characters.
 ghost use Rattle.std.specs.Prelude.{◌≡◌, chars, IfOk};
 ghost use Rattle.std.specs.List.{list_any};
-ghost use Rattle.std.specs.Char.{is_control};
-ghost use Rattle.prodash_line.specs.DrawnLines.{without_control, drawn_chars};
+ghost use Rattle.prodash_line.specs.DrawnLines.{safe_char, drawn_chars};
+ghost use Rattle.prodash_line.specs.UnsafeCharacters.{is_unsafe};
 ghost use Rattle.prodash_line.specs.plumbing.Writing.{IsMeasured};
 
 use crate::render::line::draw::text::{printable_width, text_width};
@@ -16,21 +16,35 @@ pub(crate) struct DrawnText<'a> {
     pub(crate) width: u16,
 }
 
-/// Whether a text has a control character.
-fn has_control(text: &str) -> bool
-    ensures { result ≡ list_any is_control (chars text.now) }
+/// Whether a character could change what is shown of other text, or can't be seen: a control
+/// character, one with Unicode's property Bidi_Control, the line separator, the paragraph
+/// separator, or the byte order mark.
+fn is_unsafe(c: char) -> bool
+    ensures { result ≡ is_unsafe c }
 {
-    text.chars().any(|c| c.is_control())
+    match c {
+        '\u{61C}' | '\u{200E}'..='\u{200F}' => true,
+        '\u{202A}'..='\u{202E}' | '\u{2066}'..='\u{2069}' => true,
+        '\u{2028}'..='\u{2029}' | '\u{FEFF}' => true,
+        _ => c.is_control(),
+    }
 }
 
-/// Returns U+FFFD in place of a control character, and any other character itself.
-fn without_control(c: char) -> char
-    ensures { result ≡ without_control c }
+/// Whether a text has an unsafe character.
+fn has_unsafe(text: &str) -> bool
+    ensures { result ≡ list_any is_unsafe (chars text.now) }
 {
-    if c.is_control() { '\u{FFFD}' } else { c }
+    text.chars().any(is_unsafe)
 }
 
-/// Returns a text as it is drawn. A defensive renderer draws U+FFFD in place of each control
+/// Returns U+FFFD in place of an unsafe character, and any other character itself.
+fn safe_char(c: char) -> char
+    ensures { result ≡ safe_char c }
+{
+    if is_unsafe(c) { '\u{FFFD}' } else { c }
+}
+
+/// Returns a text as it is drawn. A defensive renderer draws U+FFFD in place of each unsafe
 /// character; such a text is written to `replaced`. Fails if out of memory.
 #[inline(always)]
 pub(crate) fn drawn_text<'a>(
@@ -58,7 +72,7 @@ fn drawn_other_text<'a>(
     ensures text { IfOk result (λ drawn. chars drawn.text.now ≡ drawn_chars defensive text.now) }
     ensures width { IfOk result IsMeasured }
 {
-    if !defensive || !has_control(text) {
+    if !defensive || !has_unsafe(text) {
         return Ok(DrawnText {
             text,
             width: text_width(text),
@@ -66,7 +80,7 @@ fn drawn_other_text<'a>(
     }
     replaced.clear();
     for c in text.chars() {
-        replaced.push(without_control(c))?;
+        replaced.push(safe_char(c))?;
     }
     let drawn = replaced.as_str();
     Ok(DrawnText {

@@ -1,7 +1,7 @@
 use Rattle.std.proofs.Common.{◌≡◌, map, string_bytes}
 use Rattle.std.specs.Str.{encode_utf8_all}
-use Rattle.prodash_line.specs.DrawnLines.{without_control}
+use Rattle.prodash_line.specs.DrawnLines.{safe_char}
 use Rattle.prodash_line.proofs.render.line.draw.drawn_text.drawn_other_text.Given as goal
 
 abbrev pub invariant-loop-c : goal.invariant-loop-c
-invariant-loop-c l = string_bytes l.replaced ≡ encode_utf8_all (map without_control l.yielded)
+invariant-loop-c l = string_bytes l.replaced ≡ encode_utf8_all (map safe_char l.yielded)

@@ -1,8 +1,8 @@
--- The lines that a defensive renderer draws: none has a control character.
+-- The lines that a defensive renderer draws: none has an unsafe character.
 use Rattle.std.proofs.Common.{◌≡◌, ℕ, Result, Ok, Err, zero, suc, ◌+◌, ◌-◌, ◌/◌, ◌%◌, ◌<◌, Bool, true, false, cond, ◌==◌, nat_eq, nat_lt, nat_le, List, [], ◌∷◌, ◌++◌, length, chars, map, take, replicate, refl, sym, subst, ◌∙◌, Option, Some, None, arith}
 use Rattle.std.specs.Prelude.{◌||◌, codes}
 use Rattle.std.specs.List.{AllByRecursion}
-use Rattle.std.specs.Char.{is_control}
+use Rattle.prodash_line.specs.UnsafeCharacters.{is_unsafe}
 use Rattle.std.specs.Int.{is_in_range}
 use Rattle.std.specs.Fmt.{decimal, digits, digits_onto, digit_glyph}
 use Rattle.std.proofs.lemmas.Bool.Decides.{nat_tests}
@@ -23,12 +23,12 @@ use Rattle.prodash_line.specs.declared.render.line.draw.action.Action.TheVariant
 use Rattle.prodash_line.specs.declared.render.line.page.sign.Sign.{Sign}
 use Rattle.prodash_line.specs.declared.render.line.page.style.Style.{Style}
 use Rattle.prodash_line.specs.Lines.{Piece, Line, styled, in_color, width_of, columns_of, longest_prefix_of, longest_prefix, cut_to, cut}
-use Rattle.prodash_line.specs.DrawnLines.{without_control, drawn_chars, limit_of, as_drawn}
+use Rattle.prodash_line.specs.DrawnLines.{safe_char, drawn_chars, limit_of, as_drawn}
 use Rattle.prodash_line.specs.ProgressRows.{DrawnRow, fraction_of, values_by, numbered_cell, bounded_bar, unbounded_bar, bar, padded, row_line_with, row_lines, more_line, more_lines}
 use Rattle.prodash_line.specs.TextStyles.{row_style}
 use Rattle.prodash_line.specs.MessageLines.{time_of, text_of, message_line, message_lines, origin_width, greatest_width}
 use Rattle.prodash_line.specs.Frames.{body_lines}
-use Rattle.prodash_line.specs.ControlCharacters.{IsWithoutControls, HasNoControls, DrawsNoControls, DrawsNoControlsOf}
+use Rattle.prodash_line.specs.SafeFrames.{IsSafe, HasSafeLines, DrawsSafely, DrawsSafelyOf}
 use Rattle.prodash_line.specs.Renderer.{Renderer, Drawing, drawn_rows, fitting_rows, drawn_lines, latest_rows, remember, moment_of, drawing_at, action_at, printed_at, ending_of, body_of, Renders, frame_at}
 use Rattle.prodash_line.specs.Renderings.{Rendering, RendersEach, renderer_after}
 use Rattle.prodash_line.specs.plumbing.RenderedInputs.{RendersAll}
@@ -40,34 +40,34 @@ use Rattle.prodash_line.proofs.Renderings.{each}
 
 -- ---- texts
 
--- no character of a text is a control character
+-- no character of a text is an unsafe character
 abbrev Clean : List ℕ → Type 0
-Clean text = AllByRecursion (λ c. is_control c ≡ false) text
+Clean text = AllByRecursion (λ c. is_unsafe c ≡ false) text
 
 both : (xs ys : List ℕ) → Clean xs → Clean ys → Clean (xs ++ ys)
-both xs ys h i = AllByRecursion-append (λ c. is_control c ≡ false) xs ys h i
+both xs ys h i = AllByRecursion-append (λ c. is_unsafe c ≡ false) xs ys h i
 
-copies : (n c : ℕ) → is_control c ≡ false → Clean (replicate n c)
-copies n c h = AllByRecursion-replicate (λ c. is_control c ≡ false) n c h
+copies : (n c : ℕ) → is_unsafe c ≡ false → Clean (replicate n c)
+copies n c h = AllByRecursion-replicate (λ c. is_unsafe c ≡ false) n c h
 
 either : (b : Bool) (xs ys : List ℕ) → Clean xs → Clean ys → Clean (cond b xs ys)
 either true xs ys h i = h
 either false xs ys h i = i
 
-replaced : (c : ℕ) (b : Bool) → is_control c ≡ b → is_control (cond b 0xFFFD c) ≡ false
+replaced : (c : ℕ) (b : Bool) → is_unsafe c ≡ b → is_unsafe (cond b 0xFFFD c) ≡ false
 replaced c true e = refl
 replaced c false e = e
 
-all_replaced : (text : List ℕ) → Clean (map without_control text)
+all_replaced : (text : List ℕ) → Clean (map safe_char text)
 all_replaced [] = tt
-all_replaced (c ∷ text) = (replaced c (is_control c) refl, all_replaced text)
+all_replaced (c ∷ text) = (replaced c (is_unsafe c) refl, all_replaced text)
 
 drawn_clean : (defensive : Bool) (text : List ℕ) → defensive ≡ true → Clean (drawn_chars defensive text)
 drawn_clean true text e = all_replaced (chars text)
 drawn_clean false text e = cc
 
 -- printable characters are none
-printable_char : (c : ℕ) → is_in_range 0x20 0x7E c ≡ true → is_control c ≡ false
+printable_char : (c : ℕ) → is_in_range 0x20 0x7E c ≡ true → is_unsafe c ≡ false
 printable_char c e = grind (arith, nat_tests, e)
 
 pub printable_clean : (text : List ℕ) → is_printable text ≡ true → Clean text
@@ -92,7 +92,7 @@ printable-time at =
     (printable-append (last_digits 2 minutes) last (printable-last_digits 2 minutes)
     (printable-append (codes ":") (last_digits 2 seconds) refl (printable-last_digits 2 seconds))))
 
-digit_clean : (d : ℕ) → d < 10 → is_control (digit_glyph false d) ≡ false
+digit_clean : (d : ℕ) → d < 10 → is_unsafe (digit_glyph false d) ≡ false
 digit_clean d h = grind (arith, nat_tests)
 
 digits_clean : (k n : ℕ) (text : List ℕ) → Clean text → Clean (digits_onto k 10 false n text)
@@ -110,7 +110,7 @@ fraction_clean : (step : ℕ) (bound : Option ℕ) → Clean (fraction_of step b
 fraction_clean step None = decimal_clean step
 fraction_clean step (Some bound) = both (decimal step) (codes "/" ++ decimal bound) (decimal_clean step) (refl, decimal_clean bound)
 
-cell_clean : (b : Bool) → is_control (cond b 61 32) ≡ false
+cell_clean : (b : Bool) → is_unsafe (cond b 61 32) ≡ false
 cell_clean true = refl
 cell_clean false = refl
 
@@ -122,7 +122,7 @@ prefix_clean : (columns : ℕ) (text : List ℕ) (k : ℕ) → Clean text → Cl
 prefix_clean columns text zero h = tt
 prefix_clean columns text (suc k) h =
     either (nat_le (width_of (styled None (take (suc k) text))) columns) (take (suc k) text) (longest_prefix_of columns text k)
-    (AllByRecursion-take (λ c. is_control c ≡ false) (suc k) text h) (prefix_clean columns text k h)
+    (AllByRecursion-take (λ c. is_unsafe c ≡ false) (suc k) text h) (prefix_clean columns text k h)
 
 longest_clean : (columns : ℕ) (text : List ℕ) → Clean text → Clean (longest_prefix columns text)
 unfolding longest_prefix
@@ -130,46 +130,46 @@ longest_clean columns text h = prefix_clean columns text (length text) h
 
 -- ---- lines as they are drawn
 
-in_color_clean : (colored : Bool) (line : Line) → IsWithoutControls line → IsWithoutControls (in_color colored line)
+in_color_clean : (colored : Bool) (line : Line) → IsSafe line → IsSafe (in_color colored line)
 in_color_clean colored [] h = tt
 in_color_clean colored (p ∷ ps) h = (h.0, in_color_clean colored ps h.1)
 
-kept_or_cut : (b : Bool) (p : Piece) (text : List ℕ) (line : Line) → Clean p.text → Clean text → IsWithoutControls line → IsWithoutControls (cond b (p ∷ line) (styled p.style text ∷ []))
+kept_or_cut : (b : Bool) (p : Piece) (text : List ℕ) (line : Line) → Clean p.text → Clean text → IsSafe line → IsSafe (cond b (p ∷ line) (styled p.style text ∷ []))
 kept_or_cut true p text line h i hs = (h, hs)
 kept_or_cut false p text line h i hs = (i, tt)
 
-cut_to_clean : (columns : ℕ) (line : Line) → IsWithoutControls line → IsWithoutControls (cut_to columns line)
+cut_to_clean : (columns : ℕ) (line : Line) → IsSafe line → IsSafe (cut_to columns line)
 cut_to_clean columns [] h = tt
 cut_to_clean columns (p ∷ ps) h =
     kept_or_cut (nat_le (width_of p) columns) p (longest_prefix columns p.text) (cut_to (columns - width_of p) ps) h.0 (longest_clean columns p.text h.0) (cut_to_clean (columns - width_of p) ps h.1)
 
-cut_clean : (limit : Option ℕ) (line : Line) → IsWithoutControls line → IsWithoutControls (cut limit line)
+cut_clean : (limit : Option ℕ) (line : Line) → IsSafe line → IsSafe (cut limit line)
 cut_clean None line h = h
 cut_clean (Some columns) line h = cut_to_clean columns line h
 
-as_drawn_clean : (options : Options) (line : Line) → IsWithoutControls line → IsWithoutControls (as_drawn options line)
+as_drawn_clean : (options : Options) (line : Line) → IsSafe line → IsSafe (as_drawn options line)
 as_drawn_clean options line h = cut_clean (limit_of options) (in_color options.colored line) (in_color_clean options.colored line h)
 
-pieces : (xs ys : Line) → IsWithoutControls xs → IsWithoutControls ys → IsWithoutControls (xs ++ ys)
-pieces xs ys h i = AllByRecursion-append (λ p. AllByRecursion (λ c. is_control c ≡ false) p.text) xs ys h i
+pieces : (xs ys : Line) → IsSafe xs → IsSafe ys → IsSafe (xs ++ ys)
+pieces xs ys h i = AllByRecursion-append (λ p. AllByRecursion (λ c. is_unsafe c ≡ false) p.text) xs ys h i
 
 -- ---- rows
 
-values_clean : (defensive : Bool) (unit : Option Measure) (p : RowProgress) (t : Option Throughput) → defensive ≡ true → IsWithoutControls (values_by defensive unit p t)
+values_clean : (defensive : Bool) (unit : Option Measure) (p : RowProgress) (t : Option Throughput) → defensive ≡ true → IsSafe (values_by defensive unit p t)
 values_clean defensive None p t e = (fraction_clean p.counter p.bound, tt)
 values_clean defensive (Some unit) p t e = (drawn_clean defensive _ e, ((refl, tt), (drawn_clean defensive _ e, tt)))
 
-one_or_none : (b : Bool) (line : Line) → IsWithoutControls line → IsWithoutControls (cond b [] line)
+one_or_none : (b : Bool) (line : Line) → IsSafe line → IsSafe (cond b [] line)
 one_or_none true line h = tt
 one_or_none false line h = h
 
-bar_clean : (style : Style) (columns step : ℕ) (bound : Option ℕ) → IsWithoutControls (bar style columns step bound)
+bar_clean : (style : Style) (columns step : ℕ) (bound : Option ℕ) → IsSafe (bar style columns step bound)
 bar_clean style columns step None = one_or_none (columns == 0) (unbounded_bar style columns step) ((refl, (refl, tt)), (cells_clean _, ((refl, tt), tt)))
 bar_clean style columns step (Some bound) = one_or_none (columns == 0) (bounded_bar style columns step bound)
     ((refl, (refl, tt)), (copies _ 61 refl, ((refl, tt), (copies _ 45 refl, ((refl, tt), tt)))))
 
 row_clean : (defensive : Bool) (width midpoint : ℕ) (row : PathRow) (progress : Option RowProgress) (t : Option Throughput) → defensive ≡ true
-    → IsWithoutControls (row_line_with defensive width midpoint row progress t)
+    → IsSafe (row_line_with defensive width midpoint row progress t)
 row_clean defensive width midpoint row None t e = (copies _ 32 refl, (drawn_clean defensive row.1.name e, tt))
 row_clean defensive width midpoint row (Some p) t e =
     let values = padded defensive midpoint row p t in
@@ -177,39 +177,39 @@ row_clean defensive width midpoint row (Some p) t e =
     (copies _ 32 refl, (drawn_clean defensive row.1.name e, ((refl, tt), (copies _ 32 refl, values_clean defensive p.unit p t e))))
     (bar_clean (row_style p) (width - columns_of values) p.counter p.bound)
 
-rows_clean : (options : Options) (midpoint : ℕ) (rows : List DrawnRow) → options.defensive ≡ true → AllByRecursion IsWithoutControls (row_lines options midpoint rows)
+rows_clean : (options : Options) (midpoint : ℕ) (rows : List DrawnRow) → options.defensive ≡ true → AllByRecursion IsSafe (row_lines options midpoint rows)
 rows_clean options midpoint [] e = tt
 rows_clean options midpoint (row ∷ rows) e =
     (as_drawn_clean options _ (row_clean options.defensive options.terminal_dimensions.0 midpoint row.0 row.0.1.progress row.1 e), rows_clean options midpoint rows e)
 
-none_or_one : (b : Bool) (line : Line) → IsWithoutControls line → AllByRecursion IsWithoutControls (cond b [] (line ∷ []))
+none_or_one : (b : Bool) (line : Line) → IsSafe line → AllByRecursion IsSafe (cond b [] (line ∷ []))
 none_or_one true line h = tt
 none_or_one false line h = (h, tt)
 
-more_clean : (options : Options) (n : ℕ) → AllByRecursion IsWithoutControls (more_lines options n)
+more_clean : (options : Options) (n : ℕ) → AllByRecursion IsSafe (more_lines options n)
 more_clean options n =
     none_or_one (nat_eq n 0 || nat_lt options.terminal_dimensions.1 2) (as_drawn options (more_line n))
     (as_drawn_clean options (more_line n) ((refl, (refl, (refl, (refl, (refl, (refl, (refl, tt))))))), (decimal_clean n, ((refl, (refl, (refl, (refl, (refl, tt))))), tt))))
 
-lines_clean : (r : Renderer) (at : ℕ) (rows : List PathRow) → r.options.defensive ≡ true → AllByRecursion IsWithoutControls (drawn_lines r at rows)
+lines_clean : (r : Renderer) (at : ℕ) (rows : List PathRow) → r.options.defensive ≡ true → AllByRecursion IsSafe (drawn_lines r at rows)
 lines_clean r at rows e =
     let more = length (drawn_rows r at rows) - length (fitting_rows r at rows) in
-    AllByRecursion-append IsWithoutControls (row_lines r.options r.midpoint (fitting_rows r at rows)) (more_lines r.options more)
+    AllByRecursion-append IsSafe (row_lines r.options r.midpoint (fitting_rows r at rows)) (more_lines r.options more)
     (rows_clean r.options r.midpoint (fitting_rows r at rows) e) (more_clean r.options more)
 
 -- ---- messages
 
-time_clean : (timestamp : Bool) (m : Message) → IsWithoutControls (time_of timestamp m)
+time_clean : (timestamp : Bool) (m : Message) → IsSafe (time_of timestamp m)
 time_clean true m = (subst Clean (sym (chars-printable (time_text m.time) (printable-time m.time))) (printable_clean (time_text m.time) (printable-time m.time)), ((refl, tt), tt))
 time_clean false m = tt
 
-text_clean : (defensive : Bool) (width : ℕ) (m : Message) → defensive ≡ true → IsWithoutControls (text_of defensive width m)
+text_clean : (defensive : Bool) (width : ℕ) (m : Message) → defensive ≡ true → IsSafe (text_of defensive width m)
 text_clean defensive width m e = (
   both (replicate (width - origin_width defensive m.origin) 32) (drawn_chars defensive m.origin) (copies _ 32 refl) (drawn_clean defensive m.origin e),
   ((refl, tt), (drawn_clean defensive m.message e, tt)),
 )
 
-messages_clean : (options : Options) (widths : List ℕ) (messages : List Message) → options.defensive ≡ true → AllByRecursion IsWithoutControls (message_lines options widths messages)
+messages_clean : (options : Options) (widths : List ℕ) (messages : List Message) → options.defensive ≡ true → AllByRecursion IsSafe (message_lines options widths messages)
 messages_clean options widths [] e = tt
 messages_clean options widths (m ∷ messages) e =
     let all = widths ++ origin_width options.defensive m.origin ∷ [] in (
@@ -223,13 +223,13 @@ messages_clean options widths (m ∷ messages) e =
 
 -- ---- frames
 
-printed_clean : (r : Renderer) (input : Input) → r.options.defensive ≡ true → AllByRecursion IsWithoutControls (printed_at r input)
+printed_clean : (r : Renderer) (input : Input) → r.options.defensive ≡ true → AllByRecursion IsSafe (printed_at r input)
 printed_clean r (Tick at show (Some seen)) e = messages_clean r.options r.origin_widths seen.1 e
 printed_clean r (Tick at show None) e = tt
 printed_clean r (Resize at show columns height) e = tt
 printed_clean r (Quit at) e = tt
 
-body_clean : (action : Action) (drawing : Drawing) (ending : List Sign) → AllByRecursion IsWithoutControls drawing.lines → AllByRecursion IsWithoutControls (body_lines [] (body_of action drawing ending))
+body_clean : (action : Action) (drawing : Drawing) (ending : List Sign) → AllByRecursion IsSafe drawing.lines → AllByRecursion IsSafe (body_lines [] (body_of action drawing ending))
 body_clean Leave drawing ending h = tt
 body_clean Redraw drawing ending h = h
 body_clean Erase drawing ending h = tt
@@ -241,7 +241,7 @@ defensive_still r (Tick at show None) = refl
 defensive_still r (Resize at show columns height) = refl
 defensive_still r (Quit at) = refl
 
-pub clean_frame : (r : Renderer) (input : Input) → r.options.defensive ≡ true → HasNoControls (frame_at r input)
+pub clean_frame : (r : Renderer) (input : Input) → r.options.defensive ≡ true → HasSafeLines (frame_at r input)
 clean_frame r input e =
     let r' = remember r input in
     let still : r'.options.defensive ≡ true = defensive_still r input ∙ e in
@@ -250,10 +250,10 @@ clean_frame r input e =
       drawn = body_clean (action_at r input) (drawing_at r input) (ending_of r) (lines_clean r' (moment_of input) (latest_rows r'.last_rows) still);
     }
 
-pub draws_no_controls : (r : Renderer) (input : Input) (s : ScreenState) (result : Result Answer Refusal) (r' : Renderer) (s' : ScreenState) → Renders r input s result r' s' → DrawsNoControls r input s result s'
-draws_no_controls r input s (Ok answer) r' s' h = λ e. record { written = h.screen.bytes; clean = clean_frame r input e }
-draws_no_controls r input s (Err refusal) r' s' h = tt
+pub draws_safely : (r : Renderer) (input : Input) (s : ScreenState) (result : Result Answer Refusal) (r' : Renderer) (s' : ScreenState) → Renders r input s result r' s' → DrawsSafely r input s result s'
+draws_safely r input s (Ok answer) r' s' h = λ e. record { written = h.screen.bytes; clean = clean_frame r input e }
+draws_safely r input s (Err refusal) r' s' h = tt
 
 -- each of a list of inputs
-pub draws_no_controls_each : (r : Renderer) (s : ScreenState) (xs : List Rendering) (s' : ScreenState) → RendersAll r s xs s' → RendersEach DrawsNoControlsOf r s xs s'
-draws_no_controls_each = each DrawsNoControlsOf (λ r s x s' h. draws_no_controls r x.input s x.result (renderer_after r x) s' h)
+pub draws_safely_each : (r : Renderer) (s : ScreenState) (xs : List Rendering) (s' : ScreenState) → RendersAll r s xs s' → RendersEach DrawsSafelyOf r s xs s'
+draws_safely_each = each DrawsSafelyOf (λ r s x s' h. draws_safely r x.input s x.result (renderer_after r x) s' h)
