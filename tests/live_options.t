@@ -13,6 +13,11 @@ An option's value is the next word, or follows `=`. If an option is repeated, th
   >   --columns 9 --columns=40 --rows 20 <one_task 2>frames
   $ grep -q 'task 3/10 \[=======>-------------------\]' frames
   $ prodash-live --terminal always --terminal never <one_task
+  $ until_shown 3/10 prodash-live --no-color --terminal always --bar-columns=20 <one_task 2>frames
+  $ grep -q 'task 3/10 \[====>------------\]' frames
+  $ until_shown 3/10 prodash-live --no-color --terminal always --bar-columns 0 <one_task 2>frames
+  $ grep 'task 3/10' frames | tail -n 1 | tr '\033' E
+  E[2K task 3/10
 
 The version, the help, and what is refused.
 
@@ -26,6 +31,7 @@ The version, the help, and what is refused.
   Options:
         --columns <N>           columns of the terminal [default: $COLUMNS, or 80]
         --rows <N>              rows of the terminal [default: $LINES, or 20]
+        --bar-columns <N>       columns of a bar at most, 0 to 65535 [default: 40]
         --fps <N>               frames in a second, 1 to 1000 [default: 6]
         --delay <MILLISECONDS>  time until rows are drawn, up to a day [default: 0]
         --no-color              no colours, as with $NO_COLOR
@@ -53,6 +59,16 @@ The version, the help, and what is refused.
   [2]
   $ prodash-live --columns=65536
   error: invalid value '65536' for '--columns', which takes a number from 1 to 65535
+  
+  For more information, try '--help'.
+  [2]
+  $ prodash-live --bar-columns many
+  error: invalid value 'many' for '--bar-columns', which takes a number from 0 to 65535
+  
+  For more information, try '--help'.
+  [2]
+  $ prodash-live --bar-columns 65536
+  error: invalid value '65536' for '--bar-columns', which takes a number from 0 to 65535
   
   For more information, try '--help'.
   [2]

@@ -23,14 +23,15 @@ been drawn before the task was added, and then it has no rows.
   \x1b[J\x1b[1A\r\x1b[2K (esc)
   \x1b[J\x1b[1A (no-eol) (esc)
 
-By default there are 80 columns, colours, and no rows if the output is no terminal.
+By default there are 80 columns, of which a bar takes at most 40, colours, and no rows if the output
+is no terminal.
 
   $ until_shown 3/10 prodash-live --fps=10 --stdout --terminal always <one_task >frames
   $ last_row
-   \x1b[1;36mtask\x1b[0m \x1b[1;2m3/10\x1b[0m [\x1b[33m===================\x1b[0m\x1b[33m>\x1b[0m\x1b[2;33m-----------------------------------------------\x1b[0m] (esc)
+   \x1b[1;36mtask\x1b[0m \x1b[1;2m3/10\x1b[0m [\x1b[33m==========\x1b[0m\x1b[33m>\x1b[0m\x1b[2;33m--------------------------\x1b[0m] (esc)
   $ until_shown 3/10 prodash-live --no-color --terminal=always <one_task 2>frames
   $ last_row
-   task 3/10 [===================>-----------------------------------------------]
+   task 3/10 [==========>--------------------------]
   $ prodash-live <one_task
   $ prodash-live --terminal never <one_task
 

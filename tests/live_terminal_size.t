@@ -57,7 +57,8 @@ shows the row drawn last before the closing frame.
 
 The environment gives the number of columns, unless an option does. It also turns colours off.
 
-  $ until_shown 3/10 env COLUMNS=100 NO_COLOR=1 prodash-live --terminal always <one_task 2>frames
+  $ until_shown 3/10 env COLUMNS=100 NO_COLOR=1 prodash-live --terminal always --bar-columns 100 \
+  >   <one_task 2>frames
   $ last_row
    task 3/10 [=========================>-------------------------------------------------------------]
   $ until_shown 3/10 env COLUMNS=100 NO_COLOR=1 prodash-live --columns 40 --terminal always \
@@ -65,10 +66,11 @@ The environment gives the number of columns, unless an option does. It also turn
   $ last_row
    task 3/10 [=======>-------------------]
   $ until_shown 3/10 env COLUMNS="$(printf '\377')" NO_COLOR="$(printf '\377')" prodash-live \
-  >   --terminal always <one_task 2>frames
+  >   --terminal always --bar-columns 100 <one_task 2>frames
   $ last_row
    task 3/10 [===================>-----------------------------------------------]
-  $ until_shown 3/10 env COLUMNS=0 NO_COLOR= prodash-live --terminal always <one_task 2>frames
+  $ until_shown 3/10 env COLUMNS=0 NO_COLOR= prodash-live --terminal always --bar-columns 100 \
+  >   <one_task 2>frames
   $ last_row
    \x1b[1;36mtask\x1b[0m \x1b[1;2m3/10\x1b[0m [\x1b[33m===================\x1b[0m\x1b[33m>\x1b[0m\x1b[2;33m-----------------------------------------------\x1b[0m] (esc)
 

@@ -37,6 +37,7 @@ default_options = record {
   terminal_dimensions = draw_defaults.terminal_dimensions;
   hide_cursor = draw_defaults.hide_cursor;
   defensive = draw_defaults.defensive;
+  bar_columns = draw_defaults.bar_columns;
   throughput = false;
   level_filter = draw_defaults.level_filter;
   initial_delay = None;

@@ -31,6 +31,7 @@ pub const TERMINAL: Options = Options {
     timestamp: false,
     hide_cursor: false,
     defensive: false,
+    bar_columns: None,
 };
 
 /// A step, and a bound if there is one.

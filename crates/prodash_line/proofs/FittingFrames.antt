@@ -61,7 +61,7 @@ drawn_within cut columns options line h =
 rows_within : (cut : Bool) (columns : ℕ) (options : Options) (midpoint : ℕ) (rows : List DrawnRow) → HasWidth cut columns options → AreWithin cut columns (row_lines options midpoint rows)
 rows_within cut columns options midpoint [] h = tt
 rows_within cut columns options midpoint (row ∷ rows) h =
-    (drawn_within cut columns options (row_line options.defensive options.terminal_dimensions.0 midpoint row) h, rows_within cut columns options midpoint rows h)
+    (drawn_within cut columns options (row_line options.defensive options.terminal_dimensions.0 options.bar_columns midpoint row) h, rows_within cut columns options midpoint rows h)
 
 none_or_within : (cut : Bool) (columns : ℕ) (b : Bool) (line : Line) → IsWithin cut columns line → AreWithin cut columns (cond b [] (line ∷ []))
 none_or_within cut columns true line h = tt

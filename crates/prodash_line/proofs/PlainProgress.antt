@@ -15,7 +15,7 @@ use Rattle.prodash_line.specs.declared.render.line.draw.line_writer.LineWriter.{
 use Rattle.prodash_line.specs.declared.render.line.draw.room.Room.TheVariants.{Columns}
 use Rattle.prodash_line.specs.declared.render.line.page.style.Style.{Style}
 use Rattle.prodash_line.specs.Lines.{Line, piece, spaces, capped, in_color}
-use Rattle.prodash_line.specs.ProgressRows.{fraction_of, fraction_values, values_by, values_of, bar, bar_with, bounded_bar, filled_cells}
+use Rattle.prodash_line.specs.ProgressRows.{fraction_of, fraction_values, values_by, values_of, bar, bar_columns, bar_with, bounded_bar, filled_cells}
 use Rattle.prodash_line.specs.TextStyles.{row_style}
 use Rattle.prodash_line.specs.plumbing.RowWriting.{end_of_values, AppendsProgress, AppendsText, OrNothing, plain_bar, plain_progress}
 use Rattle.prodash_line.specs.plumbing.Writing.{is_printable, Appends, AppendsWhole, AppendsIfRoom}
@@ -68,14 +68,19 @@ bar_on style left step bound four =
     ap (λ n. bar_with style n (filled_cells n step bound)) (let e : left - 4 ≡ left - 3 - 1 = omega arith in e)
     ∙ ap (λ b. if b then [] else bounded_bar style left step bound) (sym some)
 
+-- a bar takes no more columns than are left
+no_more : (most : Option ℕ) (left : ℕ) → bar_columns most left ≤ left
+no_more None left = omega arith
+no_more (Some most) left = grind (arith, nat_tests)
+
 -- ---- both
 
-pub appends_plain : (old new : LineWriter) (width midpoint own end left columns cells filled bound : ℕ) (text : List ℕ) (p : RowProgress)
-    → is_printable text ≡ true → columns ≡ capped (length text) → own ≡ capped (capped (old.width + 1) + columns) → end ≡ max own midpoint → left ≡ width - end → 4 ≤ left
+pub appends_plain : (old new : LineWriter) (width : ℕ) (most : Option ℕ) (midpoint own end left columns cells filled bound : ℕ) (text : List ℕ) (p : RowProgress)
+    → is_printable text ≡ true → columns ≡ capped (length text) → own ≡ capped (capped (old.width + 1) + columns) → end ≡ max own midpoint → left ≡ bar_columns most (width - end) → 4 ≤ left
     → width ≤ 65535 → p.bound ≡ Some bound → cells ≡ left - 4 → filled ≡ filled_cells cells p.counter bound → filled ≤ cells
     → AppendsWhole old (plain_progress (end - own) text cells filled) new
-    → AppendsText width midpoint text p own old new
-appends_plain old new width midpoint own end left columns cells filled bound text p h wide is last rest four short bounded ec ef within whole =
+    → AppendsText width most midpoint text p own old new
+appends_plain old new width most midpoint own end left columns cells filled bound text p h wide is last rest four short bounded ec ef within whole =
     let one : str_width false (replicate 1 32) ≡ 1 = width-spaces 1 in
     let long : str_width false text ≡ length text = width-printable text h in
     let ends : own ≡ end_of_values old.width (piece text ∷ []) = omega (arith, wide) in
@@ -88,10 +93,11 @@ appends_plain old new width midpoint own end left columns cells filled bound tex
     let both : length (before ++ after) ≡ length before + length after = length-append before after in
     let fits = whole.fits in
     let between : LineWriter = record old { bytes = old.bytes ++ before; width = capped (old.width + length before); room = Columns (whole.left - length before) } in
-    let columns_left : left ≡ width - capped (old.width + length before) = omega (arith, wide, is, last) in
-    let is_bar : bar_with (row_style p) cells filled ≡ bar (row_style p) (width - between.width) p.counter p.bound =
+    let after_text : end ≡ capped (old.width + length before) = omega (arith, wide, is, last, no_more most (width - end)) in
+    let columns_left : left ≡ bar_columns most (width - between.width) = rest ∙ ap (λ n. bar_columns most (width - n)) after_text in
+    let is_bar : bar_with (row_style p) cells filled ≡ bar (row_style p) (bar_columns most (width - between.width)) p.counter p.bound =
     ap (bar_with (row_style p) cells) ef ∙ ap (λ n. bar_with (row_style p) n (filled_cells n p.counter bound)) ec ∙ bar_on (row_style p) left p.counter bound four
-    ∙ ap (λ n. bar (row_style p) n p.counter (Some bound)) columns_left ∙ ap (bar (row_style p) (width - between.width) p.counter) (sym bounded) in
+    ∙ ap (λ n. bar (row_style p) n p.counter (Some bound)) columns_left ∙ ap (bar (row_style p) (bar_columns most (width - between.width)) p.counter) (sym bounded) in
     record {
       ends = ends;
       between = between;
@@ -122,10 +128,10 @@ drawn_as (Some own) old new draws tells f h = f own h
 spaced : (pad : ℕ) (text : List ℕ) → replicate (1 + pad) 32 ++ text ≡ replicate 1 32 ++ (replicate pad 32 ++ text)
 spaced pad text = ap (λ t. t ++ text) (sym (replicate-append-replicate 1 pad 32)) ∙ append_assoc (replicate 1 32) (replicate pad 32) text
 
-appends_progress : (old new : LineWriter) (width midpoint own : ℕ) (text x : List ℕ) (xs : List (List ℕ)) (values : Line) (p : RowProgress)
+appends_progress : (old new : LineWriter) (width : ℕ) (most : Option ℕ) (midpoint own : ℕ) (text x : List ℕ) (xs : List (List ℕ)) (values : Line) (p : RowProgress)
     → is_printable x ≡ true → ArePrintable xs → text ≡ joined x xs → in_color false values ≡ piece x ∷ map piece xs
-    → end_of_values old.width (piece text ∷ []) ≡ end_of_values old.width values → AppendsText width midpoint text p own old new → AppendsProgress false width midpoint values p own old new
-appends_progress old new width midpoint own text x xs values p h all is shown same given =
+    → end_of_values old.width (piece text ∷ []) ≡ end_of_values old.width values → AppendsText width most midpoint text p own old new → AppendsProgress false width most midpoint values p own old new
+appends_progress old new width most midpoint own text x xs values p h all is shown same given =
     let pad : ℕ = midpoint - own in
     let ends = given.ends ∙ same in
     record {
@@ -138,17 +144,17 @@ appends_progress old new width midpoint own text x xs values p h all is shown sa
     }
 
 -- a fraction
-pub appends_fraction : (old new : LineWriter) (width midpoint own : ℕ) (text : List ℕ) (p : RowProgress) → is_printable text ≡ true → text ≡ fraction_of p.counter p.bound
-    → AppendsText width midpoint text p own old new → AppendsProgress false width midpoint (fraction_values p.counter p.bound) p own old new
-appends_fraction old new width midpoint own text p h is given =
-    appends_progress old new width midpoint own text text [] (fraction_values p.counter p.bound) p h tt refl (ap (λ t. piece t ∷ []) (sym is))
+pub appends_fraction : (old new : LineWriter) (width : ℕ) (most : Option ℕ) (midpoint own : ℕ) (text : List ℕ) (p : RowProgress) → is_printable text ≡ true → text ≡ fraction_of p.counter p.bound
+    → AppendsText width most midpoint text p own old new → AppendsProgress false width most midpoint (fraction_values p.counter p.bound) p own old new
+appends_fraction old new width most midpoint own text p h is given =
+    appends_progress old new width most midpoint own text text [] (fraction_values p.counter p.bound) p h tt refl (ap (λ t. piece t ∷ []) (sym is))
     (ap (λ t. end_of_values old.width (piece t ∷ [])) is) given
 
 -- values and a unit
-pub appends_unit : (old new : LineWriter) (width midpoint own : ℕ) (text first second : List ℕ) (values : Line) (p : RowProgress) → is_printable text ≡ true
+pub appends_unit : (old new : LineWriter) (width : ℕ) (most : Option ℕ) (midpoint own : ℕ) (text first second : List ℕ) (values : Line) (p : RowProgress) → is_printable text ≡ true
     → text ≡ (first ++ codes " ") ++ second → in_color false values ≡ piece first ∷ piece (codes " ") ∷ piece second ∷ []
-    → AppendsText width midpoint text p own old new → AppendsProgress false width midpoint values p own old new
-appends_unit old new width midpoint own text first second values p h is shown given =
+    → AppendsText width most midpoint text p own old new → AppendsProgress false width most midpoint values p own old new
+appends_unit old new width most midpoint own text first second values p h is shown given =
     let apart : text ≡ first ++ (codes " " ++ second) = is ∙ append_assoc first (codes " ") second in
     let one = printable-parts first (codes " " ++ second) (ap is_printable (sym apart) ∙ h) in
     let two = printable-parts (codes " ") second one.1 in
@@ -157,15 +163,16 @@ appends_unit old new width midpoint own text first second values p h is shown gi
     (let e : end_of_values old.width (piece text ∷ []) ≡ end_of_values old.width (piece first ∷ piece (codes " ") ∷ piece second ∷ []) =
     omega (arith, size, width-printable text h, width-printable first one.0, width-printable (codes " ") refl, width-printable second two.1) in e)
     ∙ ap (end_of_values old.width) (sym shown) ∙ ap (λ n. capped (old.width + n)) (columns_of-in_color false (spaces 1 ∷ values)) in
-    appends_progress old new width midpoint own text first (codes " " ∷ second ∷ []) values p one.0 (refl, (two.1, tt)) apart shown same given
+    appends_progress old new width most midpoint own text first (codes " " ∷ second ∷ []) values p one.0 (refl, (two.1, tt)) apart shown same given
 
 -- of a progress in this unit, if it has one
 pub draws_by : (options : Options) (midpoint : ℕ) (value : Value) (unit : Option Unit) (throughput : Option Throughput) (own : ℕ) (old new : LineWriter)
     → options.colored ≡ false → value.unit ≡ unit
-    → AppendsProgress false options.terminal_dimensions.0 midpoint (values_by options.defensive (option_map measure_of unit) (progress_of value) throughput) (progress_of value) own old new
-    → AppendsProgress options.colored options.terminal_dimensions.0 midpoint (values_of options.defensive (progress_of value) throughput) (progress_of value) own old new
+    → AppendsProgress false options.terminal_dimensions.0 options.bar_columns midpoint (values_by options.defensive (option_map measure_of unit) (progress_of value) throughput) (progress_of value) own old new
+    → AppendsProgress options.colored options.terminal_dimensions.0 options.bar_columns midpoint (values_of options.defensive (progress_of value) throughput) (progress_of value) own old new
 draws_by options midpoint value unit throughput own old new plain is h =
     let p = progress_of value in
     let width = options.terminal_dimensions.0 in
-    subst (λ (u : Option Unit). AppendsProgress options.colored width midpoint (values_by options.defensive (option_map measure_of u) p throughput) p own old new) (sym is)
-    (subst (λ (colored : Bool). AppendsProgress colored width midpoint (values_by options.defensive (option_map measure_of unit) p throughput) p own old new) (sym plain) h)
+    let most = options.bar_columns in
+    subst (λ (u : Option Unit). AppendsProgress options.colored width most midpoint (values_by options.defensive (option_map measure_of u) p throughput) p own old new) (sym is)
+    (subst (λ (colored : Bool). AppendsProgress colored width most midpoint (values_by options.defensive (option_map measure_of unit) p throughput) p own old new) (sym plain) h)

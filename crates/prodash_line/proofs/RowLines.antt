@@ -7,7 +7,7 @@ use Rattle.prodash_line.specs.declared.render.line.draw.line_writer.LineWriter.{
 use Rattle.prodash_line.specs.declared.render.line.page.style.Style.{Style}
 use Rattle.prodash_line.specs.Lines.{Line, piece, spaces, capped, columns_of, in_color}
 use Rattle.prodash_line.specs.TextStyles.{row_style}
-use Rattle.prodash_line.specs.ProgressRows.{values_of, head_of, padded, bar, midpoint_with, row_line_with}
+use Rattle.prodash_line.specs.ProgressRows.{values_of, head_of, padded, bar, bar_columns, midpoint_with, row_line_with}
 use Rattle.prodash_line.specs.plumbing.RowWriting.{end_of_values, padded_values}
 use Rattle.prodash_line.specs.plumbing.Writing.{is_printable, Appends, Begun}
 use Rattle.prodash_line.proofs.Columns.{columns_of-append, printable-append, width-printable, width-repeated}
@@ -74,11 +74,11 @@ padded_begun colored defensive row p t midpoint h values =
     begun_as (ap (λ n. in_color colored (head_of defensive row ++ (spaces 1 ∷ spaces (midpoint - n) ∷ values_of defensive p t))) (row_midpoint colored defensive row p t h)) (begun_then h values)
 
 -- with the bar
-pub row_begun : {limit : Option ℕ} {old w1 w2 : LineWriter} (colored defensive : Bool) (row : PathRow) (p : RowProgress) (t : Option Throughput) (width midpoint left : ℕ) (style : Style)
-    → Begun limit old (in_color colored (padded defensive midpoint row p t)) w1 → left ≡ width - w1.width → style ≡ row_style p
-    → Appends w1 (in_color colored (bar style left p.counter p.bound)) w2 → Begun limit old (in_color colored (row_line_with defensive width midpoint row (Some p) t)) w2
-row_begun colored defensive row p t width midpoint left style h l s b =
+pub row_begun : {limit : Option ℕ} {old w1 w2 : LineWriter} (colored defensive : Bool) (row : PathRow) (p : RowProgress) (t : Option Throughput) (width : ℕ) (most : Option ℕ) (midpoint left : ℕ) (style : Style)
+    → Begun limit old (in_color colored (padded defensive midpoint row p t)) w1 → left ≡ bar_columns most (width - w1.width) → style ≡ row_style p
+    → Appends w1 (in_color colored (bar style left p.counter p.bound)) w2 → Begun limit old (in_color colored (row_line_with defensive width most midpoint row (Some p) t)) w2
+row_begun colored defensive row p t width most midpoint left style h l s b =
     let values = padded defensive midpoint row p t in
-    let columns = l ∙ ap (λ n. width - n) (h.writes.width ∙ columns_of-in_color colored values) in
-    begun_as (sym (in_color-append colored values (bar (row_style p) (width - columns_of values) p.counter p.bound)))
+    let columns = l ∙ ap (λ n. bar_columns most (width - n)) (h.writes.width ∙ columns_of-in_color colored values) in
+    begun_as (sym (in_color-append colored values (bar (row_style p) (bar_columns most (width - columns_of values)) p.counter p.bound)))
     (begun_then h (appends_as (ap (λ x. in_color colored (bar x left p.counter p.bound)) s ∙ ap (λ n. in_color colored (bar (row_style p) n p.counter p.bound)) columns) b))

@@ -24,7 +24,7 @@ use Rattle.prodash_line.specs.declared.render.line.page.sign.Sign.{Sign}
 use Rattle.prodash_line.specs.declared.render.line.page.style.Style.{Style}
 use Rattle.prodash_line.specs.Lines.{Piece, Line, styled, in_color, width_of, columns_of, longest_prefix_of, longest_prefix, cut_to, cut}
 use Rattle.prodash_line.specs.DrawnLines.{safe_char, drawn_chars, limit_of, as_drawn}
-use Rattle.prodash_line.specs.ProgressRows.{DrawnRow, fraction_of, values_by, numbered_cell, bounded_bar, unbounded_bar, bar, padded, row_line_with, row_lines, more_line, more_lines}
+use Rattle.prodash_line.specs.ProgressRows.{DrawnRow, fraction_of, values_by, numbered_cell, bounded_bar, unbounded_bar, bar, bar_columns, padded, row_line_with, row_lines, more_line, more_lines}
 use Rattle.prodash_line.specs.TextStyles.{row_style}
 use Rattle.prodash_line.specs.MessageLines.{time_of, text_of, message_line, message_lines, origin_width, greatest_width}
 use Rattle.prodash_line.specs.Frames.{body_lines}
@@ -168,19 +168,19 @@ bar_clean style columns step None = one_or_none (columns == 0) (unbounded_bar st
 bar_clean style columns step (Some bound) = one_or_none (columns == 0) (bounded_bar style columns step bound)
     ((refl, (refl, tt)), (copies _ 61 refl, ((refl, tt), (copies _ 45 refl, ((refl, tt), tt)))))
 
-row_clean : (defensive : Bool) (width midpoint : ℕ) (row : PathRow) (progress : Option RowProgress) (t : Option Throughput) → defensive ≡ true
-    → IsSafe (row_line_with defensive width midpoint row progress t)
-row_clean defensive width midpoint row None t e = (copies _ 32 refl, (drawn_clean defensive row.1.name e, tt))
-row_clean defensive width midpoint row (Some p) t e =
+row_clean : (defensive : Bool) (width : ℕ) (most : Option ℕ) (midpoint : ℕ) (row : PathRow) (progress : Option RowProgress) (t : Option Throughput) → defensive ≡ true
+    → IsSafe (row_line_with defensive width most midpoint row progress t)
+row_clean defensive width most midpoint row None t e = (copies _ 32 refl, (drawn_clean defensive row.1.name e, tt))
+row_clean defensive width most midpoint row (Some p) t e =
     let values = padded defensive midpoint row p t in
-    pieces values (bar (row_style p) (width - columns_of values) p.counter p.bound)
+    pieces values (bar (row_style p) (bar_columns most (width - columns_of values)) p.counter p.bound)
     (copies _ 32 refl, (drawn_clean defensive row.1.name e, ((refl, tt), (copies _ 32 refl, values_clean defensive p.unit p t e))))
-    (bar_clean (row_style p) (width - columns_of values) p.counter p.bound)
+    (bar_clean (row_style p) (bar_columns most (width - columns_of values)) p.counter p.bound)
 
 rows_clean : (options : Options) (midpoint : ℕ) (rows : List DrawnRow) → options.defensive ≡ true → AllByRecursion IsSafe (row_lines options midpoint rows)
 rows_clean options midpoint [] e = tt
 rows_clean options midpoint (row ∷ rows) e =
-    (as_drawn_clean options _ (row_clean options.defensive options.terminal_dimensions.0 midpoint row.0 row.0.1.progress row.1 e), rows_clean options midpoint rows e)
+    (as_drawn_clean options _ (row_clean options.defensive options.terminal_dimensions.0 options.bar_columns midpoint row.0 row.0.1.progress row.1 e), rows_clean options midpoint rows e)
 
 none_or_one : (b : Bool) (line : Line) → IsSafe line → AllByRecursion IsSafe (cond b [] (line ∷ []))
 none_or_one true line h = tt

@@ -12,7 +12,7 @@ use Rattle.prodash_line.specs.Styles.{style_codes}
 use Rattle.prodash_line.specs.TextStyles.{dimmed, name_style, style_in, row_style}
 use Rattle.prodash_line.specs.Lines.{Piece, Line, styled, shown_style, in_color, width_of, columns_of, longest_prefix, cut_to, cut}
 use Rattle.prodash_line.specs.DrawnLines.{limit_of, as_drawn}
-use Rattle.prodash_line.specs.ProgressRows.{DrawnRow, values_by, bounded_bar, unbounded_bar, bar, padded, row_line_with, row_lines, more_line, more_lines}
+use Rattle.prodash_line.specs.ProgressRows.{DrawnRow, values_by, bounded_bar, unbounded_bar, bar, bar_columns, padded, row_line_with, row_lines, more_line, more_lines}
 use Rattle.prodash_line.specs.MessageLines.{time_of, text_of, message_line, drawn_message_line, message_lines, origin_width, greatest_width}
 use Rattle.prodash_line.proofs.Lists.{AllByRecursion-append}
 
@@ -80,19 +80,19 @@ bar_has : (style : Style) (columns step : ℕ) (bound : Option ℕ) → HasCode 
 bar_has style columns step None h d = one_or_other (columns == 0) [] (unbounded_bar style columns step) tt (tt, (h, (tt, tt)))
 bar_has style columns step (Some bound) h d = one_or_other (columns == 0) [] (bounded_bar style columns step bound) tt (tt, (h, (h, (d, (tt, tt)))))
 
-row_has : (defensive : Bool) (width midpoint : ℕ) (row : PathRow) (progress : Option RowProgress) (t : Option Throughput) → HasCodes (row_line_with defensive width midpoint row progress t)
-row_has defensive width midpoint row None t = (tt, (name_has row.1.progress, tt))
-row_has defensive width midpoint row (Some p) t =
+row_has : (defensive : Bool) (width : ℕ) (most : Option ℕ) (midpoint : ℕ) (row : PathRow) (progress : Option RowProgress) (t : Option Throughput) → HasCodes (row_line_with defensive width most midpoint row progress t)
+row_has defensive width most midpoint row None t = (tt, (name_has row.1.progress, tt))
+row_has defensive width most midpoint row (Some p) t =
     let values = padded defensive midpoint row p t in
     let styles = style_in_has p.phase p.counter p.bound in
-    AllByRecursion-append (λ q. HasCode q.style) values (bar (row_style p) (width - columns_of values) p.counter p.bound)
+    AllByRecursion-append (λ q. HasCode q.style) values (bar (row_style p) (bar_columns most (width - columns_of values)) p.counter p.bound)
     (tt, (name_has row.1.progress, (tt, (tt, values_has defensive p.unit p t))))
-    (bar_has (row_style p) (width - columns_of values) p.counter p.bound styles.0 styles.1)
+    (bar_has (row_style p) (bar_columns most (width - columns_of values)) p.counter p.bound styles.0 styles.1)
 
 pub rows_have : (options : Options) (midpoint : ℕ) (rows : List DrawnRow) → HaveCodes (row_lines options midpoint rows)
 rows_have options midpoint [] = tt
 rows_have options midpoint (row ∷ rows) =
-    (drawn_has options _ (row_has options.defensive options.terminal_dimensions.0 midpoint row.0 row.0.1.progress row.1), rows_have options midpoint rows)
+    (drawn_has options _ (row_has options.defensive options.terminal_dimensions.0 options.bar_columns midpoint row.0 row.0.1.progress row.1), rows_have options midpoint rows)
 
 -- the line that counts the other rows, if it is drawn
 none_or_one : (b : Bool) (line : Line) → HasCodes line → HaveCodes (cond b [] (line ∷ []))

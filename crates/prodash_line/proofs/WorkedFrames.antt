@@ -23,7 +23,7 @@ use Rattle.prodash_line.specs.TextStyles.{of_color, dimmed, row_style}
 use Rattle.prodash_line.specs.declared.render.line.page.style.Color.TheVariants.{Red, Green, Yellow, Cyan, White}
 use Rattle.prodash_line.specs.declared.render.line.page.style.Color.{Color}
 use Rattle.prodash_line.specs.declared.render.line.page.style.Style.{Style}
-use Rattle.prodash_line.specs.ProgressRows.{bar, fitting_count, more_line, more_lines}
+use Rattle.prodash_line.specs.ProgressRows.{bar, bar_columns, fitting_count, more_line, more_lines}
 use Rattle.prodash_line.specs.declared.render.line.draw.layout.Layout.TheVariants.{Erasing}
 
 -- a task below the root, without progress
@@ -250,6 +250,34 @@ no_cell = refl
 
 pub no_column : line_text (bar (of_color Yellow) 0 3 (Some 10)) ≡ []
 no_column = refl
+
+-- a bar of at most 40 columns: on 100, of which it takes 40, and on 30, of which it takes all
+abbrev at_most : ℕ → ℕ → Option ℕ → List ℕ
+at_most most left bound = line_text (bar (of_color Yellow) (bar_columns (Some most) left) 3 bound)
+
+pub forty_of_hundred : at_most 40 100 (Some 10) ≡ codes " [==========>--------------------------]"
+forty_of_hundred = refl
+
+pub all_of_thirty : at_most 40 30 (Some 10) ≡ codes " [=======>-------------------]"
+all_of_thirty = refl
+
+-- of at most four columns; no bar of at most three, or none
+pub arrow_alone : at_most 4 100 (Some 10) ≡ codes " [>]"
+arrow_alone = refl
+
+pub none_of_three : at_most 3 100 (Some 10) ≡ []
+none_of_three = refl
+
+pub none_of_none : at_most 0 100 (Some 10) ≡ []
+none_of_none = refl
+
+-- a column is left: the bar is cut, as without a limit
+pub one_left : at_most 40 1 (Some 10) ≡ codes " [>]"
+one_left = refl
+
+-- of at most eleven columns, without a bound
+pub eleven_of_hundred : at_most 11 100 None ≡ codes " [  ===   ]"
+eleven_of_hundred = refl
 
 -- bars without a bound: eleven cells from 2; as many as there are numbers below 2^64-1; brackets alone; none
 pub from_two : line_text (bar (of_color Yellow) 14 2 None) ≡ codes " [=   ===   =]"

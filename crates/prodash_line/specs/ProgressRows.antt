@@ -80,7 +80,13 @@ unbounded_bar style columns step =
     let n = min (columns - 3) (2 ^ 64 - 1 - step) in
     piece (codes " [") ∷ styled (Some style) (numbered_cells step n) ∷ piece (codes "]") ∷ []
 
--- the bar in a style on the columns that are left; none if there is no column
+-- the columns that a bar takes where this many are left: all of them, or with a limit no more than that; none if the limit is below four, since
+-- the space, the brackets and the arrow take four
+abbrev pub bar_columns : Option ℕ → ℕ → ℕ
+bar_columns None left = left
+bar_columns (Some most) left = if nat_lt most 4 then 0 else min most left
+
+-- the bar in a style on these columns; none if there is no column
 abbrev pub bar : Style → ℕ → ℕ → Option ℕ → Line
 bar style columns step None = if columns == 0 then [] else unbounded_bar style columns step
 bar style columns step (Some bound) = if columns == 0 then [] else bounded_bar style columns step bound
@@ -114,20 +120,21 @@ padded defensive midpoint row p throughput =
     ++ (spaces 1 ∷ spaces (midpoint - columns_of (unpadded defensive row p throughput)) ∷ values_of defensive p throughput)
 
 -- the line of a row with this progress, or without one
-abbrev pub row_line_with : Bool → ℕ → ℕ → PathRow → Option RowProgress → Option Throughput → Line
-row_line_with defensive width midpoint row None throughput = head_of defensive row
-row_line_with defensive width midpoint row (Some p) throughput =
+abbrev pub row_line_with : Bool → ℕ → Option ℕ → ℕ → PathRow → Option RowProgress → Option Throughput → Line
+row_line_with defensive width most midpoint row None throughput = head_of defensive row
+row_line_with defensive width most midpoint row (Some p) throughput =
     let values = padded defensive midpoint row p throughput in
-    values ++ bar (row_style p) (width - columns_of values) p.counter p.bound
+    values ++ bar (row_style p) (bar_columns most (width - columns_of values)) p.counter p.bound
 
 -- the line of a row on a terminal of this width: without progress its head alone, else its values, brought to this midpoint, and a bar on the
--- columns that are left
-abbrev pub row_line : Bool → ℕ → ℕ → DrawnRow → Line
-row_line defensive width midpoint drawn = row_line_with defensive width midpoint drawn.0 drawn.0.1.progress drawn.1
+-- columns that are left, or on as many of them as it takes at most
+abbrev pub row_line : Bool → ℕ → Option ℕ → ℕ → DrawnRow → Line
+row_line defensive width most midpoint drawn = row_line_with defensive width most midpoint drawn.0 drawn.0.1.progress drawn.1
 
 -- the line of a row as it is drawn
 abbrev pub drawn_row_line : Options → ℕ → DrawnRow → Line
-drawn_row_line options midpoint drawn = as_drawn options (row_line options.defensive options.terminal_dimensions.0 midpoint drawn)
+drawn_row_line options midpoint drawn =
+    as_drawn options (row_line options.defensive options.terminal_dimensions.0 options.bar_columns midpoint drawn)
 
 -- the lines of rows as they are drawn
 abbrev pub row_lines : Options → ℕ → List DrawnRow → List Line

@@ -58,6 +58,7 @@ default_options = record {
   timestamp = false;
   hide_cursor = false;
   defensive = false;
+  bar_columns = None;
 }
 
 -- the refusal of an ended renderer

@@ -1,9 +1,9 @@
 use crate::drawings::Ask::{Hide, Print, Quit, Rootless, Show};
-use crate::drawings::{Ask, Drawing, Task, assert_draws, draw, renderer};
-use crate::fixtures::{MESSAGE_FRAME, Progress, TASK_FRAME, assert_same};
+use crate::drawings::{Ask, Drawing, Task, assert_draws, assert_draws_with, draw, renderer};
+use crate::fixtures::{MESSAGE_FRAME, Progress, TASK_FRAME, TERMINAL, assert_same};
 use prodash_base::Refusal;
 use prodash_base::messages::MessageCopyState;
-use prodash_line::render::line::draw::{MemoryScreen, State};
+use prodash_line::render::line::draw::{MemoryScreen, Options, State};
 use std::alloc::Global;
 use std::process::Abort;
 
@@ -88,6 +88,39 @@ const UNBOUNDED: &[Drawing] = &[
 #[test]
 fn bars_without_a_bound(rt: HostRuntime) {
     assert_draws(&rt, rt.alloc(), UNBOUNDED)
+}
+
+/// Rows whose bars have at most 40 columns.
+#[rattlefmt::skip]
+const AT_MOST_FORTY: &[Drawing] = &[
+    Drawing((100, 24), &[
+        (Show(&[TASK]), Ok(" task 3/10 [==========>--------------------------]\n\x1b[1A")),
+        (Show(&[("t", Some((3, None)))]), Ok(" t       3 [ ===   ===   ===   ===   ===   ===   ]\n\x1b[1A")),
+    ]),
+    Drawing((30, 24), &[(Show(&[TASK]), Ok(" task 3/10 [====>------------]\n\x1b[1A"))]),
+];
+
+/// Rows that have no bars, since three columns have no room for one.
+#[rattlefmt::skip]
+const AT_MOST_THREE: &[Drawing] = &[
+    Drawing((40, 24), &[
+        (Show(&[TASK]), Ok(" task 3/10\n\x1b[1A")),
+        (Show(&[("t", Some((3, None)))]), Ok(" t       3\n\x1b[1A")),
+    ]),
+];
+
+#[test]
+fn bars_have_at_most_as_many_columns_as_the_options_say(rt: HostRuntime) {
+    let forty = Options {
+        bar_columns: Some(40),
+        ..TERMINAL
+    };
+    assert_draws_with(&rt, rt.alloc(), forty, AT_MOST_FORTY);
+    let three = Options {
+        bar_columns: Some(3),
+        ..TERMINAL
+    };
+    assert_draws_with(&rt, rt.alloc(), three, AT_MOST_THREE)
 }
 
 #[rattlefmt::skip]

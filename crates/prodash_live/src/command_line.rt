@@ -45,6 +45,7 @@ Usage: prodash-live [OPTIONS]
 Options:
       --columns <N>           columns of the terminal [default: $COLUMNS, or 80]
       --rows <N>              rows of the terminal [default: $LINES, or 20]
+      --bar-columns <N>       columns of a bar at most, 0 to 65535 [default: 40]
       --fps <N>               frames in a second, 1 to 1000 [default: 6]
       --delay <MILLISECONDS>  time until rows are drawn, up to a day [default: 0]
       --no-color              no colours, as with $NO_COLOR
@@ -120,7 +121,13 @@ fn set_flag(options: &mut Options<'_>, flag: &str) -> bool {
 fn takes_value(option: &str) -> bool {
     matches!(
         option,
-        "--columns" | "--rows" | "--fps" | "--delay" | "--terminal" | "--record"
+        "--columns"
+            | "--rows"
+            | "--bar-columns"
+            | "--fps"
+            | "--delay"
+            | "--terminal"
+            | "--record"
     )
 }
 
@@ -134,6 +141,7 @@ fn set<'a>(
     match option {
         "--columns" => options.dimensions.0 = dimension(value).ok_or(bad)?,
         "--rows" => options.dimensions.1 = dimension(value).ok_or(bad)?,
+        "--bar-columns" => options.bar_columns = value.parse::<u16>().ok().ok_or(bad)?,
         "--fps" => options.frames = number(value, 1, 1000).ok_or(bad)?,
         "--delay" => options.delay = number(value, 0, 86_400_000).ok_or(bad)?,
         "--terminal" => options.terminal = terminal(value).ok_or(bad)?,
@@ -166,6 +174,7 @@ fn terminal(value: &str) -> Option<Terminal> {
 /// Returns which values an option takes.
 fn values_of(option: &str) -> &'static str {
     match option {
+        "--bar-columns" => "a number from 0 to 65535",
         "--fps" => "a number from 1 to 1000",
         "--delay" => "a number from 0 to 86400000",
         "--terminal" => "auto, always or never",

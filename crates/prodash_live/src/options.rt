@@ -1,5 +1,5 @@
 //! What the program is asked for.
-ghost use Rattle.std.specs.Prelude.{◌≡◌, ◌&&◌};
+ghost use Rattle.std.specs.Prelude.{◌≡◌, ◌&&◌, Some};
 
 use prodash::render::line;
 use prodash_programs::Environment;
@@ -20,6 +20,8 @@ pub enum Terminal {
 pub struct Options<'a> {
     /// The columns and the rows of the terminal.
     pub dimensions: (u16, u16),
+    /// The greatest number of columns of a bar.
+    pub bar_columns: u16,
     /// The frames per second, at least 1.
     pub frames: u64,
     /// The milliseconds until rows are drawn.
@@ -43,6 +45,7 @@ impl<'a> Options<'a> {
     pub fn of_environment(env: Environment) -> Options<'a> {
         Options {
             dimensions: (env.columns.unwrap_or(80), env.rows.unwrap_or(20)),
+            bar_columns: 40,
             frames: 6,
             delay: 0,
             is_colored: !env.no_color,
@@ -59,6 +62,7 @@ impl<'a> Options<'a> {
     pub fn render(&self, is_terminal: bool) -> line::Options
         ensures colors { result.colored ≡ (self.now.is_colored && result.output_is_terminal) }
         ensures size { result.terminal_dimensions ≡ self.now.dimensions }
+        ensures bars { result.bar_columns ≡ Some self.now.bar_columns }
     {
         let output_is_terminal = match self.terminal {
             Terminal::Auto => is_terminal,
@@ -70,6 +74,7 @@ impl<'a> Options<'a> {
             colored: self.is_colored && output_is_terminal,
             timestamp: self.has_timestamps,
             terminal_dimensions: self.dimensions,
+            bar_columns: Some(self.bar_columns),
             throughput: true,
             defensive: true,
             initial_delay: Some(self.delay.saturating_mul(1_000_000)),

@@ -225,6 +225,7 @@ fn drawn(alloc: Global, options: &ReplayOptions, events: &[Event]) -> Result<Mem
             timestamp: false,
             hide_cursor: false,
             defensive: options.defensive,
+            bar_columns: None,
         },
         throughput: true,
     };

@@ -20,6 +20,7 @@ draw_options o = record {
   timestamp = o.timestamp;
   hide_cursor = o.hide_cursor;
   defensive = o.defensive;
+  bar_columns = o.bar_columns;
 }
 
 module _ {S W : Type 0} where

@@ -12,7 +12,7 @@ use Rattle.prodash_line.specs.declared.render.line.draw.row.DrawnProgress.{Drawn
 use Rattle.prodash_base.specs.declared.progress.Row.{Row}
 use Rattle.prodash_line.specs.declared.render.line.draw.line_writer.LineWriter.{LineWriter}
 use Rattle.prodash_line.specs.Lines.{Line, piece, spaces, capped, columns_of}
-use Rattle.prodash_line.specs.ProgressRows.{fraction_values, values_in, values_of, bar, fraction_of, bar_with, head_of, midpoint_of, row_line}
+use Rattle.prodash_line.specs.ProgressRows.{fraction_values, values_in, values_of, bar, bar_columns, fraction_of, bar_with, head_of, midpoint_of, row_line}
 use Rattle.prodash_line.specs.TextStyles.{row_style}
 use Rattle.prodash_line.specs.plumbing.Writing.{Appends, AppendsIn, DrawsLine}
 use Rattle.std.specs.Fmt.{decimal}
@@ -37,11 +37,11 @@ abbrev pub Pads : Bool → ℕ → LineWriter → Line → LineWriter → Type 0
 Pads colored midpoint old values new = AppendsIn colored old (padded_values midpoint old.width values) new
 
 -- such values, which end at a column without padding, and a bar on the columns that are left in a row of this width
-pub record AppendsProgress (colored : Bool) (width midpoint : ℕ) (values : Line) (p : RowProgress) (own : ℕ) (old new : LineWriter) : Type 0 where
+pub record AppendsProgress (colored : Bool) (width : ℕ) (most : Option ℕ) (midpoint : ℕ) (values : Line) (p : RowProgress) (own : ℕ) (old new : LineWriter) : Type 0 where
   pub ends : own ≡ end_of_values old.width values
   pub between : LineWriter
   pub padded : Pads colored midpoint old values between
-  pub bar : AppendsIn colored between (bar (row_style p) (width - between.width) p.counter p.bound) new
+  pub bar : AppendsIn colored between (bar (row_style p) (bar_columns most (width - between.width)) p.counter p.bound) new
 
 -- the values of a progress
 abbrev pub drawn_values : DrawnProgress → Line
@@ -58,25 +58,28 @@ PadsValues d values old new = Pads d.options.now.colored d.midpoint old values n
 -- its values and its bar follow; without padding they end at this column
 abbrev pub DrawsProgress : DrawnProgress → ℕ → LineWriter → LineWriter → Type 0
 DrawsProgress d own old new =
-    AppendsProgress d.options.now.colored d.options.now.terminal_dimensions.0 d.midpoint (drawn_values d) (progress_of d.value.now) own old new
+    let o = d.options.now in
+    AppendsProgress o.colored o.terminal_dimensions.0 o.bar_columns d.midpoint (drawn_values d) (progress_of d.value.now) own old new
 
 -- the same without styles, of a progress without a unit
 abbrev pub DrawsFraction : DrawnProgress → ℕ → LineWriter → LineWriter → Type 0
 DrawsFraction d own old new =
     let values = fraction_values d.value.now.step d.value.now.done_at in
-    AppendsProgress false d.options.now.terminal_dimensions.0 d.midpoint values (progress_of d.value.now) own old new
+    let o = d.options.now in
+    AppendsProgress false o.terminal_dimensions.0 o.bar_columns d.midpoint values (progress_of d.value.now) own old new
 
 -- the same without styles, of a progress in a unit whose texts have no control characters
 abbrev pub DrawsInUnit : DrawnProgress → Unit → ℕ → LineWriter → LineWriter → Type 0
 DrawsInUnit d unit own old new =
     (defensive : Bool) →
     let p = progress_of d.value.now in
-    AppendsProgress false d.options.now.terminal_dimensions.0 d.midpoint (values_in defensive (measure_of unit) p d.throughput) p own old new
+    let o = d.options.now in
+    AppendsProgress false o.terminal_dimensions.0 o.bar_columns d.midpoint (values_in defensive (measure_of unit) p d.throughput) p own old new
 
 -- a row on a terminal of the width that the options say, and a midpoint, with the throughput that is shown in it
 abbrev pub DrawsRow : Options → ℕ → Row → Option Throughput → LineWriter → LineWriter → Type 0
 DrawsRow options midpoint row throughput old new =
-    let line = row_line options.defensive options.terminal_dimensions.0 midpoint (row_of row, throughput) in
+    let line = row_line options.defensive options.terminal_dimensions.0 options.bar_columns midpoint (row_of row, throughput) in
     DrawsLine options (on_row (layout_of options) old) line new
 
 -- the column at which the values of a row end without padding; 0 if it has no progress
@@ -98,11 +101,11 @@ abbrev pub AppendsCells : Bool → Value → ℕ → ℕ → LineWriter → Line
 AppendsCells colored value cells filled old new = AppendsIn colored old (bar_with (row_style (progress_of value)) cells filled) new
 
 -- the same without styles, of a text of printable characters
-pub record AppendsText (width midpoint : ℕ) (text : List ℕ) (p : RowProgress) (own : ℕ) (old new : LineWriter) : Type 0 where
+pub record AppendsText (width : ℕ) (most : Option ℕ) (midpoint : ℕ) (text : List ℕ) (p : RowProgress) (own : ℕ) (old new : LineWriter) : Type 0 where
   pub ends : own ≡ end_of_values old.width (piece text ∷ [])
   pub between : LineWriter
   pub padded : Appends old (piece (replicate (1 + (midpoint - own)) 32 ++ text) ∷ []) between
-  pub bar : AppendsIn false between (bar (row_style p) (width - between.width) p.counter p.bound) new
+  pub bar : AppendsIn false between (bar (row_style p) (bar_columns most (width - between.width)) p.counter p.bound) new
 
 -- the characters of a text in three parts
 abbrev pub whole_text : PlainText → List ℕ
@@ -114,7 +117,9 @@ text_length text = length text.first.now + length text.second.now + length text.
 
 -- the same without styles, of such a text
 abbrev pub DrawsText : DrawnProgress → PlainText → ℕ → LineWriter → LineWriter → Type 0
-DrawsText d text own old new = AppendsText d.options.now.terminal_dimensions.0 d.midpoint (whole_text text) (progress_of d.value.now) own old new
+DrawsText d text own old new =
+    let o = d.options.now in
+    AppendsText o.terminal_dimensions.0 o.bar_columns d.midpoint (whole_text text) (progress_of d.value.now) own old new
 
 -- this with the column at which values end, or nothing at all
 abbrev pub OrNothing : LineWriter → LineWriter → (ℕ → LineWriter → LineWriter → Type 0) → Option ℕ → Type 0

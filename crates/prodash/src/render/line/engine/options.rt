@@ -35,6 +35,9 @@ pub struct Options {
     /// message or a text of a unit, on a terminal or not: of each control character, each
     /// character with Unicode's property Bidi_Control, U+2028, U+2029 and U+FEFF.
     pub defensive: bool,
+    /// The greatest number of columns of a bar, with the space and the brackets around its cells.
+    /// With fewer than four there are no bars. `None` draws each on all columns that are left.
+    pub bar_columns: Option<u16>,
     /// Whether rows show the throughput of values whose unit asks for it.
     pub throughput: bool,
     /// The lowest and the highest level of the rows that are drawn, or `None` to draw all rows.

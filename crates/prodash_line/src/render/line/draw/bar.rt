@@ -17,8 +17,21 @@ pub(crate) const BRACKETS: u16 = 3;
 /// The column of the arrow in the bar of a progress with a bound.
 pub(crate) const ARROW: u16 = 1;
 
-/// Appends the bar of a progress on the columns that are left in its row, in the row's style if it
-/// is coloured. It appends nothing if there are no columns. Fails if out of memory.
+/// Returns the columns that a bar takes where `left` columns are left: all of them, or `most` if that
+/// is fewer. A `most` without room for the brackets and the arrow leaves no bar.
+#[inline(always)]
+pub(crate) fn bar_columns(most: Option<u16>, left: u16) -> u16
+    ensures { result ≡ rows.bar_columns most left }
+{
+    match most {
+        None => left,
+        Some(most) if most < BRACKETS + ARROW => 0,
+        Some(most) => most.min(left),
+    }
+}
+
+/// Appends the bar of a progress on these columns of its row, in the row's style if it is coloured.
+/// It appends nothing if there are no columns. Fails if out of memory.
 pub(crate) fn push_bar(
     out: &mut LineWriter,
     colored: bool,

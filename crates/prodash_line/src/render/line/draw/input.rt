@@ -42,12 +42,15 @@ pub struct Options {
     /// message or a text of a unit, on a terminal or not: of each control character, each
     /// character with Unicode's property Bidi_Control, U+2028, U+2029 and U+FEFF.
     pub defensive: bool,
+    /// The greatest number of columns of a bar, with the space and the brackets around its cells.
+    /// With fewer than four there are no bars. `None` draws each on all columns that are left.
+    pub bar_columns: Option<u16>,
 }
 
 impl Default for Options {
     /// Returns options for a coloured terminal of 80 columns and 20 rows. Rows of all levels are
-    /// drawn, messages have no timestamps, the cursor stays visible, frames are not defensive, and
-    /// the renderer keeps running without rows.
+    /// drawn, messages have no timestamps, the cursor stays visible, frames are not defensive, bars
+    /// take all columns that are left, and the renderer keeps running without rows.
     fn default() -> Options
         ensures { result ≡ default_options }
     {
@@ -60,6 +63,7 @@ impl Default for Options {
             timestamp: false,
             hide_cursor: false,
             defensive: false,
+            bar_columns: None,
         }
     }
 }

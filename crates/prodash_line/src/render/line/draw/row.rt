@@ -7,7 +7,7 @@ ghost use Rattle.prodash_line.specs.Lines.{capped};
 ghost use Rattle.prodash_line.specs.plumbing.RowWriting.{FollowsStep, end_of_values, Pads, PadsValues, drawn_values, unit_values, own_midpoint, text_length, whole_text, DrawsRow, DrawsProgress, DrawsFraction, DrawsInUnit, DrawsText, OrNothing, AppendsName};
 ghost use Rattle.prodash_line.specs.plumbing.Writing.{is_printable};
 
-use crate::render::line::draw::bar::{ARROW, BRACKETS, filled_cells, push_bar};
+use crate::render::line::draw::bar::{ARROW, BRACKETS, bar_columns, filled_cells, push_bar};
 use crate::render::line::draw::drawn_text::drawn_text;
 use crate::render::line::draw::input::Options;
 use crate::render::line::draw::line_writer::{LineWriter, style_of_length};
@@ -108,7 +108,8 @@ fn push_progress(
         }
     }
     let own = push_values(alloc, out, texts, drawn)?;
-    let columns = width.saturating_sub(out.width());
+    let left = width.saturating_sub(out.width());
+    let columns = bar_columns(drawn.options.bar_columns, left);
     push_bar(out, drawn.options.colored, columns, drawn.value)?;
     Ok(own)
 }
@@ -209,7 +210,7 @@ fn push_plain_text(
     let (width, _) = drawn.options.terminal_dimensions;
     let own = out.width().saturating_add(1).saturating_add(columns);
     let end = own.max(drawn.midpoint);
-    let left = width.saturating_sub(end);
+    let left = bar_columns(drawn.options.bar_columns, width.saturating_sub(end));
     if left < BRACKETS + ARROW {
         return Ok(None);
     }

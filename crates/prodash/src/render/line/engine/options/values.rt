@@ -28,6 +28,7 @@ impl Options {
             timestamp: self.timestamp,
             hide_cursor: self.hide_cursor,
             defensive: self.defensive,
+            bar_columns: self.bar_columns,
         }
     }
 }
@@ -35,8 +36,8 @@ impl Options {
 impl Default for Options {
     /// Returns the default options of frames ([`draw::Options::default`]), with six frames a
     /// second, no initial delay and no throughput: a coloured terminal of 80 columns and 20 rows,
-    /// all levels, no timestamps, a visible cursor, frames that aren't defensive, and a renderer
-    /// that keeps running without rows.
+    /// all levels, no timestamps, a visible cursor, frames that aren't defensive, bars on all
+    /// columns that are left, and a renderer that keeps running without rows.
     fn default() -> Options
         ensures { result ≡ default_options }
     {
@@ -49,6 +50,7 @@ impl Default for Options {
             timestamp,
             hide_cursor,
             defensive,
+            bar_columns,
         } = draw::Options::default();
         Options {
             output_is_terminal,
@@ -57,6 +59,7 @@ impl Default for Options {
             terminal_dimensions,
             hide_cursor,
             defensive,
+            bar_columns,
             throughput: false,
             level_filter,
             initial_delay: None,

@@ -38,5 +38,5 @@ returns c =
     let is : text ≡ fraction_of drawn.value.now.step drawn.value.now.done_at =
     ap (λ t. t ++ (codes "/" ++ bound)) one ∙ ap (λ t. decimal drawn.value.now.step ++ (codes "/" ++ t)) two
     ∙ ap (fraction_of drawn.value.now.step) (sym c.requires) in
-    drawn_as c.in_ok-plain.plain old new (AppendsText drawn.options.now.terminal_dimensions.0 drawn.midpoint text p) (DrawsFraction drawn)
-    (λ own h. appends_fraction old new drawn.options.now.terminal_dimensions.0 drawn.midpoint own text p printable is h) c.in_ok-plain.ensures
+    drawn_as c.in_ok-plain.plain old new (AppendsText drawn.options.now.terminal_dimensions.0 drawn.options.now.bar_columns drawn.midpoint text p) (DrawsFraction drawn)
+    (λ own h. appends_fraction old new drawn.options.now.terminal_dimensions.0 drawn.options.now.bar_columns drawn.midpoint own text p printable is h) c.in_ok-plain.ensures

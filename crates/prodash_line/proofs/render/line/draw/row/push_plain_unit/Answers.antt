@@ -58,6 +58,7 @@ returns-clause-drawn c =
     let new = c.push_plain_text.new.out in
     let drawn = c.args.drawn.now in
     let width = drawn.options.now.terminal_dimensions.0 in
+    let most = drawn.options.now.bar_columns in
     let unit = c.args.unit.now in
     let p = progress_of drawn.value.now in
     let text : List ℕ = c.as_bytes.result.now in
@@ -66,6 +67,6 @@ returns-clause-drawn c =
     let name = unit_text (kind_shown unit.kind) unit.mode (amount p.counter p.bound drawn.throughput) in
     let h = printable text c.as_str.result.now c.in-Some.columns (c.as_bytes.ensures.value ∙ sym c.as_str.ensures.value) c.in-Some.ensures in
     let is : text ≡ (values ++ codes " ") ++ name = c.as_bytes.ensures.value ∙ search rules in
-    drawn_as c.in_ok-plain.plain old new (AppendsText width drawn.midpoint whole p) (DrawsInUnit drawn unit)
-    (λ own given defensive. appends_unit old new width drawn.midpoint own whole values name (values_in defensive (measure_of unit) p drawn.throughput) p (ap is_printable (append-nil text) ∙ h)
+    drawn_as c.in_ok-plain.plain old new (AppendsText width most drawn.midpoint whole p) (DrawsInUnit drawn unit)
+    (λ own given defensive. appends_unit old new width most drawn.midpoint own whole values name (values_in defensive (measure_of unit) p drawn.throughput) p (ap is_printable (append-nil text) ∙ h)
     (append-nil text ∙ is) (texts defensive unit p drawn.throughput text values name refl refl h is) given) c.in_ok-plain.ensures

@@ -2,7 +2,7 @@ use Rattle.std.proofs.Common.{◌-◌, refl, ap, sym, ◌∙◌}
 use Rattle.std.specs.Option.{option_map}
 use Rattle.prodash_base.specs.Rows.{row_of, progress_of}
 use Rattle.prodash_line.specs.Lines.{in_color}
-use Rattle.prodash_line.specs.ProgressRows.{row_line_with, midpoint_with}
+use Rattle.prodash_line.specs.ProgressRows.{bar_columns, row_line_with, midpoint_with}
 use Rattle.prodash_line.specs.TextStyles.{row_style}
 use Rattle.prodash_line.proofs.LineWriting.{begun_as}
 use Rattle.prodash_line.proofs.RowStarts.{head_begun}
@@ -16,8 +16,8 @@ returns-clause-line c =
     let o = c.args.options.now in
     let head = head_begun c.args.out.now o.colored o.defensive row _ _ c.width_limit.ensures c.layout.ensures c.level.ensures.value c.in_ok-begin_row.ensures c.in_ok-push_name.ensures in
     let h = c.in_ok-own.ensures.drawn in
-    begun_as (ap (λ v. in_color o.colored (row_line_with o.defensive o.terminal_dimensions.0 c.args.midpoint row (option_map progress_of v) c.args.throughput)) (sym c.in-Some.is))
-    (row_begun o.colored o.defensive row p c.args.throughput o.terminal_dimensions.0 c.args.midpoint (o.terminal_dimensions.0 - h.between.width) (row_style p)
+    begun_as (ap (λ v. in_color o.colored (row_line_with o.defensive o.terminal_dimensions.0 o.bar_columns c.args.midpoint row (option_map progress_of v) c.args.throughput)) (sym c.in-Some.is))
+    (row_begun o.colored o.defensive row p c.args.throughput o.terminal_dimensions.0 o.bar_columns c.args.midpoint (bar_columns o.bar_columns (o.terminal_dimensions.0 - h.between.width)) (row_style p)
     (padded_begun o.colored o.defensive row p c.args.throughput c.args.midpoint head h.padded) refl refl h.bar)
 
 pub returns-clause-midpoint : goal.returns-clause-midpoint
@@ -32,5 +32,5 @@ returns-clause-midpoint c =
 pub returns-in_default-clause-line : goal.returns-in_default-clause-line
 returns-in_default-clause-line c =
     let o = c.args.options.now in
-    begun_as (ap (λ v. in_color o.colored (row_line_with o.defensive o.terminal_dimensions.0 c.args.midpoint (row_of c.args.row.now) (option_map progress_of v) c.args.throughput)) (sym c.in_default.is))
+    begun_as (ap (λ v. in_color o.colored (row_line_with o.defensive o.terminal_dimensions.0 o.bar_columns c.args.midpoint (row_of c.args.row.now) (option_map progress_of v) c.args.throughput)) (sym c.in_default.is))
     (head_begun c.args.out.now c.args.options.now.colored c.args.options.now.defensive (row_of c.args.row.now) _ _ c.width_limit.ensures c.layout.ensures c.level.ensures.value c.in_ok-begin_row.ensures c.in_ok-push_name.ensures)
