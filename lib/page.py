@@ -5,7 +5,7 @@ import unicodedata
 # The signs that a renderer writes. docs/FORMATS.md says what each does.
 SIGN = re.compile(
     r"(?P<feed>\n)|(?P<return>\r)|\x1b\[(?:(?P<up>[1-9]\d*)A|(?P<line>2K)|(?P<below>J)"
-    r"|\?25[hl]|(?P<codes>\d+(?:;\d+)*)m)|(?P<char>[^\x00-\x1f\x7f-\x9f])"
+    r"|\?25[hl]|\?7(?P<wrap>[hl])|(?P<codes>\d+(?:;\d+)*)m)|(?P<char>[^\x00-\x1f\x7f-\x9f])"
 )
 
 
@@ -18,7 +18,7 @@ class Page:
 
     def __init__(self, columns, rows):
         self.columns, self.height, self.rows = columns, rows, [[]]
-        self.row, self.column, self.style = 0, 0, ()
+        self.row, self.column, self.style, self.wraps = 0, 0, (), True
 
     def play(self, text):
         """Plays signs. Raises `ValueError` at what is none."""
@@ -42,6 +42,8 @@ class Page:
         elif sign["below"]:
             del self.rows[self.row][self.column :]
             self.rows[self.row + 1 :] = [[] for _ in self.rows[self.row + 1 :]]
+        elif sign["wrap"]:
+            self.wraps = sign["wrap"] == "h"
         elif sign["codes"]:
             self.style = tuple(int(it) for it in sign["codes"].split(";") if it != "0")
         elif sign["char"]:
@@ -66,7 +68,11 @@ class Page:
     def put(self, char):
         width = width_of(char)
         if self.column + width > self.columns:
-            self.feed()
+            if self.wraps:
+                self.feed()
+            else:
+                # In the last cell, which a wide character without room blanks.
+                char, width, self.column = char if width == 1 else " ", 1, self.columns - 1
         row = self.rows[self.row]
         if not width:
             if self.column:
@@ -74,6 +80,8 @@ class Page:
                 row[self.column - 1] = (text + char, style)
             return
         row += [(" ", ())] * (self.column - len(row))
+        if row[self.column : self.column + 1] and not row[self.column][0]:
+            row[self.column - 1] = (" ", ())
         row[self.column : self.column + width] = [(char, self.style), ("", self.style)][:width]
         self.column += width
 

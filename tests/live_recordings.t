@@ -136,7 +136,7 @@ Dropping the root ends the frames, as in the run.
   info 1 0 b
   quit NOW
   $ prodash-replay bytes 40 4 --defensive <recording
-  \r\x1b[J\r\x1b[J (no-eol) (esc)
+  \r\x1b[?7l\x1b[J\x1b[?7h\r\x1b[?7l\x1b[J\x1b[?7h (no-eol) (esc)
 
 Ticks
 =====

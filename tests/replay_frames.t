@@ -151,14 +151,14 @@ the row is erased and drawn again.
    \xe2\x80\xa6 and 3 more (esc)
   
   $ prodash-replay bytes 40 2 --defensive <five | tr '\033' E
-  \rE[2K \xe2\x80\xa6 and 5 more (esc)
-  E[JE[1A (no-eol)
+  \rE[?7lE[2K \xe2\x80\xa6 and 5 more (esc)
+  E[JE[1AE[?7h (no-eol)
   $ printf 'add 0 a\ntick 0\ninfo 1 1 one\ntick 1\nquit 2\n' | prodash-replay bytes 40 4 --defensive | tr '\r\033' RE
-  RE[2K a
-  E[JE[1ARE[2K a one
+  RE[?7lE[2K a
+  E[JE[1AE[?7hRE[?7lE[2K a one
   E[2K a
-  E[JE[1ARE[2K
-  E[JE[1A (no-eol)
+  E[JE[1AE[?7hRE[?7lE[2K
+  E[JE[1AE[?7h (no-eol)
 
 In colour. Both options may be given, in any order. A page shows no styles.
 
@@ -166,8 +166,8 @@ In colour. Both options may be given, in any order. A page shows no styles.
    E[1;37maE[0m
   E[1A (no-eol)
   $ printf 'add 0 a\ntick 0\n' | prodash-replay bytes 40 4 --colored --defensive | tr '\r\033' RE
-  RE[2K E[1;37maE[0m
-  E[JE[1A (no-eol)
+  RE[?7lE[2K E[1;37maE[0m
+  E[JE[1AE[?7h (no-eol)
   $ printf 'add 0 a\ntick 0\n' | prodash-replay page 40 2 --defensive --colored
    a
   
@@ -177,10 +177,10 @@ write each byte as it is.
 
   $ printf 'add 0 \033[2J\ttab\ntick 0\ninfo 1 1 \007bell\ntick 1\n' >controls
   $ prodash-replay bytes 40 4 --defensive <controls | tr '\r\033' RE
-  RE[2K \xef\xbf\xbd[2J\xef\xbf\xbdtab (esc)
-  E[JE[1ARE[2K \xef\xbf\xbd[2J\xef\xbf\xbdtab \xef\xbf\xbdbell (esc)
+  RE[?7lE[2K \xef\xbf\xbd[2J\xef\xbf\xbdtab (esc)
+  E[JE[1AE[?7hRE[?7lE[2K \xef\xbf\xbd[2J\xef\xbf\xbdtab \xef\xbf\xbdbell (esc)
   E[2K \xef\xbf\xbd[2J\xef\xbf\xbdtab (esc)
-  E[JE[1A (no-eol)
+  E[JE[1AE[?7h (no-eol)
   $ prodash-replay bytes 40 4 <controls | tr '\033\t\007' ETB
    E[2JTtab
   E[1A E[2JTtab Bbell

@@ -28,14 +28,15 @@ const FIVE: &[Task] = &[
 ];
 
 /// `task` at 3 of 10.
-const TASK_FRAME: &str = "\r\x1b[2K task 3/10 [=======>-------------------]\n\x1b[J\x1b[1A";
+const TASK_FRAME: &str =
+    "\r\x1b[?7l\x1b[2K task 3/10 [=======>-------------------]\n\x1b[J\x1b[1A\x1b[?7h";
 
 /// The message `one` of `task`, and `task` at 3 of 10.
-const MESSAGE_FRAME: &str =
-    "\r\x1b[2K task one\n\x1b[2K task 3/10 [=======>-------------------]\n\x1b[J\x1b[1A";
+const MESSAGE_FRAME: &str = "\r\x1b[?7l\x1b[2K task one
+\x1b[2K task 3/10 [=======>-------------------]\n\x1b[J\x1b[1A\x1b[?7h";
 
 /// The three tasks.
-const THREE_FRAME: &str = "\r\x1b[2K a\n\x1b[2K b\n\x1b[2K c\n\x1b[J\x1b[3A";
+const THREE_FRAME: &str = "\r\x1b[?7l\x1b[2K a\n\x1b[2K b\n\x1b[2K c\n\x1b[J\x1b[3A\x1b[?7h";
 
 #[rattlefmt::skip]
 const FRAMES: &[Drawing] = &[
@@ -44,35 +45,35 @@ const FRAMES: &[Drawing] = &[
         (Show(&[TASK]), Ok(TASK_FRAME)),
         (Show(&[TASK]), Ok("")),
         (Print(&[("task", "one")], &[TASK]), Ok(MESSAGE_FRAME)),
-        (PrintHidden(&[("task", "two")], &[TASK]), Ok("\r\x1b[2K task two\n\x1b[J")),
+        (PrintHidden(&[("task", "two")], &[TASK]), Ok("\r\x1b[?7l\x1b[2K task two\n\x1b[J\x1b[?7h")),
         (Hide(&[TASK]), Ok("")),
         (Show(&[TASK]), Ok(TASK_FRAME)),
-        (Quit, Ok("\r\x1b[2K\n\x1b[J\x1b[1A")),
+        (Quit, Ok("\r\x1b[?7l\x1b[2K\n\x1b[J\x1b[1A\x1b[?7h")),
     ]),
     // rows that were hidden are drawn once they change
-    Drawing((40, 20), &[(Hide(&[TASK]), Ok("")), (Show(&[TASK]), Ok("")), (Show(&[]), Ok("\r\x1b[J"))]),
+    Drawing((40, 20), &[(Hide(&[TASK]), Ok("")), (Show(&[TASK]), Ok("")), (Show(&[]), Ok("\r\x1b[?7l\x1b[J\x1b[?7h"))]),
     // rows that go are erased
     Drawing((40, 24), &[
-        (Show(&[("a", None), ("b", None)]), Ok("\r\x1b[2K a\n\x1b[2K b\n\x1b[J\x1b[2A")),
-        (Show(&[("a", None)]), Ok("\r\x1b[2K a\n\x1b[2K\n\x1b[J\x1b[2A")),
-        (Show(&[]), Ok("\r\x1b[2K\n\x1b[J\x1b[1A")),
+        (Show(&[("a", None), ("b", None)]), Ok("\r\x1b[?7l\x1b[2K a\n\x1b[2K b\n\x1b[J\x1b[2A\x1b[?7h")),
+        (Show(&[("a", None)]), Ok("\r\x1b[?7l\x1b[2K a\n\x1b[2K\n\x1b[J\x1b[2A\x1b[?7h")),
+        (Show(&[]), Ok("\r\x1b[?7l\x1b[2K\n\x1b[J\x1b[1A\x1b[?7h")),
     ]),
     // messages are over rows, of which the others are erased
     Drawing((40, 24), &[
         (Show(THREE), Ok(THREE_FRAME)),
-        (PrintHidden(&[("a", "one")], &[]), Ok("\r\x1b[2K a one\n\x1b[2K\n\x1b[2K\n\x1b[J\x1b[2A")),
+        (PrintHidden(&[("a", "one")], &[]), Ok("\r\x1b[?7l\x1b[2K a one\n\x1b[2K\n\x1b[2K\n\x1b[J\x1b[2A\x1b[?7h")),
     ]),
     // as many rows as fit above the last row of the window, and a line that counts the others
     Drawing((40, 4), &[(Show(THREE), Ok(THREE_FRAME))]),
-    Drawing((40, 4), &[(Show(FIVE), Ok("\r\x1b[2K a\n\x1b[2K b\n\x1b[2K … and 3 more\n\x1b[J\x1b[3A"))]),
-    Drawing((40, 2), &[(Show(FIVE), Ok("\r\x1b[2K … and 5 more\n\x1b[J\x1b[1A"))]),
-    Drawing((40, 1), &[(Show(FIVE), Ok("\r\x1b[J"))]),
-    Drawing((8, 3), &[(Show(FIVE), Ok("\r\x1b[2K a\n\x1b[2K … and 4\n\x1b[J\x1b[2A"))]),
+    Drawing((40, 4), &[(Show(FIVE), Ok("\r\x1b[?7l\x1b[2K a\n\x1b[2K b\n\x1b[2K … and 3 more\n\x1b[J\x1b[3A\x1b[?7h"))]),
+    Drawing((40, 2), &[(Show(FIVE), Ok("\r\x1b[?7l\x1b[2K … and 5 more\n\x1b[J\x1b[1A\x1b[?7h"))]),
+    Drawing((40, 1), &[(Show(FIVE), Ok("\r\x1b[?7l\x1b[J\x1b[?7h"))]),
+    Drawing((8, 3), &[(Show(FIVE), Ok("\r\x1b[?7l\x1b[2K a\n\x1b[2K … and 4\n\x1b[J\x1b[2A\x1b[?7h"))]),
     // no more rows are erased than the window has above its last one
     Drawing((40, 4), &[
         (Show(THREE), Ok(THREE_FRAME)),
-        (Resize(40, 2), Ok("\r\x1b[2K … and 3 more\n\x1b[J\x1b[1A")),
-        (Quit, Ok("\r\x1b[2K\n\x1b[J\x1b[1A")),
+        (Resize(40, 2), Ok("\r\x1b[?7l\x1b[2K … and 3 more\n\x1b[J\x1b[1A\x1b[?7h")),
+        (Quit, Ok("\r\x1b[?7l\x1b[2K\n\x1b[J\x1b[1A\x1b[?7h")),
     ]),
 ];
 
@@ -81,10 +82,10 @@ const FRAMES: &[Drawing] = &[
 const HIDING: &[Drawing] = &[
     Drawing((40, 20), &[
         (Hide(&[]), Ok("\x1b[?25l")),
-        (Show(&[("a", None)]), Ok("\r\x1b[2K a\n\x1b[J\x1b[1A")),
-        (Quit, Ok("\r\x1b[2K\n\x1b[J\x1b[1A\x1b[?25h")),
+        (Show(&[("a", None)]), Ok("\r\x1b[?7l\x1b[2K a\n\x1b[J\x1b[1A\x1b[?7h")),
+        (Quit, Ok("\r\x1b[?7l\x1b[2K\n\x1b[J\x1b[1A\x1b[?25h\x1b[?7h")),
     ]),
-    Drawing((40, 20), &[(Quit, Ok("\x1b[?25l\r\x1b[J\x1b[?25h"))]),
+    Drawing((40, 20), &[(Quit, Ok("\x1b[?25l\r\x1b[?7l\x1b[J\x1b[?25h\x1b[?7h"))]),
 ];
 
 /// Frames on an output that isn't a terminal.
@@ -106,13 +107,13 @@ const CLEARING: Task = ("a\x1b[2J", None);
 const UNSAFE: &[Drawing] = &[
     // names, origins, messages and units
     Drawing((40, 20), &[
-        (Show(&[CLEARING]), Ok("\r\x1b[2K a\u{FFFD}[2J\n\x1b[J\x1b[1A")),
+        (Show(&[CLEARING]), Ok("\r\x1b[?7l\x1b[2K a\u{FFFD}[2J\n\x1b[J\x1b[1A\x1b[?7h")),
         (Show(&[CLEARING]), Ok("")),
-        (Show(&[("\t\u{7f}\u{85}", None)]), Ok("\r\x1b[2K \u{FFFD}\u{FFFD}\u{FFFD}\n\x1b[J\x1b[1A")),
-        (PrintHidden(&[("\ta", "\x1b[2J\u{85}")], &[]), Ok("\r\x1b[2K \u{FFFD}a \u{FFFD}[2J\u{FFFD}\n\x1b[J")),
+        (Show(&[("\t\u{7f}\u{85}", None)]), Ok("\r\x1b[?7l\x1b[2K \u{FFFD}\u{FFFD}\u{FFFD}\n\x1b[J\x1b[1A\x1b[?7h")),
+        (PrintHidden(&[("\ta", "\x1b[2J\u{85}")], &[]), Ok("\r\x1b[?7l\x1b[2K \u{FFFD}a \u{FFFD}[2J\u{FFFD}\n\x1b[J\x1b[?7h")),
     ]),
     Drawing((20, 20), &[
-        (Measure(Kind::Label("i\x1bt"), 2, None), Ok("\r\x1b[2K t 2 i\u{FFFD}t [  ===   =]\n\x1b[J\x1b[1A")),
+        (Measure(Kind::Label("i\x1bt"), 2, None), Ok("\r\x1b[?7l\x1b[2K t 2 i\u{FFFD}t [  ===   =]\n\x1b[J\x1b[1A\x1b[?7h")),
     ]),
     // bidi controls, separators, and the byte order mark
     Drawing((40, 20), &[
@@ -132,15 +133,15 @@ const UNSAFE: &[Drawing] = &[
     ]),
     // a row has changed if only its unsafe characters have
     Drawing((40, 20), &[
-        (Show(&[("a\t", None)]), Ok("\r\x1b[2K a\u{FFFD}\n\x1b[J\x1b[1A")),
-        (Show(&[("a\n", None)]), Ok("\r\x1b[2K a\u{FFFD}\n\x1b[J\x1b[1A")),
+        (Show(&[("a\t", None)]), Ok("\r\x1b[?7l\x1b[2K a\u{FFFD}\n\x1b[J\x1b[1A\x1b[?7h")),
+        (Show(&[("a\n", None)]), Ok("\r\x1b[?7l\x1b[2K a\u{FFFD}\n\x1b[J\x1b[1A\x1b[?7h")),
     ]),
     // cut and aligned by the widths of what is written: as they are, CR and LF are one column
     Drawing((20, 20), &[
-        (Show(&[("\r\n", THREE_OF_TEN)]), Ok("\r\x1b[2K \u{FFFD}\u{FFFD} 3/10 [==>------]\n\x1b[J\x1b[1A")),
-        (PrintHidden(&[("abc", "x"), ("\r\n", "y")], &[]), Ok("\r\x1b[2K abc x\n\x1b[2K  \u{FFFD}\u{FFFD} y\n\x1b[J")),
+        (Show(&[("\r\n", THREE_OF_TEN)]), Ok("\r\x1b[?7l\x1b[2K \u{FFFD}\u{FFFD} 3/10 [==>------]\n\x1b[J\x1b[1A\x1b[?7h")),
+        (PrintHidden(&[("abc", "x"), ("\r\n", "y")], &[]), Ok("\r\x1b[?7l\x1b[2K abc x\n\x1b[2K  \u{FFFD}\u{FFFD} y\n\x1b[J\x1b[?7h")),
     ]),
-    Drawing((2, 20), &[(Show(&[("\r\n", None)]), Ok("\r\x1b[2K \u{FFFD}\n\x1b[J\x1b[1A"))]),
+    Drawing((2, 20), &[(Show(&[("\r\n", None)]), Ok("\r\x1b[?7l\x1b[2K \u{FFFD}\n\x1b[J\x1b[1A\x1b[?7h"))]),
 ];
 
 /// Such frames without the option: each byte is as it is.
@@ -156,17 +157,17 @@ const KEPT: &[Drawing] = &[
     Drawing((20, 20), &[(Show(&[("a\u{202E}b\u{2028}\u{FEFF}", None)]), Ok(" a\u{202E}b\u{2028}\u{FEFF}\n\x1b[1A"))]),
 ];
 
-/// Inputs, and how many bytes the frame of each has, defensive and not: fewer where lines shrink,
-/// and otherwise at most four more for the frame and four for each line.
+/// Inputs, and how many bytes the frame of each has, defensive and not: fewer where lines shrink
+/// by more than that, and otherwise at most 14 more for the frame and four for each line.
 #[rattlefmt::skip]
 const SIZES: &[(Ask, (usize, usize))] = &[
-    (Show(&[("a long name", None), ("another long name", None)]), (48, 36)),
-    (Show(&[("a", None), ("b", None)]), (22, 36)),
-    (Show(&[("a long name", None), ("another long name", None)]), (48, 36)),
-    (Print(&[("a", "one")], &[("a", None)]), (26, 36)),
-    (Show(&[TASK]), (53, 45)),
-    (Show(&[]), (13, 45)),
-    (Quit, (4, 5)),
+    (Show(&[("a long name", None), ("another long name", None)]), (58, 36)),
+    (Show(&[("a", None), ("b", None)]), (32, 36)),
+    (Show(&[("a long name", None), ("another long name", None)]), (58, 36)),
+    (Print(&[("a", "one")], &[("a", None)]), (36, 36)),
+    (Show(&[TASK]), (63, 45)),
+    (Show(&[]), (23, 45)),
+    (Quit, (14, 5)),
 ];
 
 /// Draws a frame, and returns how many bytes it has.

@@ -37,6 +37,11 @@ const WRITTEN: &[Written] = &[
     ((3, 2), &["ab\x1b[2Kc"], &["  c", ""], 0, (0, 3)),
     // a carriage return clears nothing
     ((3, 2), &["ab\rc"], &["cb", ""], 0, (0, 1)),
+    // without wrapping characters past the last column replace the one in it, and a line feed is
+    // as ever; with it they go on in the next row
+    ((3, 2), &["\x1b[?7labcde"], &["abe", ""], 0, (0, 3)),
+    ((3, 2), &["\x1b[?7labcd\ne"], &["abd", "e"], 0, (1, 1)),
+    ((3, 2), &["\x1b[?7labcd\x1b[?7he"], &["abd", "e"], 0, (1, 1)),
     // a page shows no styles and no hidden cursor
     ((3, 2), &[STYLED], &["abc", ""], 0, (0, 3)),
 ];
@@ -105,8 +110,11 @@ fn reads_what_signs_spell(rt: HostRuntime) {
         Sign::CarriageReturn,
         Sign::EraseBelow,
         Sign::LineFeed,
+        Sign::NoWrap,
+        Sign::Wrap,
     ];
-    assert_spelled(&rt, rt.alloc(), &signs, "a\x1b[2K\x1b[65535Aé\r\x1b[J\n");
+    let text = "a\x1b[2K\x1b[65535Aé\r\x1b[J\n\x1b[?7l\x1b[?7h";
+    assert_spelled(&rt, rt.alloc(), &signs, text);
 }
 
 /// Bytes that no signs spell, and how many before the fault signs do.
@@ -120,6 +128,9 @@ const FAULTS: &[(&[u8], usize)] = &[
     (b"\x1b[0A", 0),
     (b"\x1b[0J", 0),
     (b"\x1b[2K\x1b", 4),
+    (b"\x1b[7l", 0),
+    (b"\x1b[?7k", 0),
+    (b"\x1b[?07h", 0),
 ];
 
 #[test]
@@ -140,6 +151,8 @@ fn plain_values_differ_by_any_field(rt: HostRuntime) {
         Sign::Up(2),
         Sign::EraseLine,
         Sign::EraseBelow,
+        Sign::NoWrap,
+        Sign::Wrap,
     ];
     let faults = [Fault::At(0), Fault::At(1), Fault::Memory];
     let answers = [Answer::Drawn, Answer::Ended];
