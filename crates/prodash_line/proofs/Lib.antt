@@ -1,5 +1,6 @@
 pub mod ScreenTaken
 pub mod PairedTexts
+pub mod PlainRows
 pub mod PlainProgress
 pub mod Prefixes
 pub mod Cutting

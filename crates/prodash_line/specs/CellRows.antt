@@ -1,5 +1,6 @@
 -- A row of cells on a terminal, for any widths of characters: what writing characters of no, one or two columns into it leaves.
-use Rattle.std.specs.Prelude.{ℕ, zero, suc, ◌+◌, ◌-◌, min, Bool, true, false, List, [], ◌∷◌, ◌++◌, replicate, slice_index_or, slice_set, nat_lt, if◌then◌else◌}
+use Rattle.std.specs.Prelude.{ℕ, zero, suc, ◌+◌, ◌-◌, min, Bool, true, false, List, [], ◌∷◌, ◌++◌, replicate, slice_index_or, slice_set, nat_lt, if◌then◌else◌, Option, Some, None}
+use Rattle.unicode_width.specs.Width.{char_width}
 
 -- a character with those that joined it, or the second half of a wide one
 pub data Cell : Type 0 where
@@ -81,6 +82,15 @@ played columns width text = (typed columns width text (blank_row width)).cells
 abbrev pub text_columns : (ℕ → ℕ) → List ℕ → ℕ
 text_columns columns [] = 0
 text_columns columns (c ∷ text) = min (columns c) 2 + text_columns columns text
+
+-- this many columns, or none
+abbrev pub or_none : Option ℕ → ℕ
+or_none None = 0
+or_none (Some n) = n
+
+-- the columns of a character by itself, as the renderer counts them; a control character has none
+abbrev pub char_columns : ℕ → ℕ
+char_columns c = or_none (char_width false c)
 
 -- a character of so many columns, before those that join the one before them: it joins it too if it has no column
 abbrev pub joined_with : ℕ → ℕ → List ℕ → List ℕ

@@ -94,9 +94,9 @@ const FAULTS: &[(&str, usize)] = &[
     ("\x1b[1:36m", 0),
     ("\x1b[1;36", 0),
     ("\x1b[?25m", 0),
-    // other modes than the cursor's
+    // other modes than those of the cursor and of wrapping
     ("\x1b[25l", 0),
-    ("\x1b[?7h", 0),
+    ("\x1b[?47h", 0),
     // after signs
     ("a\x1b[0m\x1b[3m", 5),
     ("\x1b[1m\x1b[?25", 4),
