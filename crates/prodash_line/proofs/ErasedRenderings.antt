@@ -148,7 +148,10 @@ first_fails true b e = e
 
 -- a safe character is no control character
 no_control : (c : ℕ) → is_unsafe c ≡ false → is_control c ≡ false
-no_control c e = first_fails (is_control c) (is_bidi_control c || is_in_range 0x2028 0x2029 c || c == 0xFEFF) e
+no_control c e =
+    let bidi = is_bidi_control c in
+    let separator = is_in_range 0x2028 0x2029 c in
+    first_fails (is_control c) bidi (first_fails (is_control c || bidi) separator (first_fails (is_control c || bidi || separator) (c == 0xFEFF) e))
 
 -- scalar values that are safe are proper
 chars_proper : (text : List ℕ) → AllByRecursion IsScalar text → AllByRecursion (λ c. is_unsafe c ≡ false) text → IsProperText text
