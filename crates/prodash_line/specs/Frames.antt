@@ -101,7 +101,7 @@ frame_start (Erasing height) Unchanged = []
 frame_start (Erasing height) (Draws lines) = CarriageReturn ∷ NoWrap ∷ []
 frame_start (Erasing height) (Closes ending) = CarriageReturn ∷ NoWrap ∷ []
 
--- and wraps again at its end
+-- and lets characters wrap again at its end
 abbrev pub frame_end : Layout → Body → List Sign
 frame_end Overwriting body = []
 frame_end (Erasing height) Unchanged = []

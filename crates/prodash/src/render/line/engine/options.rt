@@ -28,8 +28,9 @@ pub struct Options {
     /// Whether the first frame hides the cursor of a terminal. The closing frame shows it again.
     pub hide_cursor: bool,
     /// Whether each frame erases the rows of a terminal that it writes on, and all rows below
-    /// them, and draws no more rows than the terminal has. Then nothing is left on screen of what
-    /// other programs print between two frames, or of a terminal whose size has changed.
+    /// them, draws no more rows than the terminal has, and lets no line wrap. Then nothing is left
+    /// on screen of what other programs print between two frames, of a terminal whose size has
+    /// changed, or of a line that the terminal takes for wider than its row.
     ///
     /// Also whether U+FFFD is written in place of each unsafe character of a name, an origin, a
     /// message or a text of a unit, on a terminal or not: of each control character, each
