@@ -1,3 +1,6 @@
+mod KeptNames
+mod LineFeeds
+mod LinesRead
 mod NamedItems
 mod Numerals
 mod ScriptLines

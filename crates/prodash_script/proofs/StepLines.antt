@@ -21,7 +21,7 @@ use Rattle.prodash_script.specs.declared.change.StepChange.TheVariants as steps
 use Rattle.prodash_script.specs.declared.command.Command.{Command}
 use Rattle.prodash_script.specs.declared.command.Command.TheVariants as commands
 use Rattle.prodash_script.specs.declared.mistake.Mistake.{Mistake}
-use Rattle.prodash_script.specs.Commands.{accepted, begin_of, command_of, event_command, event_of, handle_in, is_comment, moment_in, named_add_of, size_of, text_command}
+use Rattle.prodash_script.specs.Commands.{accepted, begin_of, command_of, event_command, event_of, handle_in, is_comment, moment_in, named_add_of, size_of}
 use Rattle.prodash_script.specs.Mistakes.{first_mistake}
 use Rattle.prodash_script.specs.Reading.{all_events, alone, bound_of, cut_at_space, read_by, small_of, text_of, then_read}
 use Rattle.prodash_script.specs.Steps.{step_in}

@@ -1,5 +1,5 @@
 -- The commands that lines of scripts are.
-use Rattle.std.specs.Prelude.{ℕ, List, [], ◌∷◌, Bool, true, false, Option, Some, None, String, ◌&&◌, bytes_eq, codes, unwrap_or, length, nat_eq, nat_lt, is_some, option_map, option_and_then, if◌then◌else◌}
+use Rattle.std.specs.Prelude.{ℕ, List, [], ◌∷◌, Bool, true, Option, Some, None, String, bytes_eq, codes, unwrap_or, length, nat_eq, nat_lt, option_map, option_and_then, if◌then◌else◌}
 use Rattle.std.specs.Option.{option_map_or}
 use Rattle.std.specs.Str.{is_utf8}
 use Rattle.std.specs.HashMap.{HashMap, get_by_text}

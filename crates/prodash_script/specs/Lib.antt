@@ -4,6 +4,7 @@ pub mod Lines
 pub mod Mistakes
 pub mod Reading
 pub mod Steps
+pub mod Streams
 pub mod Units
 pub mod Words
 pub mod plumbing

@@ -1,12 +1,12 @@
 -- The lines of events.
-use Rattle.std.specs.Prelude.{◌≡◌, ℕ, List, ◌++◌, Bool, true, false, not, nat_eq, codes, string_bytes, Option, Some, None, MatchOption, Result, String, IsTrue, IfOk}
-use Rattle.std.specs.List.{list_any}
+use Rattle.std.specs.Prelude.{◌≡◌, ℕ, List, ◌++◌, Bool, true, false, not, codes, string_bytes, Option, Some, None, MatchOption, Result, String, IsTrue, IfOk}
 use Rattle.std.specs.Fmt.{decimal}
 use Rattle.prodash_base.specs.declared.messages.MessageLevel.{MessageLevel}
 use Rattle.prodash_base.specs.declared.messages.MessageLevel.TheVariants.{Info, Success, Failure}
 use Rattle.prodash_base.specs.Rows.{unknown_id}
 use Rattle.prodash_core.specs.declared.tree.event.Event.{Event}
 use Rattle.prodash_core.specs.declared.tree.event.Event.TheVariants.{AddChild, Drop, Init, SetName, SetMax, Set, IncBy, Blocked, Halted, Running, Message, DropRoot, Tick, Resize, Quit}
+use Rattle.prodash_script.specs.Streams.{has_line_feed}
 use Rattle.prodash_script.specs.Units.{NamesUnit}
 
 -- two texts with a space between them
@@ -39,7 +39,7 @@ tick_word false = codes "hold"
 
 -- whether a text has no line feed
 abbrev pub is_one_line : List ℕ → Bool
-is_one_line text = not (list_any (λ b. nat_eq b 10) text)
+is_one_line text = not (has_line_feed text)
 
 -- a text without a line feed
 abbrev pub IsOneLine : List ℕ → Type 0

@@ -1,5 +1,5 @@
 -- The first mistake in a line of a script.
-use Rattle.std.specs.Prelude.{ℕ, List, [], ◌∷◌, Bool, true, false, length, codes, Option, Some, None, ◌&&◌, is_some, nat_eq, nat_lt, option_map, option_and_then, unwrap_or, if◌then◌else◌}
+use Rattle.std.specs.Prelude.{ℕ, List, [], ◌∷◌, Bool, true, length, codes, Option, Some, None, ◌&&◌, is_some, nat_eq, nat_lt, option_map, option_and_then, unwrap_or, if◌then◌else◌}
 use Rattle.std.specs.Option.{option_map_or}
 use Rattle.prodash_script.specs.Reading.{bound_of, cut_at_space, small_of}
 use Rattle.prodash_script.specs.Units.{is_unit_word}

@@ -1,6 +1,6 @@
 -- The words of units.
 use Rattle.std.specs.Prelude.{◌≡◌, ℕ, List, [], ◌∷◌, ◌++◌, Bool, true, false, not, ◌&&◌, ◌||◌, length, codes, Option, Some, None, option_map, nat_lt, nat_eq, bytes_eq, unwrap_or, if◌then◌else◌}
-use Rattle.std.specs.List.{list_all}
+use Rattle.std.specs.List.{list_all, list_any}
 use Rattle.std.specs.Option.{option_map_or}
 use Rattle.prodash_base.specs.declared.unit.display.Location.TheVariants.{BeforeValue, AfterUnit}
 use Rattle.prodash_base.specs.declared.unit.display.Mode.{Mode}
@@ -78,3 +78,27 @@ name_in (Duration duration) = codes "duration"
 -- a word that says a unit; `-` says none
 abbrev pub NamesUnit : Option Unit → List ℕ → Type 0
 NamesUnit unit word = unit_in word ≡ Some (option_map plain_unit unit)
+
+-- whether a text is one of some names
+abbrev pub is_among : List ℕ → List (List ℕ) → Bool
+is_among text names = list_any (λ name. bytes_eq name text) names
+
+-- the names that are kept once a further one is: each once, in the order in which they came
+abbrev pub with_name : List ℕ → List (List ℕ) → List (List ℕ)
+with_name name names = if is_among name names then names else names ++ name ∷ []
+
+-- the names that are kept once a kind of unit was parsed: that of a label
+abbrev pub names_with : List (List ℕ) → Kind → List (List ℕ)
+names_with names (Label name) = with_name name.now names
+names_with names (Bytes bytes) = names
+names_with names (Duration duration) = names
+names_with names (Human human) = names
+names_with names (Range range) = names
+
+-- the names that are kept once the word of a unit was parsed, or another word
+abbrev pub names_after : List (List ℕ) → List ℕ → List (List ℕ)
+names_after names word =
+    option_map_or
+    (λ unit. option_map_or (λ it. names_with names it.kind) unit names)
+    (unit_in word)
+    names

@@ -1,3 +1,5 @@
-pub mod Lines
-pub mod Readers
 pub mod Commands
+pub mod Lines
+pub mod Names
+pub mod Readers
+pub mod Streams

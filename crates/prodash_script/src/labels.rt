@@ -1,14 +1,16 @@
 //! The words of units, whose names are arbitrary.
-ghost use Rattle.std.specs.Prelude.{◌≡◌, IfOk, option_map};
+ghost use Rattle.std.specs.Prelude.{◌≡◌, ℕ, IfOk, List, [], OnErr, map, option_map};
 ghost use Rattle.std.specs.List.{list_all};
-ghost use Rattle.prodash_script.specs.Units.{is_name_byte, is_unit_name, is_unit_word, kind_in, name_and_mode, stripped_by, unit_in};
+ghost use Rattle.prodash_script.specs.Units.{is_name_byte, is_unit_name, is_unit_word, kind_in, name_and_mode, names_after, names_with, stripped_by, unit_in, with_name};
 ghost use Rattle.prodash_script.specs.Words.{after_prefix, before_suffix, plain_kind, plain_unit};
+ghost use Rattle.prodash_script.specs.plumbing.Names.{FindsName};
 
 use crate::script::after;
 use prodash_base::unit::display::Mode;
 use prodash_base::unit::human::Formatter;
 use prodash_base::unit::{Bytes, Duration, Human, Kind, Range, Unit, dynamic, dynamic_and_mode};
 use std::alloc::{AllocError, Global};
+use std::marker::Model;
 use std::str;
 
 /// The names of units that were kept, each once. They are kept until the program ends.
@@ -17,9 +19,17 @@ pub struct Labels {
     names: Vec<&'static str>,
 }
 
+impl Model for Labels {
+    ghost Value = { List (List ℕ) };
+
+    ghost view = { λ labels. map (λ name. name.now) labels.names.items };
+}
+
 impl Labels {
     /// Returns an empty list of names.
-    pub fn new(alloc: Global) -> Labels {
+    pub fn new(alloc: Global) -> Labels
+        ensures { result ≡ [] }
+    {
         Labels {
             names: Vec::new(alloc),
         }
@@ -31,8 +41,10 @@ impl Labels {
     ///
     /// `AllocError`, if there is no memory for the name of the unit.
     pub fn unit_of(&mut self, alloc: Global, word: &str) -> Result<Option<Option<Unit>>, AllocError>
-        ensures { IfOk result (λ found.
+        ensures ok { IfOk result (λ found.
             option_map (option_map plain_unit) found ≡ unit_in word.now) }
+        ensures names { IfOk result (λ _. self.new ≡ names_after self.old word.now) }
+        ensures err { OnErr result (self.new ≡ self.old) }
     {
         if word == "-" {
             return Ok(Some(None));
@@ -50,7 +62,9 @@ impl Labels {
 
     /// Returns the kind of unit that a name says.
     fn kind_of(&mut self, alloc: Global, name: &str) -> Result<Kind, AllocError>
-        ensures { IfOk result (λ kind. plain_kind kind ≡ kind_in name.now) }
+        ensures ok { IfOk result (λ kind. plain_kind kind ≡ kind_in name.now) }
+        ensures names { IfOk result (λ _. self.new ≡ names_with self.old (kind_in name.now)) }
+        ensures err { OnErr result (self.new ≡ self.old) }
     {
         Ok(match name {
             "steps" => Kind::Range(Range::new("steps")),
@@ -63,17 +77,29 @@ impl Labels {
 
     /// Returns the kept copy of a name, which it makes if there is none.
     fn keep(&mut self, alloc: Global, name: &str) -> Result<&'static str, AllocError>
-        ensures { IfOk result (λ kept. kept.now ≡ name.now) }
+        ensures ok { IfOk result (λ kept. kept.now ≡ name.now) }
+        ensures names { IfOk result (λ _. self.new ≡ with_name name.now self.old) }
+        ensures err { OnErr result (self.new ≡ self.old) }
     {
-        for kept in &self.names {
-            if *kept == name {
-                return Ok(kept);
-            }
+        if let Some(kept) = find(&self.names, name) {
+            return Ok(kept);
         }
         let kept = leak(alloc, name)?;
         self.names.push(kept)?;
         Ok(kept)
     }
+}
+
+/// Returns the name that is equal to a text, if there is one.
+fn find(names: &[&'static str], text: &str) -> Option<&'static str>
+    ensures { FindsName names.now text.now result }
+{
+    for name in names {
+        if *name == text {
+            return Some(name);
+        }
+    }
+    None
 }
 
 /// Returns a copy of a text that is never freed.
