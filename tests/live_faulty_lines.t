@@ -118,7 +118,7 @@ A line that is not UTF-8, one that is too long, and one that is cut off.
   line 2: the line is longer than 65536 bytes, in: aaaaaaaaaaaaaaaaaaaaaaaaaaaaaaaaaaaaaaaaaaaaaaaaaaaaaaaaaaaa
   line 3: the line is cut off: it has no line feed, in: set 1 10
 
-At most 60 characters of a line or a word are shown, and no control characters.
+At most 60 characters of a line or a word are shown, and no unsafe characters.
 
   $ sixty=$(printf '%060d' 0)
   $ printf "$sixty\n${sixty}1\n${sixty}1 a\nset 1 ${sixty}1\n" | told | tr 0 .
@@ -138,6 +138,9 @@ With `--strict` the first faulty line is reported in the same words.
   [2]
   $ printf 'a\033b\302\233\n' | prodash-live --strict
   line 1: unknown command "a\xef\xbf\xbdb\xef\xbf\xbd", in: a\xef\xbf\xbdb\xef\xbf\xbd (esc)
+  [2]
+  $ printf 'a\342\200\256b\n' | prodash-live --strict
+  line 1: unknown command "a\xef\xbf\xbdb", in: a\xef\xbf\xbdb (esc)
   [2]
 
 It ends the program: a line that is no event, one with an invalid handle, and one that is cut off.

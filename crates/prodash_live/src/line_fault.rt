@@ -1,6 +1,7 @@
 //! What is wrong with a line, and the text that says it.
 use crate::failure::Failure;
 use prodash::Refusal;
+use prodash::render::line::draw::safe_char;
 use prodash::tree::Handle;
 use prodash_script::{Argument, Mistake};
 use std::alloc::{AllocError, AllocFailed, Global};
@@ -120,14 +121,15 @@ fn name_and_form(argument: Argument) -> (&'static str, &'static str) {
 /// The maximum number of characters that are shown of a line.
 const SHOWN: usize = 60;
 
-/// A text as it is shown: its first characters, with U+FFFD in place of control characters.
+/// A text as it is shown: its first characters, with U+FFFD in place of those that a defensive frame
+/// has none of.
 #[derive(Clone, Copy)]
 struct Shown<'a>(&'a str);
 
 impl fmt::Display for Shown<'_> {
     fn fmt<W: Write>(&self, f: &mut fmt::Formatter<W>) -> fmt::Result {
         for c in self.0.chars().take(SHOWN) {
-            f.write_char(if c.is_control() { '\u{FFFD}' } else { c })?;
+            f.write_char(safe_char(c))?;
         }
         Ok(())
     }

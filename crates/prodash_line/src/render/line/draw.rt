@@ -28,6 +28,7 @@ mod styles;
 mod text;
 mod tracker;
 
+pub use drawn_text::safe_char;
 use frame::{compose_closing, compose_resized, compose_tick};
 pub use input::{Answer, Input, Options};
 pub use memory_screen::MemoryScreen;

@@ -37,8 +37,10 @@ fn has_unsafe(text: &str) -> bool
     text.chars().any(is_unsafe)
 }
 
-/// Returns U+FFFD in place of an unsafe character, and any other character itself.
-fn safe_char(c: char) -> char
+/// Returns a character as a defensive renderer draws it: U+FFFD in place of a control character, a
+/// character with Unicode's property Bidi_Control, the line separator, the paragraph separator and
+/// the byte order mark; any other character itself.
+pub fn safe_char(c: char) -> char
     ensures { result ≡ safe_char c }
 {
     if is_unsafe(c) { '\u{FFFD}' } else { c }
