@@ -16,8 +16,8 @@ An option's value is the next word, or follows `=`. If an option is repeated, th
   $ until_shown 3/10 prodash-live --no-color --terminal always --bar-columns=20 <one_task 2>frames
   $ grep -q 'task 3/10 \[====>------------\]' frames
   $ until_shown 3/10 prodash-live --no-color --terminal always --bar-columns 0 <one_task 2>frames
-  $ grep 'task 3/10' frames | tail -n 1 | tr '\033' E
-  E[2K task 3/10
+  $ grep 'task 3/10' frames | tail -n 1 | sed 's/.*\[2K//'
+   task 3/10
 
 The version, the help, and what is refused.
 

@@ -15,7 +15,8 @@ If it is refused memory it is drawn later, so that there is always a row of 3000
   $ wide=m$(printf '%02986d' 0 | tr 0 -)$(printf '\033[0m]')
   $ run() {
   >   printf 'add 0 task\ninit 1 10\nsize 3000 20\n' | timeout 60 env REFUSED=$number MARK=9 \
-  >     LD_PRELOAD=./failures.so prodash-live --terminal always --delay "$1" 2>written 9>refused
+  >     LD_PRELOAD=./failures.so prodash-live --terminal always --bar-columns 3000 --delay "$1" \
+  >     2>written 9>refused
   > }
   $ refuse_each() {
   >   number=0

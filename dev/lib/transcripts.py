@@ -30,6 +30,8 @@ SCRIPTS = {
     "relay": f"{TOP}/lib/relay.py",
     "resize": f"{TOP}/tests/scripts/resize.py",
 }
+# A terminal that shows frames, and characters in UTF-8.
+TERMINAL = {"TERM": "xterm", "LC_ALL": "C.UTF-8"}
 SHORT = {"\\": "\\\\", "\r": "\\r", "\t": "\\t"}
 
 
@@ -119,7 +121,7 @@ def run(commands, programs, **variables):
             os.symlink(path, f"{room}/bin/{name}")
         with open(f"{room}/script", "w", encoding="utf-8") as it:
             it.writelines(f"{command.text()}echo {mark} $?\n" for command in commands)
-        env = {"PATH": f"{room}/bin:{os.environ['PATH']}", "LC_ALL": "C", **variables}
+        env = {"PATH": f"{room}/bin:{os.environ['PATH']}", **TERMINAL, **variables}
         how = {"cwd": f"{room}/work", "env": env, "stdin": subprocess.DEVNULL}
         how |= {"stdout": subprocess.PIPE, "stderr": subprocess.STDOUT}
         with subprocess.Popen(["sh", f"{room}/script"], start_new_session=True, **how) as shell:

@@ -12,6 +12,7 @@ use Rattle.prodash_line.specs.declared.render.line.draw.input.Answer.{Answer}
 use Rattle.prodash_line.specs.declared.render.line.draw.input.Options.{Options as DrawOptions}
 use Rattle.prodash_line.specs.Renderer.{Renderer, Seen, Accepts, RunsOutOfMemory, Refuses, Breaks, new_renderer, default_options as draw_defaults}
 use Rattle.prodash_line.specs.Screens.{ScreenState}
+use Rattle.prodash_line.specs.Environments.{is_colored}
 use Rattle.prodash_line.specs.declared.render.line.terminal.Environment.{Environment}
 use Rattle.prodash.specs.declared.render.line.engine.options.Options.{Options}
 use Rattle.prodash.specs.declared.render.line.engine.event.EngineEvent.{EngineEvent}
@@ -38,6 +39,7 @@ default_options = record {
   hide_cursor = draw_defaults.hide_cursor;
   defensive = draw_defaults.defensive;
   bar_columns = draw_defaults.bar_columns;
+  ascii = draw_defaults.ascii;
   throughput = false;
   level_filter = draw_defaults.level_filter;
   initial_delay = None;
@@ -48,12 +50,13 @@ default_options = record {
 -- the options for an output: the default ones, but with what the environment says of the terminal
 abbrev pub terminal_options : Bool → Environment → Options
 terminal_options is_terminal it = record default_options {
-  output_is_terminal = is_terminal;
-  colored = is_terminal && not it.no_color;
+  output_is_terminal = is_terminal && it.shows_frames;
+  colored = is_colored it.colors (is_terminal && it.shows_frames);
   terminal_dimensions = (
     unwrap_or it.columns default_options.terminal_dimensions.0,
     unwrap_or it.rows default_options.terminal_dimensions.1,
   );
+  ascii = not it.is_utf8;
 }
 
 -- what one look at a root may show, by how many messages were seen before

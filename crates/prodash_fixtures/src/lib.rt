@@ -32,6 +32,7 @@ pub const TERMINAL: Options = Options {
     hide_cursor: false,
     defensive: false,
     bar_columns: None,
+    ascii: false,
 };
 
 /// A step, and a bound if there is one.

@@ -69,7 +69,7 @@ few_lines options layout midpoint rows e i =
     let none = nat_eq others 0 || nat_lt height 2 in
     let size : length (row_lines options midpoint fit ++ more_lines options others) ≡ length (row_lines options midpoint fit) + length (more_lines options others) = length-append (row_lines options midpoint fit) (more_lines options others) in
     let mapped : length (row_lines options midpoint fit) ≡ length fit = length-map fit (drawn_row_line options midpoint) in
-    let more : length (more_lines options others) ≡ cond none 0 1 = one_if none (as_drawn options (more_line others)) in
+    let more : length (more_lines options others) ≡ cond none 0 1 = one_if none (as_drawn options (more_line options.ascii others)) in
     let taken : length fit ≡ min (cond (nat_lt (length rows) height) (length rows) (height - 2)) (length rows) =
     length-take (fitting_count layout (length rows)) rows ∙ ap (λ (l : Layout). min (fitting_count l (length rows)) (length rows)) e in
     let few : length fit + cond none 0 1 < height = few_by (length rows) height (length fit) taken i in

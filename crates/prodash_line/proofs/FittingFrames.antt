@@ -69,7 +69,7 @@ none_or_within cut columns false line h = (h, tt)
 
 more_within : (cut : Bool) (columns : ℕ) (options : Options) (n : ℕ) → HasWidth cut columns options → AreWithin cut columns (more_lines options n)
 more_within cut columns options n h =
-    none_or_within cut columns (nat_eq n 0 || nat_lt options.terminal_dimensions.1 2) (as_drawn options (more_line n)) (drawn_within cut columns options (more_line n) h)
+    none_or_within cut columns (nat_eq n 0 || nat_lt options.terminal_dimensions.1 2) (as_drawn options (more_line options.ascii n)) (drawn_within cut columns options (more_line options.ascii n) h)
 
 drawn_lines_within : (cut : Bool) (columns : ℕ) (r : Renderer) (at : ℕ) (rows : List PathRow) → HasWidth cut columns r.options → AreWithin cut columns (drawn_lines r at rows)
 drawn_lines_within cut columns r at rows h =

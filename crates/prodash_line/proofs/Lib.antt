@@ -47,6 +47,7 @@ pub mod WholeTexts
 pub mod SafeFrames
 pub mod WorkedCharacters
 pub mod WorkedCuts
+pub mod WorkedEnvironments
 pub mod WorkedFrames
 pub mod WorkedPages
 pub mod WorkedWriters

@@ -24,7 +24,7 @@ use Rattle.prodash_line.specs.declared.render.line.page.sign.Sign.{Sign}
 use Rattle.prodash_line.specs.declared.render.line.page.style.Style.{Style}
 use Rattle.prodash_line.specs.Lines.{Piece, Line, styled, in_color, width_of, columns_of, longest_prefix_of, longest_prefix, cut_to, cut}
 use Rattle.prodash_line.specs.DrawnLines.{safe_char, drawn_chars, limit_of, as_drawn}
-use Rattle.prodash_line.specs.ProgressRows.{DrawnRow, fraction_of, values_by, numbered_cell, bounded_bar, unbounded_bar, bar, bar_columns, padded, row_line_with, row_lines, more_line, more_lines}
+use Rattle.prodash_line.specs.ProgressRows.{DrawnRow, fraction_of, values_by, numbered_cell, bounded_bar, unbounded_bar, bar, bar_columns, padded, row_line_with, row_lines, ellipsis, more_line, more_lines}
 use Rattle.prodash_line.specs.TextStyles.{row_style}
 use Rattle.prodash_line.specs.MessageLines.{time_of, text_of, message_line, message_lines, origin_width, greatest_width}
 use Rattle.prodash_line.specs.Frames.{body_lines}
@@ -186,10 +186,14 @@ none_or_one : (b : Bool) (line : Line) → IsSafe line → AllByRecursion IsSafe
 none_or_one true line h = tt
 none_or_one false line h = (h, tt)
 
+ellipsis_clean : (ascii : Bool) → Clean (codes " " ++ (ellipsis ascii ++ codes " and "))
+ellipsis_clean true = (refl, (refl, (refl, (refl, (refl, (refl, (refl, (refl, (refl, tt)))))))))
+ellipsis_clean false = (refl, (refl, (refl, (refl, (refl, (refl, (refl, tt)))))))
+
 more_clean : (options : Options) (n : ℕ) → AllByRecursion IsSafe (more_lines options n)
 more_clean options n =
-    none_or_one (nat_eq n 0 || nat_lt options.terminal_dimensions.1 2) (as_drawn options (more_line n))
-    (as_drawn_clean options (more_line n) ((refl, (refl, (refl, (refl, (refl, (refl, (refl, tt))))))), (decimal_clean n, ((refl, (refl, (refl, (refl, (refl, tt))))), tt))))
+    none_or_one (nat_eq n 0 || nat_lt options.terminal_dimensions.1 2) (as_drawn options (more_line options.ascii n))
+    (as_drawn_clean options (more_line options.ascii n) (ellipsis_clean options.ascii, (decimal_clean n, ((refl, (refl, (refl, (refl, (refl, tt))))), tt))))
 
 lines_clean : (r : Renderer) (at : ℕ) (rows : List PathRow) → r.options.defensive ≡ true → AllByRecursion IsSafe (drawn_lines r at rows)
 lines_clean r at rows e =

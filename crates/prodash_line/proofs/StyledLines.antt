@@ -101,7 +101,7 @@ none_or_one false line h = (h, tt)
 
 pub more_have : (options : Options) (n : ℕ) → HaveCodes (more_lines options n)
 more_have options n =
-    none_or_one (nat_eq n 0 || nat_lt options.terminal_dimensions.1 2) (as_drawn options (more_line n)) (drawn_has options (more_line n) (tt, (tt, (tt, tt))))
+    none_or_one (nat_eq n 0 || nat_lt options.terminal_dimensions.1 2) (as_drawn options (more_line options.ascii n)) (drawn_has options (more_line options.ascii n) (tt, (tt, (tt, tt))))
 
 -- ---- messages
 

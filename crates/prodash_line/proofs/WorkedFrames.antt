@@ -215,9 +215,13 @@ two_of_four = refl
 pub none_fits : fitting_count (Erasing 1) 1 ≡ 0
 none_fits = refl
 
-pub others : line_text (more_line 2) ≡ 32 ∷ 8230 ∷ codes " and 2 more"
+pub others : line_text (more_line false 2) ≡ 32 ∷ 8230 ∷ codes " and 2 more"
 unfolding digits
 others = refl
+
+pub others_in_ascii : line_text (more_line true 2) ≡ codes " ... and 2 more"
+unfolding digits
+others_in_ascii = refl
 
 pub no_others : more_lines options 0 ≡ []
 no_others = refl

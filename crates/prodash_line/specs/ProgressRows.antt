@@ -163,10 +163,14 @@ fitting_count (Erasing height) n = if nat_lt n height then n else height - 2
 abbrev pub fitting : Layout → List DrawnRow → List DrawnRow
 fitting layout rows = take (fitting_count layout (length rows)) rows
 
+-- an ellipsis: U+2026, or in ASCII three dots
+abbrev pub ellipsis : Bool → List ℕ
+ellipsis ascii = if ascii then codes "..." else 8230 ∷ []
+
 -- ` … and n more`
-abbrev pub more_line : ℕ → Line
-more_line n = piece (32 ∷ 8230 ∷ codes " and ") ∷ piece (decimal n) ∷ piece (codes " more") ∷ []
+abbrev pub more_line : Bool → ℕ → Line
+more_line ascii n = piece (codes " " ++ (ellipsis ascii ++ codes " and ")) ∷ piece (decimal n) ∷ piece (codes " more") ∷ []
 
 -- the line that says how many rows are hidden, if there are any and there is a row for it
 abbrev pub more_lines : Options → ℕ → List Line
-more_lines options n = if nat_eq n 0 || nat_lt options.terminal_dimensions.1 2 then [] else as_drawn options (more_line n) ∷ []
+more_lines options n = if nat_eq n 0 || nat_lt options.terminal_dimensions.1 2 then [] else as_drawn options (more_line options.ascii n) ∷ []

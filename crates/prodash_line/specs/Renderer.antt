@@ -59,6 +59,7 @@ default_options = record {
   hide_cursor = false;
   defensive = false;
   bar_columns = None;
+  ascii = false;
 }
 
 -- the refusal of an ended renderer

@@ -77,6 +77,15 @@ const FRAMES: &[Drawing] = &[
     ]),
 ];
 
+/// Frames in ASCII. Texts are as they are.
+#[rattlefmt::skip]
+const ASCII: &[Drawing] = &[
+    Drawing((40, 3), &[
+        (Show(FIVE), Ok("\r\x1b[2K a\n\x1b[2K ... and 4 more\n\x1b[J\x1b[2A")),
+        (PrintHidden(&[("é", "…")], &[]), Ok("\r\x1b[2K é …\n\x1b[2K\n\x1b[J\x1b[1A")),
+    ]),
+];
+
 /// Frames that hide the cursor.
 #[rattlefmt::skip]
 const HIDING: &[Drawing] = &[
@@ -182,6 +191,15 @@ fn frame_size(rt: &impl Abort, alloc: Global, state: &mut State, ask: Ask) -> us
 #[test]
 fn defensive_frames_have_exact_bytes(rt: HostRuntime) {
     assert_draws_with(&rt, rt.alloc(), DEFENSIVE, FRAMES)
+}
+
+#[test]
+fn defensive_frames_may_be_in_ascii(rt: HostRuntime) {
+    let ascii = Options {
+        ascii: true,
+        ..DEFENSIVE
+    };
+    assert_draws_with(&rt, rt.alloc(), ascii, ASCII)
 }
 
 #[test]

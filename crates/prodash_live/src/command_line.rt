@@ -1,6 +1,6 @@
 //! The command line.
 use crate::options::{Options, Terminal};
-use prodash_programs::{Environment, dimension};
+use prodash_programs::{ColorChoice, Environment, dimension};
 use std::fmt::{self, Write};
 
 /// What a command line asks for.
@@ -107,7 +107,7 @@ fn has_word(words: &[String], word: &str) -> bool {
 /// Sets an option without a value. Returns whether this is one.
 fn set_flag(options: &mut Options<'_>, flag: &str) -> bool {
     match flag {
-        "--no-color" => options.is_colored = false,
+        "--no-color" => options.colors = ColorChoice::Never,
         "--timestamps" => options.has_timestamps = true,
         "--throughput" => {}
         "--stdout" => options.to_stdout = true,
@@ -121,13 +121,7 @@ fn set_flag(options: &mut Options<'_>, flag: &str) -> bool {
 fn takes_value(option: &str) -> bool {
     matches!(
         option,
-        "--columns"
-            | "--rows"
-            | "--bar-columns"
-            | "--fps"
-            | "--delay"
-            | "--terminal"
-            | "--record"
+        "--columns" | "--rows" | "--bar-columns" | "--fps" | "--delay" | "--terminal" | "--record"
     )
 }
 

@@ -2,6 +2,7 @@
 use crate::line_fault::{LineFault, Unserved};
 use crate::recorded_item::RecordedItem;
 use crate::recording::Recording;
+use crate::signs::Signs;
 use prodash::messages::MessageLevel;
 use prodash::time::Moment;
 use prodash::tree::{Event, Handle, Root};
@@ -32,26 +33,21 @@ pub struct Items<R: Wait + Clone + Drop, W: Write + Drop> {
     items: HashMap<Handle, Entry<R>>,
     names: Names,
     made: Handle,
-    /// Whether a sign says the severity of a message, as where there are no colours.
-    has_signs: bool,
+    /// The signs that say the severity of a message, as where there are no colours.
+    signs: Signs,
     recording: Recording<W>,
 }
 
 impl<R: Wait + Clone + Drop, W: Write + Drop> Items<R, W> {
-    /// Returns a tree without items. `has_signs` says whether a sign before the origin of a message
-    /// is to say its severity.
-    pub fn new(
-        alloc: Global,
-        root: Root<R>,
-        has_signs: bool,
-        recording: Recording<W>,
-    ) -> Items<R, W> {
+    /// Returns a tree without items. `signs` stand before the origins of messages, and say
+    /// their severity.
+    pub fn new(alloc: Global, root: Root<R>, signs: Signs, recording: Recording<W>) -> Items<R, W> {
         Items {
             root: Some(root),
             items: HashMap::new(alloc),
             names: Names::new(alloc),
             made: 0,
-            has_signs,
+            signs,
             recording,
         }
     }
@@ -207,7 +203,7 @@ impl<R: Wait + Clone + Drop, W: Write + Drop> Items<R, W> {
         };
         let changed = entry
             .item
-            .change(alloc, change, self.has_signs, &mut self.recording);
+            .change(alloc, change, self.signs, &mut self.recording);
         match changed {
             Ok(()) | Err(Refusal::TooManyMessages) => Ok(()),
             Err(refusal) => Err(Unserved::from(refusal)),
@@ -228,7 +224,7 @@ impl<R: Wait + Clone + Drop, W: Write + Drop> Items<R, W> {
             text: Text::new(text),
         };
         let item = RecordedItem { item, handle };
-        item.change(alloc, message, self.has_signs, &mut self.recording)?;
+        item.change(alloc, message, self.signs, &mut self.recording)?;
         drop(item);
         self.recording.append_event(&Event::Drop { item: handle })?;
         Ok(())

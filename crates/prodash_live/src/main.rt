@@ -12,6 +12,7 @@ mod output;
 mod program;
 mod recorded_item;
 mod recording;
+mod signs;
 
 use command_line::{Command, HELP, UsageError, parse};
 use failure::Failure;

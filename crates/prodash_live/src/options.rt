@@ -1,13 +1,14 @@
 //! What the program is asked for.
-ghost use Rattle.std.specs.Prelude.{◌≡◌, ◌&&◌, Some};
+ghost use Rattle.std.specs.Prelude.{◌≡◌, Some};
+ghost use Rattle.prodash_line.specs.Environments.{is_colored};
 
 use prodash::render::line;
-use prodash_programs::Environment;
+use prodash_programs::{ColorChoice, Environment};
 
 /// Whether the output is a terminal.
 #[derive(Clone, Copy, Debug, PartialEq, Eq)]
 pub enum Terminal {
-    /// As the system says.
+    /// As the system says, unless the environment says that it can't show frames.
     Auto,
     /// It is.
     Always,
@@ -27,7 +28,9 @@ pub struct Options<'a> {
     /// The milliseconds until rows are drawn.
     pub delay: u64,
     /// Whether there are colours.
-    pub is_colored: bool,
+    pub colors: ColorChoice,
+    /// Whether signs are in ASCII.
+    pub is_ascii: bool,
     /// Whether messages have their time of day.
     pub has_timestamps: bool,
     /// Whether to draw on standard output in place of standard error.
@@ -36,6 +39,8 @@ pub struct Options<'a> {
     pub is_strict: bool,
     /// Whether the output is a terminal.
     pub terminal: Terminal,
+    /// Whether a terminal of this environment can show frames.
+    pub shows_frames: bool,
     /// The path of the file to which the run is recorded.
     pub record: Option<&'a str>,
 }
@@ -48,11 +53,13 @@ impl<'a> Options<'a> {
             bar_columns: 40,
             frames: 6,
             delay: 0,
-            is_colored: !env.no_color,
+            colors: env.colors,
+            is_ascii: !env.is_utf8,
             has_timestamps: false,
             to_stdout: false,
             is_strict: false,
             terminal: Terminal::Auto,
+            shows_frames: env.shows_frames,
             record: None,
         }
     }
@@ -60,18 +67,19 @@ impl<'a> Options<'a> {
     /// Returns the options of the renderer. `is_terminal` is whether the system says that the output
     /// is a terminal.
     pub fn render(&self, is_terminal: bool) -> line::Options
-        ensures colors { result.colored ≡ (self.now.is_colored && result.output_is_terminal) }
+        ensures colors { result.colored ≡ is_colored self.now.colors result.output_is_terminal }
         ensures size { result.terminal_dimensions ≡ self.now.dimensions }
         ensures bars { result.bar_columns ≡ Some self.now.bar_columns }
     {
         let output_is_terminal = match self.terminal {
-            Terminal::Auto => is_terminal,
+            Terminal::Auto => is_terminal && self.shows_frames,
             Terminal::Always => true,
             Terminal::Never => false,
         };
         line::Options {
             output_is_terminal,
-            colored: self.is_colored && output_is_terminal,
+            colored: self.colors.is_colored(output_is_terminal),
+            ascii: self.is_ascii,
             timestamp: self.has_timestamps,
             terminal_dimensions: self.dimensions,
             bar_columns: Some(self.bar_columns),

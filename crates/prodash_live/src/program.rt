@@ -6,6 +6,7 @@ use crate::items::Items;
 use crate::options::Options;
 use crate::output::{OutputState, PromptClock, Watched};
 use crate::recording::Recording;
+use crate::signs::Signs;
 use prodash::render::line::{self, render};
 use prodash::time::Clock;
 use prodash::tree::{Root, root};
@@ -46,7 +47,7 @@ pub fn live<
     let display = show(&rt, alloc, out, &root, &clock, rendering, &output)?;
     let interval = rendering.nanoseconds_per_frame;
     let recording = Recording::new(alloc, recording, clock.now(), interval);
-    let items = Items::new(alloc, root, !rendering.colored, recording);
+    let items = Items::new(alloc, root, Signs::for_rendering(&rendering), recording);
     let mut feed = Feed::new(&rt, alloc, &*clock, items, display);
     let served = feed.serve_lines(input, options.is_strict);
     let closed = feed.close()?;

@@ -1,6 +1,6 @@
 //! Items whose changes are recorded.
 use crate::recording::Recording;
-use prodash::messages::MessageLevel;
+use crate::signs::Signs;
 use prodash::tree::{Handle, Item};
 use prodash::{Refusal, Text};
 use prodash_script::{Change, REASON, StepChange};
@@ -40,8 +40,8 @@ impl<R: Wait + Clone + Drop> RecordedItem<R> {
         }
     }
 
-    /// Makes a change of the item, and records it. If there are signs, the origin of a message has
-    /// the one of its severity before it: the item has both for a name while the message is sent.
+    /// Makes a change of the item, and records it. If the severity of a message has a sign, its
+    /// origin has that before it: the item has both for a name while the message is sent.
     ///
     /// # Errors
     ///
@@ -50,21 +50,17 @@ impl<R: Wait + Clone + Drop> RecordedItem<R> {
         &self,
         alloc: Global,
         change: Change,
-        has_signs: bool,
+        signs: Signs,
         recording: &mut Recording<W>,
     ) -> Result<(), Refusal> {
         let sign = match &change {
-            Change::Message {
-                level: MessageLevel::Success,
-                ..
-            } if has_signs => "✓",
-            Change::Message {
-                level: MessageLevel::Failure,
-                ..
-            } if has_signs => "✗",
-            _ => return self.apply(alloc, change, recording),
+            Change::Message { level, .. } => signs.of(*level),
+            _ => None,
         };
-        self.send_signed(alloc, sign, change, recording)
+        match sign {
+            Some(sign) => self.send_signed(alloc, sign, change, recording),
+            None => self.apply(alloc, change, recording),
+        }
     }
 
     /// Sends a message whose origin has a sign before it.

@@ -9,5 +9,5 @@ mod version;
 pub use command_line::{arguments, number};
 pub use fault::Fault;
 pub use output::{report, write_all};
-pub use prodash_line::render::line::terminal::{Environment, dimension};
+pub use prodash_line::render::line::terminal::{ColorChoice, Environment, dimension};
 pub use version::{VERSION, version_line};

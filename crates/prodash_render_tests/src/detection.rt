@@ -2,15 +2,23 @@
 use crate::fixtures::assert_same;
 use prodash::render::line::{Options, StandardStreams, StreamKind};
 use std::env::FillError;
-use std::process::Abort;
 use std::rt::Env;
 
-/// A runtime whose standard error alone is a terminal, with three variables.
+/// A variable, and its value.
+type Variable = (&'static str, &'static str);
+
+/// A runtime whose standard error alone is a terminal, with these variables.
 #[derive(Clone, Copy)]
-struct Surroundings {
-    no_color: Option<&'static str>,
-    columns: Option<&'static str>,
-    lines: Option<&'static str>,
+struct Surroundings(&'static [Variable]);
+
+impl Surroundings {
+    /// The value of a variable, if it is set.
+    fn value(&self, name: &str) -> Option<&'static str> {
+        self.0
+            .iter()
+            .find(|(it, _)| *it == name)
+            .map(|(_, value)| *value)
+    }
 }
 
 impl StandardStreams for Surroundings {
@@ -25,16 +33,7 @@ impl Env for Surroundings {
     }
 
     fn var(&self, name: &str, buf: &mut [u8]) -> Result<usize, FillError> {
-        let value = if name == "NO_COLOR" {
-            self.no_color
-        } else if name == "COLUMNS" {
-            self.columns
-        } else if name == "LINES" {
-            self.lines
-        } else {
-            None
-        };
-        let Some(value) = value else {
+        let Some(value) = self.value(name) else {
             return Err(FillError::NotPresent);
         };
         let bytes = value.as_bytes();
@@ -50,65 +49,123 @@ impl Env for Surroundings {
     }
 }
 
-/// The variables, and then whether a terminal has colours, and its size.
-type Case = (
-    Option<&'static str>,
-    Option<&'static str>,
-    Option<&'static str>,
-    bool,
-    (u16, u16),
-);
+const XTERM: Variable = ("TERM", "xterm");
 
-/// 33 digits don't fit in the buffer.
-const CASES: &[Case] = &[
-    (None, None, None, true, (80, 20)),
-    (None, Some("120"), Some("40"), true, (120, 40)),
-    (Some("1"), Some("120"), None, false, (120, 20)),
-    (Some("no"), None, Some("65535"), false, (80, 65535)),
-    (Some(""), Some("0"), Some("65536"), true, (80, 20)),
-    (None, Some("+120"), Some(" 40"), true, (80, 20)),
-    (None, Some(""), Some("many"), true, (80, 20)),
-    (
-        None,
-        Some("000000000000000000000000000000007"),
-        Some("007"),
-        true,
-        (80, 7),
-    ),
-    (
-        Some("000000000000000000000000000000000"),
-        None,
-        None,
-        false,
-        (80, 20),
-    ),
+/// 33 characters don't fit in the buffer.
+const LONG: &str = "000000000000000000000000000000007";
+
+/// Variables, and the size.
+#[rattlefmt::skip]
+const SIZES: &[(&[Variable], (u16, u16))] = &[
+    (&[], (80, 20)),
+    (&[("COLUMNS", "120"), ("LINES", "40")], (120, 40)),
+    (&[("COLUMNS", "120")], (120, 20)),
+    (&[("LINES", "65535")], (80, 65535)),
+    (&[("COLUMNS", "0"), ("LINES", "65536")], (80, 20)),
+    (&[("COLUMNS", "+120"), ("LINES", " 40")], (80, 20)),
+    (&[("COLUMNS", ""), ("LINES", "many")], (80, 20)),
+    (&[("COLUMNS", LONG), ("LINES", "007")], (80, 7)),
 ];
 
-/// Asserts whether a stream is a terminal, whether it has colours, and its size.
-fn assert_options(rt: &impl Abort, options: Options, want: (bool, bool, (u16, u16)), case: &Case) {
-    let (is_terminal, colored, size) = want;
-    assert_same(rt, options.output_is_terminal, is_terminal, case);
-    assert_same(rt, options.colored, colored, case);
-    assert_same(rt, options.terminal_dimensions, size, case);
-}
+/// Variables, whether a terminal is one for frames, and whether it and another output have colours.
+#[rattlefmt::skip]
+const COLORS: &[(&[Variable], bool, (bool, bool))] = &[
+    (&[], false, (false, false)),
+    (&[("TERM", "")], false, (false, false)),
+    (&[("TERM", "dumb")], false, (false, false)),
+    (&[XTERM], true, (true, false)),
+    (&[("TERM", "dumber")], true, (true, false)),
+    (&[("TERM", LONG)], true, (true, false)),
+    // NO_COLOR
+    (&[XTERM, ("NO_COLOR", "1")], true, (false, false)),
+    (&[XTERM, ("NO_COLOR", "0")], true, (false, false)),
+    (&[XTERM, ("NO_COLOR", LONG)], true, (false, false)),
+    (&[XTERM, ("NO_COLOR", "")], true, (true, false)),
+    // CLICOLOR
+    (&[XTERM, ("CLICOLOR", "0")], true, (false, false)),
+    (&[XTERM, ("CLICOLOR", "1")], true, (true, false)),
+    (&[XTERM, ("CLICOLOR", "")], true, (true, false)),
+    // CLICOLOR_FORCE
+    (&[XTERM, ("CLICOLOR_FORCE", "1")], true, (true, true)),
+    (&[XTERM, ("CLICOLOR_FORCE", "false")], true, (true, true)),
+    (&[XTERM, ("CLICOLOR_FORCE", "0")], true, (true, false)),
+    (&[XTERM, ("CLICOLOR_FORCE", "")], true, (true, false)),
+    // FORCE_COLOR
+    (&[XTERM, ("FORCE_COLOR", "1")], true, (true, true)),
+    (&[XTERM, ("FORCE_COLOR", "true")], true, (true, true)),
+    (&[XTERM, ("FORCE_COLOR", "0")], true, (true, false)),
+    (&[XTERM, ("FORCE_COLOR", "false")], true, (true, false)),
+    (&[XTERM, ("FORCE_COLOR", "")], true, (true, false)),
+    // which of them win
+    (&[("TERM", "dumb"), ("FORCE_COLOR", "1")], false, (true, true)),
+    (&[XTERM, ("CLICOLOR", "0"), ("CLICOLOR_FORCE", "1")], true, (true, true)),
+    (&[XTERM, ("CLICOLOR", "0"), ("CLICOLOR_FORCE", "0")], true, (false, false)),
+    (&[XTERM, ("FORCE_COLOR", "0"), ("CLICOLOR_FORCE", "1")], true, (true, true)),
+    (&[XTERM, ("NO_COLOR", "1"), ("CLICOLOR_FORCE", "1")], true, (false, false)),
+    (&[XTERM, ("NO_COLOR", "1"), ("FORCE_COLOR", "1")], true, (false, false)),
+    (&[XTERM, ("NO_COLOR", ""), ("FORCE_COLOR", "1")], true, (true, true)),
+];
 
-/// Asserts the options for both streams.
-fn assert_detects(rt: &impl Abort, case: &Case) {
-    let (no_color, columns, lines, colored, size) = *case;
-    let around = Surroundings {
-        no_color,
-        columns,
-        lines,
-    };
-    let of_stderr = Options::detect(&around, StreamKind::Stderr);
-    assert_options(rt, of_stderr, (true, colored, size), case);
-    let of_stdout = Options::detect(&around, StreamKind::Stdout);
-    assert_options(rt, of_stdout, (false, false, size), case);
+/// Variables, and whether frames are in ASCII.
+#[rattlefmt::skip]
+const LOCALES: &[(&[Variable], bool)] = &[
+    (&[], true),
+    (&[("LANG", "C")], true),
+    (&[("LANG", "C.UTF-8")], false),
+    (&[("LANG", "de_DE.utf8")], false),
+    (&[("LANG", "de_DE.Utf-8@euro")], false),
+    (&[("LANG", "UTF-8")], false),
+    (&[("LANG", "de_DE.ISO-8859-1")], true),
+    (&[("LANG", "de_DE@UTF-8")], true),
+    (&[("LANG", "de_DE.UTF-8.x")], true),
+    (&[("LANG", "de_DE.utf-16")], true),
+    (&[("LANG", LONG)], true),
+    (&[("LC_CTYPE", "C.UTF-8")], false),
+    (&[("LC_CTYPE", "C"), ("LANG", "C.UTF-8")], true),
+    (&[("LC_CTYPE", ""), ("LANG", "C.UTF-8")], false),
+    (&[("LC_ALL", "C.UTF-8")], false),
+    (&[("LC_ALL", "POSIX"), ("LC_CTYPE", "C.UTF-8"), ("LANG", "C.UTF-8")], true),
+    (&[("LC_ALL", "C.UTF-8"), ("LC_CTYPE", "C"), ("LANG", "C")], false),
+    (&[("LC_ALL", ""), ("LC_CTYPE", "C.UTF-8"), ("LANG", "C")], false),
+];
+
+/// The options for a terminal and for another output.
+fn detected(variables: &'static [Variable]) -> (Options, Options) {
+    let around = Surroundings(variables);
+    (
+        Options::detect(&around, StreamKind::Stderr),
+        Options::detect(&around, StreamKind::Stdout),
+    )
 }
 
 #[test]
-fn options_are_those_of_the_environment(rt: HostRuntime) {
-    for case in CASES {
-        assert_detects(&rt, case);
+fn sizes_are_those_of_the_environment(rt: HostRuntime) {
+    for (variables, size) in SIZES {
+        let (terminal, other) = detected(*variables);
+        assert_same(&rt, terminal.terminal_dimensions, *size, variables);
+        assert_same(&rt, other.terminal_dimensions, *size, variables);
+    }
+}
+
+#[test]
+fn colors_are_those_of_the_environment(rt: HostRuntime) {
+    for (variables, is_terminal, colored) in COLORS {
+        let (terminal, other) = detected(*variables);
+        assert_same(&rt, terminal.output_is_terminal, *is_terminal, variables);
+        assert_same(&rt, other.output_is_terminal, false, variables);
+        assert_same(&rt, (terminal.colored, other.colored), *colored, variables);
+    }
+}
+
+#[test]
+fn frames_are_in_ascii_unless_the_locale_is_one_of_utf8(rt: HostRuntime) {
+    for (variables, ascii) in LOCALES {
+        let (terminal, other) = detected(*variables);
+        assert_same(
+            &rt,
+            (terminal.ascii, other.ascii),
+            (*ascii, *ascii),
+            variables,
+        );
     }
 }

@@ -226,6 +226,7 @@ fn drawn(alloc: Global, options: &ReplayOptions, events: &[Event]) -> Result<Mem
             hide_cursor: false,
             defensive: options.defensive,
             bar_columns: None,
+            ascii: false,
         },
         throughput: true,
     };

@@ -44,14 +44,14 @@ mod utils {
 
 mod line {
     pub use prodash::render::line::{
-        Environment, JoinHandle, Options, StackSizes, StandardStreams, StreamKind, render,
-        render_with_stacks,
+        ColorChoice, Environment, JoinHandle, Options, StackSizes, StandardStreams, StreamKind,
+        Variables, render, render_with_stacks,
     };
 }
 
 mod draw {
     pub use prodash::render::line::draw::{
-        Answer, Input, MemoryScreen, Options, OverWrite, Screen, State, all,
+        Answer, Input, MemoryScreen, Options, OverWrite, Screen, State, all, safe_char,
     };
 }
 

@@ -21,6 +21,7 @@ draw_options o = record {
   hide_cursor = o.hide_cursor;
   defensive = o.defensive;
   bar_columns = o.bar_columns;
+  ascii = o.ascii;
 }
 
 module _ {S W : Type 0} where

@@ -4,6 +4,6 @@ pub mod engine;
 pub mod page;
 
 pub use engine::{
-    Environment, JoinHandle, Options, StackSizes, StandardStreams, StreamKind, render,
-    render_with_stacks,
+    ColorChoice, Environment, JoinHandle, Options, StackSizes, StandardStreams, StreamKind,
+    Variables, render, render_with_stacks,
 };

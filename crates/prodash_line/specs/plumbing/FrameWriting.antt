@@ -254,7 +254,7 @@ WritesMore options rows old new = AppendsOver (layout_of options) old [] (more_o
 
 -- the line that says that n rows are hidden, as it is drawn
 abbrev pub drawn_more_line : Options → ℕ → Line
-drawn_more_line options n = as_drawn options (more_line n)
+drawn_more_line options n = as_drawn options (more_line options.ascii n)
 
 -- it follows the bytes of old
 abbrev pub WritesCount : Options → ℕ → LineWriter → LineWriter → Type 0

@@ -4,7 +4,7 @@ mod values;
 
 use crate::progress::key::Level;
 pub use detection::StandardStreams;
-pub use prodash_line::render::line::terminal::Environment;
+pub use prodash_line::render::line::terminal::{ColorChoice, Environment, Variables};
 
 /// Options for a renderer with threads of its own.
 ///
@@ -39,6 +39,9 @@ pub struct Options {
     /// The greatest number of columns of a bar, with the space and the brackets around its cells.
     /// With fewer than four there are no bars. `None` draws each on all columns that are left.
     pub bar_columns: Option<u16>,
+    /// Whether the line that says how many rows are hidden is written in ASCII, with three dots in
+    /// place of an ellipsis. Texts are written as they are.
+    pub ascii: bool,
     /// Whether rows show the throughput of values whose unit asks for it.
     pub throughput: bool,
     /// The lowest and the highest level of the rows that are drawn, or `None` to draw all rows.

@@ -46,6 +46,9 @@ pub struct Options {
     /// The greatest number of columns of a bar, with the space and the brackets around its cells.
     /// With fewer than four there are no bars. `None` draws each on all columns that are left.
     pub bar_columns: Option<u16>,
+    /// Whether the line that says how many rows are hidden is written in ASCII, with three dots in
+    /// place of an ellipsis. Texts are written as they are.
+    pub ascii: bool,
 }
 
 impl Default for Options {
@@ -65,6 +68,7 @@ impl Default for Options {
             hide_cursor: false,
             defensive: false,
             bar_columns: None,
+            ascii: false,
         }
     }
 }

@@ -1,5 +1,5 @@
 //! The rows that fit a window, and the line that says how many are hidden.
-ghost use Rattle.std.specs.Prelude.{◌≡◌, ◌≤◌, length, min, take, OnOk, IfOk, IsOkUnless};
+ghost use Rattle.std.specs.Prelude.{◌≡◌, ◌≤◌, ◌++◌, chars, codes, length, min, take, OnOk, IfOk, IsOkUnless};
 ghost use Rattle.prodash_line.specs.ProgressRows as rows;
 ghost use Rattle.prodash_line.specs.Lines.{columns_of};
 ghost use Rattle.prodash_line.specs.Tracking.{kept_of};
@@ -108,12 +108,19 @@ fn write_count(out: &mut LineWriter, options: &Options, count: usize) -> Result<
 
 /// Begins the line that says that `count` rows are hidden.
 fn push_count(out: &mut LineWriter, options: &Options, count: usize) -> Result<(), AllocError>
-    ensures { OnOk result (DrawsLine options.now out.old (rows.more_line count) out.new) }
+    ensures { OnOk result (DrawsLine options.now out.old (rows.more_line options.now.ascii count) out.new) }
 {
     let mut digits = Buffer::new();
     out.begin_line(options.width_limit());
-    out.push_text(None, " … and ")?;
+    out.push_text(None, before_count(options.ascii))?;
     out.push_printable(digits.format(count).as_bytes())?;
     out.push_printable(b" more")?;
     Ok(())
+}
+
+/// Returns the text before the number of hidden rows, in ASCII or not.
+fn before_count(ascii: bool) -> &'static str
+    ensures { chars result.now ≡ codes " " ++ (rows.ellipsis ascii ++ codes " and ") }
+{
+    if ascii { " ... and " } else { " … and " }
 }

@@ -24,8 +24,8 @@ impl StandardStreams for HostRuntime {
 
 impl Options {
     /// Returns the options for a stream, as [`Options::for_terminal`] makes them: the system says
-    /// whether the stream is a terminal, and the variables `NO_COLOR`, `COLUMNS` and `LINES`, as
-    /// [`Environment::read`] takes them, say the rest.
+    /// whether the stream is a terminal, and the environment, as [`Environment::read`] takes it,
+    /// says the rest.
     ///
     /// ```rust
     /// let options = Options {
@@ -41,21 +41,23 @@ impl Options {
         Options::for_terminal(rt.is_terminal(output), Environment::read(rt))
     }
 
-    /// Returns the options for an output: the default ones, but without colours if the output isn't
-    /// a terminal or the environment disables them, and with the columns and rows that the
-    /// environment names.
+    /// Returns the options for an output: the default ones, but with what the environment says of
+    /// colours, with the columns and rows that it names, and in ASCII if its locale isn't one of
+    /// UTF-8. An output on which its terminal can't show frames counts as no terminal.
     pub fn for_terminal(is_terminal: bool, environment: Environment) -> Options
         ensures { result ≡ terminal_options is_terminal environment }
     {
         let default = Options::default();
         let (columns, rows) = default.terminal_dimensions;
+        let output_is_terminal = is_terminal && environment.shows_frames;
         Options {
-            output_is_terminal: is_terminal,
-            colored: is_terminal && !environment.no_color,
+            output_is_terminal,
+            colored: environment.colors.is_colored(output_is_terminal),
             terminal_dimensions: (
                 environment.columns.unwrap_or(columns),
                 environment.rows.unwrap_or(rows),
             ),
+            ascii: !environment.is_utf8,
             ..default
         }
     }

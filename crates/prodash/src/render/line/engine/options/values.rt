@@ -29,6 +29,7 @@ impl Options {
             hide_cursor: self.hide_cursor,
             defensive: self.defensive,
             bar_columns: self.bar_columns,
+            ascii: self.ascii,
         }
     }
 }
@@ -51,6 +52,7 @@ impl Default for Options {
             hide_cursor,
             defensive,
             bar_columns,
+            ascii,
         } = draw::Options::default();
         Options {
             output_is_terminal,
@@ -60,6 +62,7 @@ impl Default for Options {
             hide_cursor,
             defensive,
             bar_columns,
+            ascii,
             throughput: false,
             level_filter,
             initial_delay: None,
