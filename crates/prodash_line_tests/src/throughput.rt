@@ -78,6 +78,17 @@ const BACK: &[Turn] = &[
     (1_000_000_901, Some(12), Some(6)),
 ];
 
+/// After the clock went back the next sample takes the 500 ns since the new moment. The next mark
+/// comes a nanosecond more than a second after the first, and counts the rise of both samples.
+#[rattlefmt::skip]
+const BACK_AND_ON: &[Turn] = &[
+    (1000, None, None),
+    (2000, Some(0), None),
+    (400, Some(3), None),
+    (900, Some(5), None),
+    (1_000_000_401, Some(12), Some(11)),
+];
+
 /// Moments without a step are left out.
 #[rattlefmt::skip]
 const GAPS: &[Turn] = &[
@@ -105,13 +116,14 @@ const LAST_MOMENT: &[Turn] = &[
 ];
 
 #[rattlefmt::skip]
-const TABLES: [&[Turn]; 9] = [
+const TABLES: [&[Turn]; 10] = [
     STEADY,
     UNEVEN,
     GREATEST,
     NANOSECOND,
     SECOND,
     BACK,
+    BACK_AND_ON,
     GAPS,
     TWICE,
     LAST_MOMENT,
