@@ -2,6 +2,7 @@
 mod changes;
 mod children;
 mod copies;
+mod owners;
 
 use prodash::Refusal;
 use prodash::messages::Message;
@@ -39,8 +40,12 @@ fn make_calls<R: Wait + Clone + Drop>(
     calls: &mut Calls,
 ) -> Result<(), Fault> {
     children::make_calls(root, alloc, item, calls)?;
+    owners::make_calls(root, item, calls);
     changes::make_calls(root, alloc, item, calls)?;
-    copies::make_calls(root, alloc, item, calls)
+    owners::make_calls(root, item, calls);
+    copies::make_calls(root, alloc, item, calls)?;
+    owners::make_calls(root, item, calls);
+    Ok(())
 }
 
 /// Makes a tree without tasks, which must keep this many messages.
