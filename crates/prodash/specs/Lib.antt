@@ -23,6 +23,8 @@ pub use Rattle.prodash_base.specs.Parts
 pub use Rattle.prodash_base.specs.ThroughputMessages
 pub use Rattle.prodash_base.specs.Samples
 pub use Rattle.prodash_base.specs.Trackers
+pub use Rattle.prodash_base.specs.FrameTrackers
+pub use Rattle.prodash_base.specs.Held
 pub use Rattle.prodash_base.specs.Moments
 pub use Rattle.prodash_line.specs.Signs
 pub use Rattle.prodash_line.specs.Reading

@@ -196,6 +196,7 @@ fn ended_history<C: TreeLedger, R: Wait>(
     ensures { result ≡ ended state.now.entries }
 {
     let mut history = history.duplicate();
+    // the journal is a slice in memory, so its history has the room that `append_end` requires
     let _len = state.entries().len();
     history.append_end(rt, word);
     history
