@@ -42,6 +42,7 @@ The version, the help, and what is refused.
         --terminal <WHEN>       whether the output is a terminal: auto, always or never
                                 [default: auto]; if not, messages alone are written
         --record <FILE>         record the run, for prodash-replay
+        --marks                 a NUL once the options are right, and one behind each frame
     -h, --help                  print help
     -V, --version               print version
   $ prodash-live --help >/dev/full

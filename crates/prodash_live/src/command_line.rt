@@ -56,6 +56,7 @@ Options:
       --terminal <WHEN>       whether the output is a terminal: auto, always or never
                               [default: auto]; if not, messages alone are written
       --record <FILE>         record the run, for prodash-replay
+      --marks                 a NUL once the options are right, and one behind each frame
   -h, --help                  print help
   -V, --version               print version
 ";
@@ -112,6 +113,7 @@ fn set_flag(options: &mut Options<'_>, flag: &str) -> bool {
         "--throughput" => {}
         "--stdout" => options.to_stdout = true,
         "--strict" => options.is_strict = true,
+        "--marks" => options.has_marks = true,
         _ => return false,
     }
     true

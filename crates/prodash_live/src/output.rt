@@ -62,18 +62,38 @@ impl OutputState {
     }
 }
 
+/// Ends a frame of a marked output. No frame has this byte.
+const MARK: u8 = 0;
+
 /// Forwards all calls to a writer, counts its flushes, and records whether a call failed or wrote
-/// nothing.
+/// nothing. If the output is marked, there is a mark before each flush, which ends a frame.
 #[derive(Drop)]
 pub struct Watched<O: Write + Drop> {
     out: O,
     state: Arc<OutputState>,
+    has_marks: bool,
 }
 
 impl<O: Write + Drop> Watched<O> {
     /// Returns a writer that keeps the state up to date.
-    pub fn new(out: O, state: Arc<OutputState>) -> Watched<O> {
-        Watched { out, state }
+    pub fn new(out: O, state: Arc<OutputState>, has_marks: bool) -> Watched<O> {
+        Watched {
+            out,
+            state,
+            has_marks,
+        }
+    }
+
+    /// Writes a mark, if the output is marked.
+    ///
+    /// # Errors
+    ///
+    /// If the writer doesn't take it. The state says so, too.
+    pub fn mark(&mut self) -> io::Result<()> {
+        if self.has_marks {
+            self.write_all(&[MARK])?;
+        }
+        Ok(())
     }
 }
 
@@ -89,6 +109,7 @@ impl<O: Write + Drop> Write for Watched<O> {
     }
 
     fn flush(&mut self) -> io::Result<()> {
+        self.mark()?;
         let flushed = self.out.flush();
         match &flushed {
             Ok(()) => {

@@ -44,6 +44,9 @@ pub fn live<
     }
     .create(rt.clone()?, alloc)?;
     let rendering = options.render(is_terminal);
+    let mut out = Watched::new(out, Arc::try_clone(&output)?, options.has_marks);
+    // what fails here is told below
+    let _ = out.mark();
     let display = show(&rt, alloc, out, &root, &clock, rendering, &output)?;
     let interval = rendering.nanoseconds_per_frame;
     let recording = Recording::new(alloc, recording, clock.now(), interval);
@@ -73,7 +76,7 @@ fn show<
 >(
     rt: &R,
     alloc: Global,
-    out: O,
+    out: Watched<O>,
     root: &Root<R>,
     clock: &Arc<K>,
     rendering: line::Options,
@@ -87,7 +90,7 @@ fn show<
     let handle = render(
         rt.clone()?,
         alloc,
-        Watched::new(out, Arc::try_clone(output)?),
+        out,
         root.downgrade()?,
         Arc::new(alloc, prompt)?,
         rendering,
