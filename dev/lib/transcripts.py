@@ -26,7 +26,10 @@ SCRIPTS = {
     "install-prodash": f"{TOP}/bin/install",
     "many-hosts": f"{TOP}/examples/many_hosts.sh",
     "example": f"{TOP}/examples/run",
+    "on-terminal": f"{TOP}/tests/scripts/on_terminal.py",
     "picture": f"{TOP}/bin/picture",
+    "prodash": f"{TOP}/bin/prodash",
+    "prodash-run": f"{TOP}/tests/scripts/run.py",
     "relay": f"{TOP}/lib/relay.py",
     "resize": f"{TOP}/tests/scripts/resize.py",
 }

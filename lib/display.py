@@ -1,0 +1,101 @@
+"""prodash-live behind two pipes: it reads event lines, and writes frames with a mark behind each."""
+import os
+import select
+
+# How many bytes are read at a time, as many as a pipe has.
+READ = 65536
+MARK = b"\0"
+
+
+class Display:
+    """The program that draws. Whatever becomes of it, its lines are taken."""
+
+    def __init__(self, program, words, reset):
+        """Starts the program in a process group of its own, with these signals as by default."""
+        lines, self.to = os.pipe()
+        self.frames, writes = os.pipe()
+        moves = [(os.POSIX_SPAWN_DUP2, fd, at) for fd, at in ((lines, 0), (writes, 1), (writes, 2))]
+        how = {"file_actions": moves, "setpgroup": 0, "setsigmask": (), "setsigdef": reset}
+        # lines that it has not taken, parts of its next frame, and how it ended, or why
+        self.lines, self.parts, self.status, self.reason = bytearray(), [], None, ""
+        try:
+            self.pid = os.posix_spawnp(program, ["prodash-live", *words], os.environ, **how)
+        except OSError as error:
+            self.pid = None
+            self.give_up(f"{program}: {error.strerror}")
+        os.close(lines)
+        os.close(writes)
+        if self.pid:
+            os.set_blocking(self.to, False)
+
+    def is_alive(self):
+        return self.pid is not None
+
+    def awaits(self, seconds):
+        """Waits for the first mark, which says that the options are right.
+
+        Returns the frames behind it, or None if the program has ended with a status instead.
+        """
+        poll = select.poll()
+        poll.register(self.frames, select.POLLIN)
+        while self.is_alive():
+            if not poll.poll(seconds * 1000):
+                self.give_up("the display did not begin", 9)
+            elif frames := self.read():
+                return frames[1:]
+        return [] if self.status is None or os.WIFSIGNALED(self.status) else None
+
+    def send(self, lines):
+        """Takes lines, and leaves them out if there is no program any more."""
+        if self.is_alive():
+            self.lines += lines
+
+    def write(self):
+        """Writes as many lines as the program takes."""
+        try:
+            del self.lines[: os.write(self.to, self.lines[:READ])]
+        except BlockingIOError:
+            pass
+        except OSError:
+            # its end is seen where it is read
+            self.lines.clear()
+
+    def read(self):
+        """Reads what is there, and returns the frames that are whole."""
+        more = os.read(self.frames, READ)
+        if not more:
+            self.end()
+            return []
+        *frames, rest = more.split(MARK)
+        if frames:
+            frames[0] = b"".join(self.parts) + frames[0]
+            self.parts.clear()
+        self.parts.append(rest)
+        return frames
+
+    def close(self):
+        """Ends the input of the program."""
+        if self.to is not None:
+            os.close(self.to)
+            self.to = None
+
+    def give_up(self, reason, number=None):
+        """Ends the program by a signal, if it hasn't ended, and keeps the reason."""
+        self.reason = reason
+        if number:
+            os.kill(self.pid, number)
+        self.end()
+
+    def end(self):
+        """Notes how the program ended."""
+        self.close()
+        os.close(self.frames)
+        self.lines.clear()
+        if not self.pid:
+            return
+        self.status = os.waitpid(self.pid, 0)[1]
+        self.pid = None
+        said = b"".join(self.parts).decode(errors="replace").strip()
+        if os.WIFSIGNALED(self.status):
+            said = f"the display was ended by signal {os.WTERMSIG(self.status)}"
+        self.reason = self.reason or said

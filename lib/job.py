@@ -1,0 +1,168 @@
+"""A job, its streams, and the signals that it gets."""
+import _signal as signals
+import fcntl
+import os
+import struct
+import termios
+
+# What ends a job, stops it or tells it something, and is sent to it by whoever knows the wrapper.
+PASSED = (
+    signals.SIGINT,
+    signals.SIGQUIT,
+    signals.SIGTERM,
+    signals.SIGHUP,
+    signals.SIGTSTP,
+    signals.SIGUSR1,
+    signals.SIGUSR2,
+)
+# The digits that a descriptor has in the shells that take only one. 9 is often that of a lock.
+DIGITS = range(8, 2, -1)
+# How a job ends that isn't there, or can't be run.
+NOT_FOUND, NOT_RUN = 127, 126
+
+
+def free_digit():
+    """Returns the highest free descriptor of one digit, or None."""
+    for it in DIGITS:
+        try:
+            if not os.get_inheritable(it):
+                return it
+        except OSError:
+            return it
+    return None
+
+
+def identity(fd):
+    """Returns the device and the number of the file that a descriptor is open on."""
+    it = os.fstat(fd)
+    return f"{it.st_dev}:{it.st_ino}"
+
+
+def is_nested():
+    """Returns whether the environment names a descriptor that a wrapper above reads."""
+    try:
+        fd = int(os.environ["PRODASH_FD"])
+        return identity(fd) == os.environ["PRODASH_FD_ID"]
+    except (KeyError, ValueError, OSError):
+        return False
+
+
+def open_streams():
+    """Opens each of the three streams that is closed, so that no pipe gets its number.
+
+    Returns those that were closed.
+    """
+    closed = []
+    for it in range(3):
+        try:
+            os.fstat(it)
+        except OSError:
+            os.open(os.devnull, os.O_RDWR)
+            closed.append(it)
+    return closed
+
+
+def output_terminal(columns, rows):
+    """Returns both ends of a terminal that passes on output as it is."""
+    ours, theirs = os.openpty()
+    modes = termios.tcgetattr(theirs)
+    modes[1] &= ~termios.OPOST
+    modes[3] &= ~(termios.ECHO | termios.ICANON | termios.ISIG)
+    termios.tcsetattr(theirs, termios.TCSANOW, modes)
+    set_size(ours, columns, rows)
+    return ours, theirs
+
+
+def set_size(terminal, columns, rows):
+    """Sets the size of a terminal."""
+    fcntl.ioctl(terminal, termios.TIOCSWINSZ, struct.pack("HHHH", rows, columns, 0, 0))
+
+
+def handled():
+    """Returns the signals to pass on: those that aren't ignored from the start."""
+    return [it for it in PASSED if signals.getsignal(it) != signals.SIG_IGN]
+
+
+def start(words, moves, mask, reset):
+    """Starts a job with these changes of descriptors. Returns its process, or its status.
+
+    It gets the signals that are not in the mask, each with its default action if it is reset.
+    """
+    how = {"file_actions": moves, "setsigmask": mask, "setsigdef": reset}
+    try:
+        return os.posix_spawnp(words[0], words, os.environ, **how), None
+    except OSError as error:
+        return None, refused(words, error) << 8
+
+
+def refused(words, error):
+    """Says why a command can't be run, and returns the exit status."""
+    os.write(2, f"prodash run: {words[0]}: {error.strerror}\n".encode())
+    return NOT_FOUND if isinstance(error, FileNotFoundError) else NOT_RUN
+
+
+def become(words):
+    """Runs a command in place of this process, or returns the exit status."""
+    for it in (signals.SIGPIPE, signals.SIGXFSZ):
+        signals.signal(it, signals.SIG_DFL)
+    try:
+        return os.execvp(words[0], words)
+    except OSError as error:
+        return refused(words, error)
+
+
+class Sentinel:
+    """A process of the same group, which says which signals the whole group gets."""
+
+    def __init__(self, others):
+        """Starts the process, without the other descriptors."""
+        ends, self.alive = os.pipe()
+        self.told, tells = os.pipe()
+        os.set_blocking(tells, False)
+        self.pid = os.fork()
+        if not self.pid:
+            for it in (self.alive, *others):
+                if it is not None:
+                    os.close(it)
+            # the handlers do nothing but this
+            signals.set_wakeup_fd(tells)
+            signals.pthread_sigmask(signals.SIG_UNBLOCK, PASSED)
+            os.read(ends, 1)
+            os._exit(0)
+        os.close(ends)
+        os.close(tells)
+
+    def end(self):
+        """Ends the process."""
+        os.close(self.alive)
+        os.waitpid(self.pid, 0)
+
+
+def leave(fd, to):
+    """Leaves a process that reads what others still write there, so that they aren't ended."""
+    if not os.fork():
+        os.setpgid(0, 0)
+        null = os.open(os.devnull, os.O_WRONLY)
+        for source, at in ((fd, 0), (null if to is None else to, 1), (null, 2)):
+            os.dup2(source, at)
+        for it in (*PASSED, signals.SIGPIPE):
+            signals.signal(it, signals.SIG_DFL)
+        os.execvp("cat", ["cat"])
+
+
+def end_as(status):
+    """Ends this process as another one ended: with its exit status, or by its signal."""
+    if os.WIFEXITED(status):
+        os._exit(os.WEXITSTATUS(status))
+    number = os.WTERMSIG(status)
+    import resource
+
+    resource.setrlimit(resource.RLIMIT_CORE, (0, 0))
+    try:
+        signals.signal(number, signals.SIG_DFL)
+    except (OSError, ValueError):
+        # as of SIGKILL
+        pass
+    signals.pthread_sigmask(signals.SIG_UNBLOCK, (number,))
+    os.kill(os.getpid(), number)
+    os._exit(128 + number)

@@ -1,0 +1,459 @@
+"""prodash run: a job with rows below its output, which any of its processes may add.
+
+This process is the only writer of the terminal. The job writes to a terminal or a pipe of which
+this process reads, and prodash-live draws on a pipe. Whatever becomes of the display, the job's
+output is passed on, its lines are read, and it ends as without it.
+"""
+import _signal as signals
+import errno
+import os
+import select
+import termios
+import time
+
+import job
+from display import READ, Display
+from screen import Messages, Screen
+
+HELP = """\
+Runs a command with rows below its output, which any of its processes may add
+
+Usage: prodash run [OPTIONS] -- COMMAND [WORD ..]
+       prodash run COMMAND [WORD ..]
+
+The command has PRODASH_FD in its environment: a descriptor that reads event lines, as
+  echo "add @a 0 compress" >&$PRODASH_FD
+
+Options:
+      --no-pty   the output of the command is a pipe, not a terminal
+  -h, --help     print help
+  and those of prodash-live: prodash live --help
+"""
+# How many seconds: until the display has begun or ended, or is given up if it takes nothing;
+# until a signal was for this process alone; between two looks at whether it is in the foreground;
+# without output of a job that has ended, and at most, until what others still write is left.
+STUCK, ALONE, LOOK, QUIET, LATE = 2, 0.05, 0.2, 0.2, 1
+SIZES = ("--columns", "--rows")
+
+
+class Terminal:
+    """The terminal, or what is in its place, as what only this process writes."""
+
+    def __init__(self, stream):
+        self.stream, self.left, self.is_broken = stream, b"", False
+        try:
+            # opened anew, since the job and the shell have the stream's flags too
+            flags = os.O_WRONLY | os.O_NOCTTY | os.O_NONBLOCK
+            self.fd, self.most = os.open(os.ttyname(stream), flags), READ
+        except OSError:
+            self.fd, self.most = stream, select.PIPE_BUF
+
+    def write(self, output):
+        """Takes output, and writes what there is room for."""
+        if not self.is_broken:
+            self.left += output
+
+    def flush(self):
+        """Writes what there is room for."""
+        try:
+            self.left = self.left[os.write(self.fd, self.left[: self.most]) :]
+        except BlockingIOError:
+            pass
+        except OSError:
+            self.left, self.is_broken = b"", True
+
+    def finish(self, seconds):
+        """Writes what is left, as long as there is room within some seconds."""
+        poll = select.poll()
+        poll.register(self.fd, select.POLLOUT)
+        while self.left and poll.poll(seconds * 1000):
+            self.flush()
+
+    def size(self):
+        """Returns the columns and the rows, or None if they aren't known."""
+        try:
+            size = os.get_terminal_size(self.stream)
+        except OSError:
+            return None
+        return (size.columns, size.lines) if size.columns and size.lines else None
+
+    def is_foreground(self):
+        """Returns whether rows may be drawn: not behind a job of the shell."""
+        try:
+            return os.tcgetpgrp(self.stream) == os.getpgrp()
+        except OSError:
+            return True
+
+
+class Run:
+    """A job, its display, and all that is read and written between them."""
+
+    def __init__(self, terminal, display, screen, follows_size):
+        self.terminal, self.display, self.screen = terminal, display, screen
+        self.follows_size = follows_size
+        # what the job writes, and its lines; None once nobody writes there
+        self.output = self.events = self.sentinel = None
+        self.pid = self.status = None
+        self.woken, self.wakes = os.pipe()
+        os.set_blocking(self.wakes, False)
+        # signals that this process got, with the moment at which they are passed on, and those
+        # that the sentinel got, with the moment until which they count
+        self.own, self.shared = [], []
+        # when the job has ended, when something was read, and when the display has taken lines
+        self.ended = self.heard = self.taken = time.monotonic()
+        # until when what others write is read, or the display is awaited, after the job's end
+        self.until = None
+
+    def paint(self, written):
+        self.terminal.write(written)
+        self.terminal.flush()
+
+    def look(self):
+        """Notes whether rows may be drawn now, and draws them if they may again."""
+        is_shown, was_shown = self.terminal.is_foreground(), self.screen.is_shown
+        self.screen.is_shown = is_shown
+        if is_shown and not was_shown:
+            self.paint(self.screen.draw())
+
+    def read_output(self):
+        """Passes on what the job has written."""
+        read = []
+        try:
+            while sum(map(len, read)) < READ:
+                read.append(os.read(self.output, READ))
+                if not read[-1]:
+                    raise OSError(errno.EIO, "nobody writes")
+        except BlockingIOError:
+            pass
+        except OSError:
+            os.close(self.output)
+            self.output = None
+        output = b"".join(read)
+        if output:
+            self.heard = time.monotonic()
+            self.paint(self.screen.put(output))
+
+    def read_events(self):
+        """Passes on lines to the display."""
+        lines = os.read(self.events, READ)
+        if lines:
+            self.heard = time.monotonic()
+            if not self.display.lines:
+                self.taken = self.heard
+            self.display.send(lines)
+        else:
+            os.close(self.events)
+            self.events = None
+
+    def read_frames(self):
+        """Draws the frames that are there, or erases the rows of a display that has ended."""
+        self.take(self.display.read())
+        if not self.display.is_alive():
+            self.paint(self.screen.clear())
+
+    def take(self, frames):
+        """Draws frames."""
+        for it in frames:
+            if it:
+                self.paint(self.screen.take(it))
+
+    def write_lines(self):
+        self.display.write()
+        self.taken = time.monotonic()
+
+    def wait(self):
+        """Waits until something can be done, and returns the descriptors with which it can."""
+        poll = select.poll()
+        poll.register(self.woken, select.POLLIN)
+        display, is_blocked = self.display, bool(self.terminal.left)
+        reads = [self.sentinel.told] if self.sentinel else []
+        if is_blocked:
+            poll.register(self.terminal.fd, select.POLLOUT)
+        else:
+            reads += [self.output, display.frames if display.is_alive() else None]
+        if len(display.lines) < READ:
+            reads.append(self.events)
+        for it in reads:
+            if it is not None:
+                poll.register(it, select.POLLIN)
+        if display.lines and display.to is not None:
+            poll.register(display.to, select.POLLOUT)
+        timeout = self.timeout(is_blocked)
+        return {fd for fd, _ in poll.poll(timeout and max(timeout, 0) * 1000)}
+
+    def timeout(self, is_blocked):
+        """Returns after how many seconds something has to be done, or None."""
+        now, times = time.monotonic(), [at for at, _ in self.own]
+        if not self.screen.is_shown:
+            times.append(now + LOOK)
+        if self.display.lines and not is_blocked:
+            times.append(self.taken + STUCK)
+        if self.status is not None:
+            times.append(self.until or self.quiet())
+        return min(times) - now + 0.001 if times else None
+
+    def step(self):
+        """Does what can be done. Output is read before lines."""
+        ready = self.wait()
+        if self.sentinel and self.sentinel.told in ready:
+            until = time.monotonic() + ALONE
+            self.shared += [(until, it) for it in os.read(self.sentinel.told, READ)]
+        if self.woken in ready:
+            self.hear(os.read(self.woken, READ))
+        self.pass_on()
+        self.look()
+        if self.terminal.left and self.terminal.fd in ready:
+            self.terminal.flush()
+        if self.output in ready:
+            self.read_output()
+        if self.display.to in ready:
+            self.write_lines()
+        if self.events in ready:
+            self.read_events()
+        if self.display.is_alive():
+            if self.display.frames in ready:
+                self.read_frames()
+            elif self.display.lines and not self.terminal.left:
+                self.watch()
+
+    def watch(self):
+        """Gives the display up if it has taken nothing for too long."""
+        if time.monotonic() > self.taken + STUCK:
+            self.display.give_up("the display was stuck", signals.SIGKILL)
+            self.paint(self.screen.clear())
+
+    def hear(self, numbers):
+        """Handles signals."""
+        now = time.monotonic()
+        for it in numbers:
+            if it == signals.SIGCHLD:
+                self.reap()
+            elif it == signals.SIGWINCH:
+                self.resize()
+            elif it in job.PASSED:
+                self.own.append((now + ALONE, it))
+
+    def reap(self):
+        """Notes whether the job has ended."""
+        if self.pid and self.status is None:
+            pid, status = os.waitpid(self.pid, os.WNOHANG)
+            if pid:
+                self.status, self.ended = status, time.monotonic()
+
+    def pass_on(self):
+        """Passes on the signals that the group didn't get, and stops with the job."""
+        now, waiting, own = time.monotonic(), self.shared, self.own
+        self.own = []
+        for until, number in own:
+            shared = [it for it in waiting if it[1] == number]
+            if shared:
+                waiting.remove(shared[0])
+            elif now < until:
+                self.own.append((until, number))
+                continue
+            elif self.status is None:
+                os.kill(self.pid, number)
+            if number == signals.SIGTSTP:
+                self.stop()
+        self.shared = [it for it in waiting if it[0] > now]
+
+    def stop(self):
+        """Stops without rows, and goes on with them."""
+        if self.output is not None:
+            self.read_output()
+        self.paint(self.screen.erase())
+        self.terminal.finish(ALONE)
+        before = signals.signal(signals.SIGTSTP, signals.SIG_DFL)
+        os.kill(os.getpid(), signals.SIGTSTP)
+        signals.signal(signals.SIGTSTP, before)
+        self.taken = time.monotonic()
+        self.screen.is_shown = self.terminal.is_foreground()
+        self.resize()
+        self.paint(self.screen.draw())
+
+    def resize(self):
+        """Tells everyone a new size."""
+        size = self.terminal.size()
+        if size is None or size == (self.screen.columns, self.screen.height):
+            return
+        self.paint(self.screen.resize(*size))
+        if self.output is not None and os.isatty(self.output):
+            # the job may have asked for the size before
+            job.set_size(self.output, *size)
+            os.killpg(0, signals.SIGWINCH)
+        if self.follows_size:
+            self.display.send(size_line(*size))
+        self.paint(self.screen.draw())
+
+    def quiet(self):
+        """Returns until when what is still written is waited for, after the end of the job."""
+        return min(max(self.heard, self.ended) + QUIET, self.ended + LATE)
+
+    def is_over(self):
+        """Returns whether the job has ended and all is read, or what is left is of others."""
+        if self.status is None:
+            return False
+        is_read = self.output is None and self.events is None
+        return is_read or time.monotonic() > self.quiet() or self.is_hurried()
+
+    def end(self):
+        """Ends the display, and leaves the terminal to others. Returns how the job ended."""
+        for fd, to in ((self.output, self.terminal.stream), (self.events, None)):
+            if fd is not None:
+                os.set_blocking(fd, True)
+                job.leave(fd, to)
+        self.output = self.events = None
+        self.finish_display()
+        self.paint(self.screen.clear())
+        while self.terminal.left and not self.is_hurried():
+            self.step()
+        if self.sentinel:
+            self.sentinel.end()
+        return self.status
+
+    def is_hurried(self):
+        """Returns whether a signal came after the end of the job, which ends this process, too."""
+        return any(until > self.ended + QUIET for until, _ in self.own)
+
+    def finish_display(self):
+        """Reads the last frames of the display, unless it is stuck."""
+        self.until = time.monotonic() + STUCK
+        while self.display.is_alive() and not self.is_hurried():
+            if not self.display.lines:
+                self.display.close()
+            if time.monotonic() > self.until and not self.terminal.left:
+                self.display.give_up("the display was stuck", signals.SIGKILL)
+            else:
+                self.step()
+
+
+def size_line(columns, rows):
+    """Returns the line that tells prodash-live the size of the terminal.
+
+    One row is the job's.
+    """
+    return b"size %d %d\n" % (columns, max(rows - 1, 1))
+
+
+def split(words):
+    """Returns the options and the command among the words, or None if there is no command."""
+    if words and not words[0].startswith("-"):
+        return [], words
+    at = words.index("--") if "--" in words else len(words)
+    return (words[:at], words[at + 1 :]) if words[at + 1 :] else None
+
+
+def value_of(options, name):
+    """Returns the last value of an option, or None."""
+    value = None
+    for at, it in enumerate(options):
+        if it.startswith(f"{name}="):
+            value = it[len(name) + 1 :]
+        elif it == name:
+            value = "".join(options[at + 1 : at + 2])
+    return value
+
+
+def stream_to_draw_on(options):
+    """Returns the stream whose terminal has the rows, or None if there are none."""
+    when = value_of(options, "--terminal")
+    found = [it for it in (2, 1) if os.isatty(it)]
+    if when == "always":
+        return found[0] if found else 2
+    is_dumb = os.environ.get("TERM", "") in ("", "dumb")
+    return found[0] if found and when != "never" and not is_dumb else None
+
+
+def begin(program, options, stream):
+    """Starts the display. Returns the run without a job."""
+    terminal = Terminal(2 if stream is None else stream)
+    columns, rows = terminal.size() or (80, 24)
+    follows_size = stream is not None and not any(value_of(options, it) for it in SIZES)
+    screen = Messages() if stream is None else Screen(columns, rows, os.isatty(0))
+    words = ["--marks"]
+    if follows_size and not {"COLUMNS", "LINES"} & set(os.environ):
+        words += ["--columns", str(columns), "--rows", str(max(rows - 1, 1))]
+    else:
+        follows_size = False
+    words += [*options, "--terminal", "never" if stream is None else "always"]
+    reset = [signals.SIGPIPE, signals.SIGXFSZ, *job.handled()]
+    return Run(terminal, Display(program, words, reset), screen, follows_size)
+
+
+def streams_of(stream):
+    """Returns the streams of the job that are the terminal with the rows."""
+    if stream is None:
+        return []
+    if not os.isatty(stream):
+        return [stream]
+    device = os.fstat(stream).st_rdev
+    return [it for it in (1, 2) if os.isatty(it) and os.fstat(it).st_rdev == device]
+
+
+def start(run, command, streams, digit, closed, is_pipe):
+    """Starts the job. Its output and its lines are then read by this process."""
+    events, writes = os.pipe()
+    moves, theirs = [(os.POSIX_SPAWN_CLOSE, it) for it in closed], None
+    if streams:
+        is_pipe = is_pipe or not os.isatty(streams[0])
+        size = (run.screen.columns, run.screen.height)
+        run.output, theirs = os.pipe() if is_pipe else job.output_terminal(*size)
+        os.set_blocking(run.output, False)
+        moves += [(os.POSIX_SPAWN_DUP2, theirs, it) for it in streams]
+    if digit:
+        moves.append((os.POSIX_SPAWN_DUP2, writes, digit))
+        os.environ.update(PRODASH_FD=str(digit), PRODASH_FD_ID=job.identity(events))
+    run.events = events
+    passed = job.handled()
+    mask = signals.pthread_sigmask(signals.SIG_BLOCK, passed)
+    for it in (*passed, signals.SIGCHLD, signals.SIGWINCH):
+        signals.signal(it, lambda *_: None)
+    signals.set_wakeup_fd(run.wakes, warn_on_full_buffer=False)
+    run.sentinel = job.Sentinel([run.display.to, run.output, events, theirs, writes])
+    reset = [signals.SIGPIPE, signals.SIGXFSZ, *passed]
+    run.pid, run.status = job.start(command, moves, mask, reset)
+    signals.pthread_sigmask(signals.SIG_SETMASK, mask)
+    for it in (theirs, writes):
+        if it is not None:
+            os.close(it)
+
+
+def report(run, status):
+    """Says what has failed, and ends this process as the job has ended."""
+    reason = run.display.reason
+    if reason:
+        # behind the ^C that the terminal has shown
+        feed = "\n" * os.WIFSIGNALED(status)
+        os.write(2, f"{feed}prodash run: {reason}\n".encode())
+        if not status:
+            os._exit(1)
+    job.end_as(status)
+
+
+def main(program, words):
+    """Runs the command of these words, with the program at this path as display."""
+    if words and words[0] in ("-h", "--help"):
+        os.write(1, HELP.encode())
+        return 0
+    given = split(words)
+    if given is None:
+        os.write(2, b"prodash run: no command: prodash run [OPTIONS] -- COMMAND [WORD ..]\n")
+        return 2
+    options, command = given
+    if job.is_nested():
+        # the wrapper above has the rows
+        return job.become(command)
+    closed, digit = job.open_streams(), job.free_digit()
+    stream = stream_to_draw_on(options)
+    own = [it for it in options if it in ("--no-pty",)]
+    run = begin(program, [it for it in options if it not in own], stream)
+    frames = run.display.awaits(STUCK)
+    if frames is None:
+        status = os.WEXITSTATUS(run.display.status)
+        os.write(2 if status else 1, f"{run.display.reason}\n".encode())
+        return status
+    start(run, command, streams_of(stream), digit, closed, bool(own))
+    run.take(frames)
+    while not run.is_over():
+        run.step()
+    report(run, run.end())

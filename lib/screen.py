@@ -1,0 +1,165 @@
+"""What the one writer of a terminal writes: a job's output as it is, and rows below it.
+
+Rows are those of a frame of prodash-live, which erases what it is drawn on. They stand below the
+line that the cursor is in, and the cursor stays where the job's output ends. So that line belongs
+to the job and to what is typed.
+"""
+# What a terminal does: erases below the cursor, or behind it in its row; keeps and restores the
+# cursor's place and its style; makes room below, which scrolls at the last row.
+ERASE_BELOW, ERASE_BEHIND, KEEP, RESTORE, ROOM = b"\x1b[J", b"\x1b[K", b"\x1b7", b"\x1b8", b"\x1bD"
+ERASE_LINE, PLAIN = b"\x1b[2K", b"\x1b[m"
+# Between full screens a program draws on another page.
+FULL, NOT_FULL = b"\x1b[?1049h", b"\x1b[?1049l"
+# How much of a line is looked at, more than a terminal has columns.
+LONG = 4096
+# What a sequence has before the character that says what it does.
+PARAMETERS = b"[0123456789;:?<=> "
+# The last characters of sequences that leave the cursor where it is, and in its line.
+STYLES, IN_LINE = b"mKhl]=>()", b"CDGPX@`a"
+
+
+def parts(frame):
+    """Returns the messages of a frame, a frame of its rows alone, and their number.
+
+    A carriage return is added to each line feed, for a job that has the terminal add none.
+    """
+    begin, _, end = frame.rpartition(ERASE_BELOW)
+    head, erases, body = begin.partition(ERASE_LINE)
+    lines = (erases + body).split(b"\n")[:-1]
+    up, _, after = end[2:].rpartition(b"A")
+    at = len(lines) - int(up or 0)
+    rows = lines[at:]
+    while rows and rows[-1] == ERASE_LINE:
+        # left over from the frame before
+        rows.pop()
+    count = len(rows)
+    messages = b"".join(it + b"\r\n" for it in lines[:at])
+    drawn = b"".join(it + b"\r\n" for it in rows)
+    back = b"\x1b[%dA" % count if count else b""
+    modes = after if up else end
+    return (head + messages + modes) * bool(messages), head + drawn + ERASE_BELOW + back + modes, count
+
+
+def is_half(line):
+    """Returns whether a line ends within a character or a sequence."""
+    for back in range(1, min(len(line), 3) + 1):
+        byte = line[-back]
+        if byte >= 0xC0:
+            if back < 2 + (byte >= 0xE0) + (byte >= 0xF0):
+                return True
+        if not 0x80 <= byte < 0xC0:
+            break
+    _, escape, last = line.rpartition(b"\x1b")
+    if last.startswith(b"]"):
+        return b"\x07" not in last
+    return bool(escape) and not last.lstrip(PARAMETERS)
+
+
+def reach(line):
+    """Returns how far a line moves the cursor: 0 not at all, 1 within the line, 2 beyond it."""
+    found = int(b"\r" in line or b"\b" in line)
+    for it in line.split(b"\x1b")[1:]:
+        end = it.lstrip(PARAMETERS)[:1]
+        if end not in STYLES:
+            found = max(found, 1 if end in IN_LINE else 2)
+    return found
+
+
+class Messages:
+    """An output that is no terminal: it gets messages alone, and the job's output isn't read."""
+
+    columns = rows = height = None
+    is_shown = True
+
+    def take(self, frame):
+        return frame
+
+    def nothing(self, *_):
+        return b""
+
+    erase = draw = clear = resize = nothing
+
+
+class Screen:
+    """The rows on a terminal of a size, and the job's line above them."""
+
+    def __init__(self, columns, rows, has_gap):
+        self.columns, self.height = columns, rows
+        # Whether an empty row is left to what is typed, where the cursor is.
+        self.has_gap = has_gap
+        # The job's output since its last line feed or carriage return, and how far it moves.
+        self.line, self.moves, self.is_full = b"", 0, False
+        # A frame of the rows alone, their number, and messages that wait for the end of a line.
+        self.frame, self.count, self.held = b"", 0, b""
+        # Whether rows may stand on the terminal, and do.
+        self.is_shown, self.is_drawn = True, False
+
+    def can_draw(self):
+        """Returns whether rows can stand below the job's line, or messages above it."""
+        return not self.is_full and self.moves < 2 and not is_half(self.line)
+
+    def is_within_line(self):
+        """Returns whether the job's line has begun."""
+        return bool(self.line or self.moves)
+
+    def fits(self):
+        """Returns whether the job's line surely ends before the last column."""
+        return len(self.line) + 7 * self.line.count(b"\t") < self.columns
+
+    def erase(self):
+        """Returns what erases the rows, if they stand."""
+        if not self.is_drawn:
+            return b""
+        self.is_drawn = False
+        # the line may have text behind the cursor
+        return KEEP + b"\r\n" + ERASE_BELOW + RESTORE if self.moves else ERASE_BELOW
+
+    def draw(self):
+        """Returns what draws the rows, on those that stand."""
+        gap = self.is_within_line() or self.has_gap
+        room = self.count + gap
+        can_draw = self.is_shown and self.can_draw() and self.fits() and room < self.height
+        if not can_draw or not self.count:
+            return self.erase()
+        self.is_drawn = True
+        behind = b"" if self.moves else ERASE_BEHIND
+        back = b"\x1b[%dA" % room
+        return behind + ROOM * room + back + KEEP + PLAIN + b"\r\n" * gap + self.frame + RESTORE
+
+    def tell(self):
+        """Returns what prints the messages that wait above the job's line."""
+        if not self.held:
+            return b""
+        feed = b"\r\n" * self.is_within_line()
+        told, self.held = self.erase() + feed + PLAIN + self.held, b""
+        # what moved the cursor before is above now
+        self.moves = 0
+        return told + self.line
+
+    def take(self, frame):
+        """Returns what a new frame writes."""
+        messages, self.frame, self.count = parts(frame)
+        self.held += messages
+        return (self.tell() if self.can_draw() else b"") + self.draw()
+
+    def put(self, output):
+        """Returns what writes output of the job, between whole sequences also the rows."""
+        written = self.erase() + output
+        seen = self.line + output
+        full, not_full = seen.rfind(FULL), seen.rfind(NOT_FULL)
+        if full != not_full:
+            self.is_full = full > not_full
+        _, feed, line = seen.rpartition(b"\n")
+        self.moves = max(0 if feed else self.moves, reach(line))
+        self.line = line[line.rfind(b"\r") + 1 :][-LONG:]
+        return written + (self.tell() if self.can_draw() else b"") + self.draw()
+
+    def clear(self):
+        """Returns what erases the rows for good and prints all messages."""
+        self.frame, self.count = b"", 0
+        return self.tell() + self.erase()
+
+    def resize(self, columns, rows):
+        """Sets the size. Returns what erases rows that may have been wrapped."""
+        self.columns, self.height = columns, rows
+        return self.erase()

@@ -1,0 +1,190 @@
+#!/usr/bin/env python3
+"""on-terminal COLUMNS ROWS: plays steps on a terminal whose shell has one job.
+
+The steps are lines of standard input:
+
+  run COMMAND    the shell starts a job in a group of its own, in the foreground
+  until TEXT     waits until the window shows a text, with no rows above it that it had before
+  gone TEXT      waits until it doesn't show a text any more
+  screen         prints the window, and `|` behind the cursor's place
+  all            prints also what has left the window
+  keys TEXT      types a text, in which \\n, \\x03 and the like stand for keys
+  tell PIPE TEXT writes a line to a named pipe
+  size C R       changes the size of the terminal
+  stopped        waits until the job is stopped, and says whether the modes are as at the start
+  fg, bg         the shell has the job go on, in the foreground or not
+  signal NAME    sends a signal to the job's group, `one NAME` to its first process alone
+  kill NAME P    sends a signal to the first child of the job's process whose name begins with P
+  modes          says whether the modes of the terminal are those of the start
+  freeze, thaw   writes nothing of the terminal any more as after Ctrl-S, and goes on
+  ended          waits until the job has ended, and says how
+"""
+import fcntl
+import os
+import select
+import signal
+import struct
+import subprocess
+import sys
+import termios
+import time
+
+from terminal import Terminal
+
+# How long a step may take.
+SECONDS = 30
+
+
+def shell(orders, reports):
+    """Starts a job on the terminal that is standard input, and says what becomes of it."""
+    for it in (signal.SIGTTOU, signal.SIGTTIN, signal.SIGTSTP, signal.SIGINT, signal.SIGQUIT):
+        signal.signal(it, signal.SIG_IGN)
+    job = None
+    for line in orders:
+        order, _, words = line.rstrip("\n").partition(" ")
+        if order == "run":
+            job = os.fork()
+            os.setpgid(job, job or os.getpid())
+            if not job:
+                os.tcsetpgrp(0, os.getpid())
+                for it in (signal.SIGTTOU, signal.SIGTTIN, signal.SIGTSTP, signal.SIGINT):
+                    signal.signal(it, signal.SIG_DFL)
+                for it in (signal.SIGQUIT, signal.SIGPIPE):
+                    signal.signal(it, signal.SIG_DFL)
+                os.execvp("sh", ["sh", "-c", f"exec {words}"])
+        else:
+            os.tcsetpgrp(0, job if order == "fg" else os.getpid())
+            os.killpg(job, signal.SIGCONT)
+        if order == "bg":
+            continue
+        print(f"job {job}", file=reports, flush=True)
+        status = os.waitpid(job, os.WUNTRACED)[1]
+        os.tcsetpgrp(0, os.getpid())
+        print(said_of(status), file=reports, flush=True)
+
+
+def said_of(status):
+    """Returns how a job was stopped or has ended."""
+    if os.WIFSTOPPED(status):
+        return "stopped"
+    if os.WIFSIGNALED(status):
+        return f"signal {signal.Signals(os.WTERMSIG(status)).name}"
+    return f"status {os.WEXITSTATUS(status)}"
+
+
+class Play:
+    """A terminal, its shell, and the steps that they take."""
+
+    def __init__(self, columns, rows):
+        self.window = Terminal(columns, rows)
+        self.ours, theirs = os.openpty()
+        self.set_size(columns, rows)
+        self.modes_before = termios.tcgetattr(theirs)
+        orders, self.orders = os.pipe()
+        self.reports, reports = os.pipe()
+        if not os.fork():
+            os.setsid()
+            fcntl.ioctl(theirs, termios.TIOCSCTTY, 0)
+            for it in (0, 1, 2):
+                os.dup2(theirs, it)
+            for it in (self.orders, self.reports, self.ours):
+                os.close(it)
+            with open(orders, encoding="utf-8") as read, open(reports, "w") as write:
+                shell(read, write)
+            os._exit(0)
+        for it in (orders, reports):
+            os.close(it)
+        self.theirs, self.said, self.job, self.is_frozen = theirs, [], None, False
+
+    def set_size(self, columns, rows):
+        fcntl.ioctl(self.ours, termios.TIOCSWINSZ, struct.pack("HHHH", rows, columns, 0, 0))
+
+    def wait(self, is_there, what):
+        """Plays what is written until something is there."""
+        deadline = time.monotonic() + SECONDS
+        while not is_there():
+            reads = [self.reports] + [self.ours] * (not self.is_frozen)
+            ready = select.select(reads, [], [], 0.05)[0]
+            if self.ours in ready:
+                self.window.play(os.read(self.ours, 65536))
+            if self.reports in ready:
+                self.said += os.read(self.reports, 4096).decode().splitlines()
+                while self.said and self.said[0].startswith("job "):
+                    self.job = int(self.said.pop(0).split()[1])
+            if time.monotonic() > deadline:
+                print(f"not {what}:", *self.window.lines(), sep="\n")
+                sys.exit(1)
+
+    def order(self, text):
+        os.write(self.orders, f"{text}\n".encode())
+
+    def settle(self):
+        """Plays what is there."""
+        while select.select([self.ours], [], [], 0.02)[0]:
+            self.window.play(os.read(self.ours, 65536))
+
+    def report(self, name):
+        """Waits for a report, and prints it."""
+        self.wait(lambda: self.said, name)
+        print(self.said.pop(0))
+
+    def child(self, name):
+        """Returns the first child of the job's process whose name begins so."""
+        found = subprocess.run(["pgrep", "-P", str(self.job), f"^{name}"], capture_output=True)
+        return int(found.stdout.split()[0])
+
+    def same_modes(self):
+        """Returns whether the modes of the terminal are those of the start."""
+        return "same modes" if termios.tcgetattr(self.theirs) == self.modes_before else "other modes"
+
+    def step(self, name, words):
+        """Takes a step."""
+        first, _, rest = words.partition(" ")
+        if name in ("run", "fg", "bg"):
+            self.order(f"{name} {words}")
+        elif name == "until":
+            self.wait(lambda: words in "\n".join(self.window.lines()), f"shown: {words}")
+        elif name == "gone":
+            self.wait(lambda: words not in "\n".join(self.window.lines()), f"gone: {words}")
+        elif name in ("screen", "all"):
+            self.settle()
+            print(*getattr(self.window, "lines" if name == "screen" else "all_lines")(), sep="\n")
+        elif name == "keys":
+            os.write(self.ours, words.encode().decode("unicode_escape").encode())
+        elif name == "tell":
+            with open(first, "w", encoding="utf-8") as it:
+                print(rest, file=it)
+        elif name == "size":
+            self.settle()
+            self.window.resize(int(first), int(rest))
+            self.set_size(int(first), int(rest))
+        elif name in ("stopped", "ended"):
+            self.report(name)
+            self.settle()
+        elif name == "modes":
+            print(self.same_modes())
+        elif name in ("freeze", "thaw"):
+            self.is_frozen = name == "freeze"
+        else:
+            self.send(name, first, rest)
+
+    def send(self, name, signal_name, child):
+        """Sends a signal."""
+        number = getattr(signal, f"SIG{signal_name}")
+        self.wait(lambda: self.job, "started")
+        if name == "signal":
+            os.killpg(self.job, number)
+        else:
+            os.kill(self.child(child) if name == "kill" else self.job, number)
+
+
+def main():
+    play = Play(int(sys.argv[1]), int(sys.argv[2]))
+    for line in sys.stdin:
+        name, _, words = line.rstrip("\n").partition(" ")
+        play.step(name, words)
+    return 0
+
+
+if __name__ == "__main__":
+    sys.exit(main())

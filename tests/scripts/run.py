@@ -1,0 +1,12 @@
+#!/usr/bin/env -S python3 -I -S
+"""prodash run, with the prodash-live that is on the path."""
+import os
+import sys
+
+sys.dont_write_bytecode = True
+sys.path.insert(0, f"{os.path.dirname(os.path.realpath(__file__))}/../../lib")
+
+import run
+
+if __name__ == "__main__":
+    sys.exit(run.main("prodash-live", sys.argv[1:]))
