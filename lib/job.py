@@ -63,7 +63,7 @@ def open_streams():
 
 
 def output_terminal(columns, rows):
-    """Returns both ends of a terminal that passes on output as it is."""
+    """Returns both ends of a terminal that passes on output as it is, of this size."""
     ours, theirs = os.openpty()
     modes = termios.tcgetattr(theirs)
     modes[1] &= ~termios.OPOST
@@ -83,32 +83,43 @@ def handled():
     return [it for it in PASSED if signals.getsignal(it) != signals.SIG_IGN]
 
 
-def start(words, moves, mask, reset):
-    """Starts a job with these changes of descriptors. Returns its process, or its status.
+class Command:
+    """A command, with what it gets of this process."""
 
-    It gets the signals that are not in the mask, each with its default action if it is reset.
-    """
-    how = {"file_actions": moves, "setsigmask": mask, "setsigdef": reset}
-    try:
-        return os.posix_spawnp(words[0], words, os.environ, **how), None
-    except OSError as error:
-        return None, refused(words, error) << 8
+    def __init__(self, words, closed=()):
+        # descriptors that take the place of others, and streams that were closed before
+        self.words, self.moves, self.closed = words, [], closed
+        # signals that are blocked, and those that have their default action
+        self.mask, self.reset = (), [signals.SIGPIPE, signals.SIGXFSZ, *handled()]
 
+    def start(self):
+        """Starts it. Returns its process, or None and the status that it ended with at once."""
+        actions = [(os.POSIX_SPAWN_CLOSE, it) for it in self.closed]
+        actions += [(os.POSIX_SPAWN_DUP2, fd, at) for fd, at in self.moves]
+        how = {"file_actions": actions, "setsigmask": self.mask, "setsigdef": self.reset}
+        try:
+            return os.posix_spawnp(self.words[0], self.words, os.environ, **how), None
+        except OSError as error:
+            return None, self.refused(error) << 8
 
-def refused(words, error):
-    """Says why a command can't be run, and returns the exit status."""
-    os.write(2, f"prodash run: {words[0]}: {error.strerror}\n".encode())
-    return NOT_FOUND if isinstance(error, FileNotFoundError) else NOT_RUN
+    def become(self):
+        """Runs it in place of this process, or returns an exit status."""
+        for it in self.closed:
+            os.close(it)
+        for fd, at in self.moves:
+            os.dup2(fd, at)
+        for it in self.reset:
+            signals.signal(it, signals.SIG_DFL)
+        signals.pthread_sigmask(signals.SIG_SETMASK, self.mask)
+        try:
+            return os.execvp(self.words[0], self.words)
+        except OSError as error:
+            return self.refused(error)
 
-
-def become(words):
-    """Runs a command in place of this process, or returns the exit status."""
-    for it in (signals.SIGPIPE, signals.SIGXFSZ):
-        signals.signal(it, signals.SIG_DFL)
-    try:
-        return os.execvp(words[0], words)
-    except OSError as error:
-        return refused(words, error)
+    def refused(self, error):
+        """Says why it can't be run, and returns the exit status."""
+        os.write(2, f"prodash run: {self.words[0]}: {error.strerror}\n".encode())
+        return NOT_FOUND if isinstance(error, FileNotFoundError) else NOT_RUN
 
 
 class Sentinel:
@@ -150,8 +161,11 @@ def leave(fd, to):
         os.execvp("cat", ["cat"])
 
 
-def end_as(status):
-    """Ends this process as another one ended: with its exit status, or by its signal."""
+def end_as(status, of_group=False):
+    """Ends this process as another one ended: with its exit status, or by its signal.
+
+    The signal is for the whole group, if the terminal would have sent it to that.
+    """
     if os.WIFEXITED(status):
         os._exit(os.WEXITSTATUS(status))
     number = os.WTERMSIG(status)
@@ -164,5 +178,7 @@ def end_as(status):
         # as of SIGKILL
         pass
     signals.pthread_sigmask(signals.SIG_UNBLOCK, (number,))
+    if of_group and number in (signals.SIGINT, signals.SIGQUIT):
+        os.killpg(0, number)
     os.kill(os.getpid(), number)
     os._exit(128 + number)

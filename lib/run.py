@@ -25,6 +25,7 @@ The command has PRODASH_FD in its environment: a descriptor that reads event lin
   echo "add @a 0 compress" >&$PRODASH_FD
 
 Options:
+      --pty      the command has a whole terminal of its own, also for keys
       --no-pty   the output of the command is a pipe, not a terminal
   -h, --help     print help
   and those of prodash-live: prodash live --help
@@ -34,6 +35,8 @@ Options:
 # without output of a job that has ended, and at most, until what others still write is left.
 STUCK, ALONE, LOOK, QUIET, LATE = 2, 0.05, 0.2, 0.2, 1
 SIZES = ("--columns", "--rows")
+# What the job's output is: a terminal, that of a session of its own, or a pipe.
+TERMINAL, SESSION, PIPE = KINDS = ("", "--pty", "--no-pty")
 
 
 class Terminal:
@@ -87,6 +90,9 @@ class Terminal:
 
 class Run:
     """A job, its display, and all that is read and written between them."""
+
+    # whether a signal that ends the job is one of the terminal for the whole group
+    ends_group = False
 
     def __init__(self, terminal, display, screen, follows_size):
         self.terminal, self.display, self.screen = terminal, display, screen
@@ -161,25 +167,46 @@ class Run:
         self.display.write()
         self.taken = time.monotonic()
 
+    def open_output(self, streams, kind):
+        """Opens what the job writes to in place of these streams, and returns the job's end."""
+        if not streams:
+            return None
+        if kind == PIPE or not os.isatty(streams[0]):
+            self.output, theirs = os.pipe()
+        else:
+            self.output, theirs = job.output_terminal(self.screen.columns, self.screen.height)
+        os.set_blocking(self.output, False)
+        return theirs
+
+    def start(self, command, others, theirs, writes):
+        """Starts the job. The sentinel has no descriptors of it."""
+        self.sentinel = job.Sentinel([*others, theirs, writes])
+        self.pid, self.status = command.start()
+
+    def reads(self):
+        """Returns the descriptors to read of, and None for each that isn't there."""
+        display, found = self.display, [self.sentinel.told if self.sentinel else None]
+        if not self.terminal.left:
+            found += [self.output, display.frames if display.is_alive() else None]
+        return [*found, self.events if len(display.lines) < READ else None]
+
+    def writes(self):
+        """Returns the descriptors to write to, and None for each that isn't there."""
+        terminal = self.terminal.fd if self.terminal.left else None
+        return [terminal, self.display.to if self.display.lines else None]
+
     def wait(self):
         """Waits until something can be done, and returns the descriptors with which it can."""
+        wanted = {self.woken: select.POLLIN}
+        for found, event in ((self.reads(), select.POLLIN), (self.writes(), select.POLLOUT)):
+            for it in found:
+                if it is not None:
+                    wanted[it] = wanted.get(it, 0) | event
         poll = select.poll()
-        poll.register(self.woken, select.POLLIN)
-        display, is_blocked = self.display, bool(self.terminal.left)
-        reads = [self.sentinel.told] if self.sentinel else []
-        if is_blocked:
-            poll.register(self.terminal.fd, select.POLLOUT)
-        else:
-            reads += [self.output, display.frames if display.is_alive() else None]
-        if len(display.lines) < READ:
-            reads.append(self.events)
-        for it in reads:
-            if it is not None:
-                poll.register(it, select.POLLIN)
-        if display.lines and display.to is not None:
-            poll.register(display.to, select.POLLOUT)
-        timeout = self.timeout(is_blocked)
-        return {fd for fd, _ in poll.poll(timeout and max(timeout, 0) * 1000)}
+        for it, event in wanted.items():
+            poll.register(it, event)
+        timeout = self.timeout(bool(self.terminal.left))
+        return dict(poll.poll(timeout and max(timeout, 0) * 1000))
 
     def timeout(self, is_blocked):
         """Returns after how many seconds something has to be done, or None."""
@@ -193,7 +220,7 @@ class Run:
         return min(times) - now + 0.001 if times else None
 
     def step(self):
-        """Does what can be done. Output is read before lines."""
+        """Does what can be done, output before lines. Returns what was ready."""
         ready = self.wait()
         if self.sentinel and self.sentinel.told in ready:
             until = time.monotonic() + ALONE
@@ -215,6 +242,7 @@ class Run:
                 self.read_frames()
             elif self.display.lines and not self.terminal.left:
                 self.watch()
+        return ready
 
     def watch(self):
         """Gives the display up if it has taken nothing for too long."""
@@ -264,12 +292,16 @@ class Run:
         self.paint(self.screen.erase())
         self.terminal.finish(ALONE)
         before = signals.signal(signals.SIGTSTP, signals.SIG_DFL)
-        os.kill(os.getpid(), signals.SIGTSTP)
+        self.suspend()
         signals.signal(signals.SIGTSTP, before)
         self.taken = time.monotonic()
         self.screen.is_shown = self.terminal.is_foreground()
         self.resize()
         self.paint(self.screen.draw())
+
+    def suspend(self):
+        """Stops this process. The job was sent the signal as well."""
+        os.kill(os.getpid(), signals.SIGTSTP)
 
     def resize(self):
         """Tells everyone a new size."""
@@ -364,7 +396,7 @@ def stream_to_draw_on(options):
     return found[0] if found and when != "never" and not is_dumb else None
 
 
-def begin(program, options, stream):
+def begin(make, program, options, stream):
     """Starts the display. Returns the run without a job."""
     terminal = Terminal(2 if stream is None else stream)
     columns, rows = terminal.size() or (80, 24)
@@ -376,46 +408,48 @@ def begin(program, options, stream):
     else:
         follows_size = False
     words += [*options, "--terminal", "never" if stream is None else "always"]
-    reset = [signals.SIGPIPE, signals.SIGXFSZ, *job.handled()]
-    return Run(terminal, Display(program, words, reset), screen, follows_size)
+    display = Display(program, words, [signals.SIGPIPE, signals.SIGXFSZ, *job.handled()])
+    return make(terminal, display, screen, follows_size)
 
 
-def streams_of(stream):
+def streams_of(stream, kind):
     """Returns the streams of the job that are the terminal with the rows."""
     if stream is None:
         return []
     if not os.isatty(stream):
         return [stream]
-    device = os.fstat(stream).st_rdev
-    return [it for it in (1, 2) if os.isatty(it) and os.fstat(it).st_rdev == device]
+    device, wanted = os.fstat(stream).st_rdev, (0, 1, 2) if kind == SESSION else (1, 2)
+    return [it for it in wanted if os.isatty(it) and os.fstat(it).st_rdev == device]
 
 
-def start(run, command, streams, digit, closed, is_pipe):
+def start(run, command, streams, digit, kind):
     """Starts the job. Its output and its lines are then read by this process."""
-    events, writes = os.pipe()
-    moves, theirs = [(os.POSIX_SPAWN_CLOSE, it) for it in closed], None
-    if streams:
-        is_pipe = is_pipe or not os.isatty(streams[0])
-        size = (run.screen.columns, run.screen.height)
-        run.output, theirs = os.pipe() if is_pipe else job.output_terminal(*size)
-        os.set_blocking(run.output, False)
-        moves += [(os.POSIX_SPAWN_DUP2, theirs, it) for it in streams]
+    run.events, writes = os.pipe()
+    theirs = run.open_output(streams, kind)
+    command.moves = [(theirs, it) for it in streams]
     if digit:
-        moves.append((os.POSIX_SPAWN_DUP2, writes, digit))
-        os.environ.update(PRODASH_FD=str(digit), PRODASH_FD_ID=job.identity(events))
-    run.events = events
+        command.moves.append((writes, digit))
+        os.environ.update(PRODASH_FD=str(digit), PRODASH_FD_ID=job.identity(run.events))
     passed = job.handled()
-    mask = signals.pthread_sigmask(signals.SIG_BLOCK, passed)
+    mask = command.mask = signals.pthread_sigmask(signals.SIG_BLOCK, passed)
     for it in (*passed, signals.SIGCHLD, signals.SIGWINCH):
         signals.signal(it, lambda *_: None)
     signals.set_wakeup_fd(run.wakes, warn_on_full_buffer=False)
-    run.sentinel = job.Sentinel([run.display.to, run.output, events, theirs, writes])
-    reset = [signals.SIGPIPE, signals.SIGXFSZ, *passed]
-    run.pid, run.status = job.start(command, moves, mask, reset)
+    others = [run.display.to, run.output, run.events]
+    run.start(command, others, theirs, writes)
     signals.pthread_sigmask(signals.SIG_SETMASK, mask)
     for it in (theirs, writes):
         if it is not None:
             os.close(it)
+
+
+def run_of(kind):
+    """Returns the type of a run whose job has this kind of output."""
+    if kind != SESSION:
+        return Run
+    from session import SessionRun
+
+    return SessionRun
 
 
 def report(run, status):
@@ -427,7 +461,7 @@ def report(run, status):
         os.write(2, f"{feed}prodash run: {reason}\n".encode())
         if not status:
             os._exit(1)
-    job.end_as(status)
+    job.end_as(status, run.ends_group)
 
 
 def main(program, words):
@@ -442,17 +476,18 @@ def main(program, words):
     options, command = given
     if job.is_nested():
         # the wrapper above has the rows
-        return job.become(command)
+        return job.Command(command).become()
     closed, digit = job.open_streams(), job.free_digit()
     stream = stream_to_draw_on(options)
-    own = [it for it in options if it in ("--no-pty",)]
-    run = begin(program, [it for it in options if it not in own], stream)
+    kinds = [it for it in options if it in KINDS and stream is not None]
+    kind = kinds[-1] if kinds else TERMINAL
+    run = begin(run_of(kind), program, [it for it in options if it not in KINDS], stream)
     frames = run.display.awaits(STUCK)
     if frames is None:
         status = os.WEXITSTATUS(run.display.status)
         os.write(2 if status else 1, f"{run.display.reason}\n".encode())
         return status
-    start(run, command, streams_of(stream), digit, closed, bool(own))
+    start(run, job.Command(command, closed), streams_of(stream, kind), digit, kind)
     run.take(frames)
     while not run.is_over():
         run.step()
