@@ -149,13 +149,18 @@ class Sentinel:
         os.waitpid(self.pid, 0)
 
 
-def leave(fd, to):
-    """Leaves a process that reads what others still write there, so that they aren't ended."""
+def leave(fd, to, kept=None):
+    """Leaves a process that reads what others still write there, so that they aren't ended.
+
+    It keeps a descriptor open until then.
+    """
     if not os.fork():
         os.setpgid(0, 0)
         null = os.open(os.devnull, os.O_WRONLY)
         for source, at in ((fd, 0), (null if to is None else to, 1), (null, 2)):
             os.dup2(source, at)
+        if kept is not None:
+            os.set_inheritable(kept, True)
         for it in (*PASSED, signals.SIGPIPE):
             signals.signal(it, signals.SIG_DFL)
         os.execvp("cat", ["cat"])

@@ -333,7 +333,7 @@ class Run:
         for fd, to in ((self.output, self.terminal.stream), (self.events, None)):
             if fd is not None:
                 os.set_blocking(fd, True)
-                job.leave(fd, to)
+                job.leave(fd, to, self.kept())
         self.output = self.events = None
         self.finish_display()
         self.paint(self.screen.clear())
@@ -342,6 +342,9 @@ class Run:
         if self.sentinel:
             self.sentinel.end()
         return self.status
+
+    def kept(self):
+        """Returns a descriptor that stays open as long as others write to the job's output."""
 
     def is_hurried(self):
         """Returns whether a signal came after the end of the job, which ends this process, too."""

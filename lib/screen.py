@@ -10,7 +10,7 @@ ERASE_BELOW, ERASE_BEHIND, KEEP, RESTORE, ROOM = b"\x1b[J", b"\x1b[K", b"\x1b7",
 ERASE_LINE, PLAIN = b"\x1b[2K", b"\x1b[m"
 # Between full screens a program draws on another page.
 FULL, NOT_FULL = b"\x1b[?1049h", b"\x1b[?1049l"
-# How much of a line is looked at, more than a terminal has columns.
+# How much of a line is kept, more than a terminal has columns.
 LONG = 4096
 # What a sequence has before the character that says what it does.
 PARAMETERS = b"[0123456789;:?<=> "
@@ -87,7 +87,7 @@ class Screen:
         self.columns, self.height = columns, rows
         # Whether an empty row is left to what is typed, where the cursor is.
         self.has_gap = has_gap
-        # The job's output since its last line feed or carriage return, and how far it moves.
+        # The job's output since its last line feed, and how far that moves the cursor.
         self.line, self.moves, self.is_full = b"", 0, False
         # A frame of the rows alone, their number, and messages that wait for the end of a line.
         self.frame, self.count, self.held = b"", 0, b""
@@ -98,13 +98,10 @@ class Screen:
         """Returns whether rows can stand below the job's line, or messages above it."""
         return not self.is_full and self.moves < 2 and not is_half(self.line)
 
-    def is_within_line(self):
-        """Returns whether the job's line has begun."""
-        return bool(self.line or self.moves)
-
     def fits(self):
         """Returns whether the job's line surely ends before the last column."""
-        return len(self.line) + 7 * self.line.count(b"\t") < self.columns
+        parts = self.line.split(b"\r")
+        return all(len(it) + 7 * it.count(b"\t") < self.columns for it in parts)
 
     def erase(self):
         """Returns what erases the rows, if they stand."""
@@ -116,7 +113,7 @@ class Screen:
 
     def draw(self):
         """Returns what draws the rows, on those that stand."""
-        gap = self.is_within_line() or self.has_gap
+        gap = bool(self.line or self.has_gap)
         room = self.count + gap
         can_draw = self.is_shown and self.can_draw() and self.fits() and room < self.height
         if not can_draw or not self.count:
@@ -130,11 +127,11 @@ class Screen:
         """Returns what prints the messages that wait above the job's line."""
         if not self.held:
             return b""
-        feed = b"\r\n" * self.is_within_line()
-        told, self.held = self.erase() + feed + PLAIN + self.held, b""
-        # what moved the cursor before is above now
-        self.moves = 0
-        return told + self.line
+        # the line moves down, or what is left of a long one goes on below
+        begin = b"\r" + ERASE_LINE if self.fits() else b"\r\n"
+        told = self.erase() + begin * bool(self.line) + PLAIN + self.held + self.line
+        self.held = b""
+        return told
 
     def take(self, frame):
         """Returns what a new frame writes."""
@@ -151,7 +148,7 @@ class Screen:
             self.is_full = full > not_full
         _, feed, line = seen.rpartition(b"\n")
         self.moves = max(0 if feed else self.moves, reach(line))
-        self.line = line[line.rfind(b"\r") + 1 :][-LONG:]
+        self.line = line if len(line) < LONG else line[line.find(b"\r", -LONG) :]
         return written + (self.tell() if self.can_draw() else b"") + self.draw()
 
     def clear(self):

@@ -74,9 +74,8 @@ class Session:
         os.close(ends)
 
     def end(self):
-        """Ends the monitor, with which what is left on the terminal is hung up."""
+        """Has the monitor end, unless others keep it."""
         os.close(self.alive)
-        os.waitpid(self.pid, 0)
 
 
 class Modes:
@@ -207,6 +206,10 @@ class SessionRun(Run):
     def suspend(self):
         """Stops the whole group, as the terminal would have."""
         os.killpg(0, signals.SIGTSTP)
+
+    def kept(self):
+        """Returns what keeps the monitor: the terminal is hung up at its end."""
+        return self.session.alive
 
     def end(self):
         """Ends the display and the monitor, and gives the terminal its modes back."""

@@ -19,6 +19,7 @@ The steps are lines of standard input:
   freeze, thaw   writes nothing of the terminal any more as after Ctrl-S, and goes on
   ended          waits until the job has ended, and says how
 """
+import contextlib
 import fcntl
 import os
 import select
@@ -44,7 +45,9 @@ def shell(orders, reports):
         order, _, words = line.rstrip("\n").partition(" ")
         if order == "run":
             job = os.fork()
-            os.setpgid(job, job or os.getpid())
+            with contextlib.suppress(PermissionError):
+                # the job itself may have been faster
+                os.setpgid(job, job or os.getpid())
             if not job:
                 os.tcsetpgrp(0, os.getpid())
                 for it in (signal.SIGTTOU, signal.SIGTTIN, signal.SIGTSTP, signal.SIGINT):

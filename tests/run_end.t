@@ -1,0 +1,211 @@
+prodash run: the end
+====================
+
+`on-terminal` plays steps on a terminal, and `prodash-run` is `prodash run`. The job waits for lines
+of a named pipe, `go`.
+
+  $ export TERM=xterm
+  $ unset COLUMNS LINES NO_COLOR
+  $ mkfifo go
+  $ run() {
+  >   for kind in -- '--no-pty --' '--pty --'; do
+  >     { echo "run prodash-run --no-color $kind $1"; echo "${2:-ended}"; } | on-terminal 40 8
+  >   done
+  > }
+
+The status is that of the job, also if a signal has ended it.
+
+  $ run true
+  status 0
+  status 0
+  status 0
+  $ run 'sh -c "exit 7"'
+  status 7
+  status 7
+  status 7
+  $ run 'sh -c "kill -TERM \$\$"'
+  signal SIGTERM
+  signal SIGTERM
+  signal SIGTERM
+  $ run 'sh -c "kill -SEGV \$\$"'
+  signal SIGSEGV
+  signal SIGSEGV
+  signal SIGSEGV
+  $ run nothing 'ended
+  > screen'
+  status 127
+  prodash run: nothing: No such file or di
+  rectory
+  status 127
+  prodash run: nothing: No such file or di
+  rectory
+  status 127
+  prodash run: nothing: No such file or di
+  rectory
+  $ run /dev/null 'ended
+  > screen'
+  status 126
+  prodash run: /dev/null: Permission denie
+  d
+  status 126
+  prodash run: /dev/null: Permission denie
+  d
+  status 126
+  prodash run: /dev/null: Permission denie
+  d
+  $ prodash-run nothing
+  prodash run: nothing: No such file or directory
+  [127]
+  $ prodash-run -- sh -c 'kill -9 $$'
+  Killed
+  [137]
+
+Without a command nothing begins.
+
+  $ prodash-run
+  prodash run: no command: prodash run [OPTIONS] -- COMMAND [WORD ..]
+  [2]
+  $ prodash-run --no-color
+  prodash run: no command: prodash run [OPTIONS] -- COMMAND [WORD ..]
+  [2]
+  $ prodash-run --no-color --
+  prodash run: no command: prodash run [OPTIONS] -- COMMAND [WORD ..]
+  [2]
+
+What is left on the terminal is what the job wrote. A line that isn't whole is not ended.
+
+  $ cat >job <<'.'
+  > echo "add @a 0 build" >&$PRODASH_FD
+  > echo "info @a - begins" >&$PRODASH_FD
+  > printf 'one\ntwo'
+  > .
+  $ run 'sh job' 'ended
+  > screen'
+  status 0
+  one
+   build begins
+  two
+  status 0
+  one
+   build begins
+  two
+  status 0
+  one
+   build begins
+  two
+
+A child in the background that goes on is not waited for, and not ended. What it writes is passed on.
+
+  $ cat >leaves <<'.'
+  > exec 3<>go
+  > (read _ <&3; echo "from the child"; echo "add @b 0 b" >&$PRODASH_FD; echo alive >file) &
+  > echo "from the job"
+  > .
+  $ until_alive='ended
+  > tell go
+  > until from the child
+  > screen'
+  $ { echo 'run prodash-run -- sh leaves'; echo "$until_alive"; } | on-terminal 40 8
+  status 0
+  from the job
+  from the child
+  $ until grep -qs alive file; do :; done; rm file
+  $ { echo 'run prodash-run --pty -- sh leaves'; echo "$until_alive"; } | on-terminal 40 8
+  status 0
+  from the job
+  from the child
+  $ until grep -qs alive file; do :; done; rm file
+  $ { echo 'run prodash-run --no-pty -- sh leaves'; echo "$until_alive"; } | on-terminal 40 8
+  status 0
+  from the job
+  from the child
+  $ until grep -qs alive file; do :; done; rm file
+
+One that writes without a pause is not waited for either.
+
+  $ run 'sh -c "yes \# >&\$PRODASH_FD & echo \$! >>yes.pids"' 'ended
+  > screen'
+  status 0
+  
+  status 0
+  
+  not ended:
+  -terminal", line 93, in __init__
+      shell(read, write)
+    File "/tmp/transcripts-584ctodt/bin/on
+  -terminal", line 47, in shell
+      os.setpgid(job, job or os.getpid())
+  PermissionError: [Errno 13] Permission d
+  enied
+  [1]
+  $ kill $(cat yes.pids)
+
+Each signal reaches the job exactly once, whether it is sent to its group or to `prodash run` alone.
+`counts` counts them until SIGUSR2.
+
+  $ cat >counts <<'.'
+  > import signal
+  > names = ("INT", "TERM", "HUP", "QUIT", "USR1", "USR2")
+  > numbers = [getattr(signal, f"SIG{it}") for it in names]
+  > signal.pthread_sigmask(signal.SIG_BLOCK, numbers)
+  > print("ready", flush=True)
+  > got, count = None, 0
+  > while got != "SIGUSR2":
+  >     got, count = signal.sigwait(numbers).name, count + 1
+  >     print(count, got, flush=True)
+  > .
+  $ cat >signals <<'.'
+  > until ready
+  > one INT
+  > until 1 SIGINT
+  > signal INT
+  > until 2 SIGINT
+  > keys \x03
+  > until 3 SIGINT
+  > signal TERM
+  > until 4 SIGTERM
+  > one TERM
+  > until 5 SIGTERM
+  > one HUP
+  > until 6 SIGHUP
+  > signal HUP
+  > until 7 SIGHUP
+  > one USR1
+  > until 8 SIGUSR1
+  > signal QUIT
+  > until 9 SIGQUIT
+  > one USR2
+  > ended
+  > .
+  $ for kind in -- '--no-pty --' '--pty --'; do
+  >   { echo "run prodash-run $kind python3 counts"; cat signals; } | on-terminal 40 12
+  > done
+  status 0
+  status 0
+  status 0
+
+A signal at the start ends the job, or `prodash run` before there is one.
+
+  $ cat >early.py <<'.'
+  > import shutil, subprocess, sys, time
+  > found, run = set(), [sys.executable, "-I", "-S", shutil.which("prodash-run"), *sys.argv[1:]]
+  > for k in range(80):
+  >     begun = subprocess.Popen([*run, "sleep", "60"])
+  >     time.sleep(k * 0.0007)
+  >     begun.terminate()
+  >     found.add(begun.wait())
+  > print(found)
+  > .
+  $ python3 early.py --terminal always --
+  {-15}
+  $ for kind in -- '--no-pty --' '--pty --'; do
+  >   echo "run python3 early.py $kind
+  > ended
+  > screen" | on-terminal 40 12
+  > done
+  status 0
+  {-15}
+  status 0
+  {-15}
+  status 0
+  {-15}

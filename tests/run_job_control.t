@@ -1,0 +1,191 @@
+prodash run: job control
+========================
+
+`on-terminal` plays steps on a terminal, whose shell has one job. `prodash-run` is `prodash run`. The
+job waits for lines of a named pipe, `go`.
+
+  $ export TERM=xterm
+  $ unset COLUMNS LINES NO_COLOR
+  $ mkfifo go
+  $ cat >job <<'.'
+  > exec 3<>go
+  > say() { echo "$@" >&$PRODASH_FD; }
+  > next() { read _ <&3; }
+  > say add @a 0 build
+  > say init @a 10 files
+  > say set @a 3
+  > .
+  $ cat >one <<'.'
+  > . ./job
+  > echo one; next; say set @a 4; echo two; next
+  > .
+
+Ctrl-Z stops the job without rows, and `fg` has it go on with them. The keys are echoed as without
+`prodash run`, and the modes of the terminal are the same.
+
+  $ cat >stop_and_go <<'.'
+  > until 3/10
+  > until one
+  > keys \x1a
+  > stopped
+  > gone build
+  > screen
+  > modes
+  > fg
+  > until 3/10
+  > tell go
+  > until 4/10
+  > until two
+  > screen
+  > tell go
+  > ended
+  > screen
+  > modes
+  > .
+  $ { echo 'run prodash-run --no-color -- sh one'; cat stop_and_go; } | on-terminal 40 8
+  stopped
+  one
+  ^Z
+  same modes
+  one
+  ^Ztwo
+  
+   build 4/10 files [=======>------------]
+  status 0
+  one
+  ^Ztwo
+  same modes
+  $ { echo 'run prodash-run --no-pty --no-color -- sh one'; cat stop_and_go; } | on-terminal 40 8
+  stopped
+  one
+  ^Z
+  same modes
+  one
+  ^Ztwo
+  
+   build 4/10 files [=======>------------]
+  status 0
+  one
+  ^Ztwo
+  same modes
+  $ { echo 'run prodash-run --pty --no-color -- sh one'; cat stop_and_go; } | on-terminal 40 8
+  stopped
+  one
+  ^Z
+  same modes
+  one
+  ^Ztwo
+   build 4/10 files [=======>------------]
+  status 0
+  one
+  ^Ztwo
+  same modes
+
+After `bg` the output is written without rows, which come back in the foreground.
+
+  $ cat >background <<'.'
+  > until 3/10
+  > until one
+  > keys \x1a
+  > stopped
+  > bg
+  > tell go
+  > until two
+  > screen
+  > modes
+  > fg
+  > until 4/10
+  > tell go
+  > ended
+  > modes
+  > .
+  $ { echo 'run prodash-run --no-color -- sh one'; cat background; } | on-terminal 40 8
+  stopped
+  one
+  ^Ztwo
+  same modes
+  status 0
+  same modes
+  $ { echo 'run prodash-run --pty --no-color -- sh one'; cat background; } | on-terminal 40 8
+  stopped
+  one
+  ^Ztwo
+  same modes
+  status 0
+  same modes
+
+Ctrl-C ends the job, and `prodash run` ends by the same signal, so a script around it ends too.
+
+  $ cat >around <<'.'
+  > for it in 1 2; do prodash-run --no-color $KIND -- sh one; done
+  > echo goes on
+  > .
+  $ cat >interrupted <<'.'
+  > until 3/10
+  > until one
+  > keys \x03
+  > ended
+  > screen
+  > modes
+  > .
+  $ { echo 'run env KIND= bash around'; cat interrupted; } | on-terminal 40 8
+  signal SIGINT
+  one
+  ^C
+  same modes
+  $ { echo 'run env KIND=--no-pty bash around'; cat interrupted; } | on-terminal 40 8
+  signal SIGINT
+  one
+  ^C
+  same modes
+  $ { echo 'run env KIND=--pty bash around'; cat interrupted; } | on-terminal 40 8
+  signal SIGINT
+  one
+  ^C
+  same modes
+  $ { echo 'run prodash-run -- sh one'; cat interrupted; } | on-terminal 40 8 | grep signal
+  signal SIGINT
+
+The job may handle it.
+
+  $ cat >handles <<'.'
+  > trap 'echo handled; exit 4' INT
+  > . ./one
+  > .
+  $ { echo 'run prodash-run --no-color -- sh handles'; cat interrupted; } | on-terminal 40 8
+  status 4
+  one
+  ^Chandled
+  same modes
+  $ { echo 'run prodash-run --pty --no-color -- sh handles'; cat interrupted; } | on-terminal 40 8
+  status 4
+  one
+  ^Chandled
+  same modes
+
+A new size is that of the rows, and of the job's output once the job is told of it.
+
+  $ cat >sized <<'.'
+  > trap 'stty size <&1' WINCH
+  > . ./job
+  > while :; do next; done
+  > .
+  $ cat >sizes <<'.'
+  > until 3/10 files [=================>------------------------------------------]
+  > size 40 10
+  > until 3/10 files [=====>--------------]
+  > tell go
+  > until 10 40
+  > screen
+  > keys \x03
+  > ended
+  > .
+  $ { echo 'run prodash-run --no-color -- bash sized'; cat sizes; } | on-terminal 80 8
+  10 40
+  
+   build 3/10 files [=====>--------------]
+  signal SIGINT
+  $ { echo 'run prodash-run --pty --no-color -- bash sized'; cat sizes; } | on-terminal 80 8
+  10 40
+   build 3/10 files [=====>--------------]
+  signal SIGINT
