@@ -129,15 +129,8 @@ One that writes without a pause is not waited for either.
   
   status 0
   
-  not ended:
-  -terminal", line 93, in __init__
-      shell(read, write)
-    File "/tmp/transcripts-584ctodt/bin/on
-  -terminal", line 47, in shell
-      os.setpgid(job, job or os.getpid())
-  PermissionError: [Errno 13] Permission d
-  enied
-  [1]
+  status 0
+  
   $ kill $(cat yes.pids)
 
 Each signal reaches the job exactly once, whether it is sent to its group or to `prodash run` alone.
