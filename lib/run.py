@@ -314,7 +314,7 @@ class Run:
             job.set_size(self.output, *size)
             os.killpg(0, signals.SIGWINCH)
         if self.follows_size:
-            self.display.send(size_line(*size))
+            self.display.send(b"size %d %d\n" % size_to_draw_on(*size))
         self.paint(self.screen.draw())
 
     def quiet(self):
@@ -362,12 +362,9 @@ class Run:
                 self.step()
 
 
-def size_line(columns, rows):
-    """Returns the line that tells prodash-live the size of the terminal.
-
-    One row is the job's.
-    """
-    return b"size %d %d\n" % (columns, max(rows - 1, 1))
+def size_to_draw_on(columns, rows):
+    """Returns the size of what prodash-live draws on, without rows for the job's last two lines."""
+    return columns, max(rows - 2, 1)
 
 
 def split(words):
@@ -407,7 +404,8 @@ def begin(make, program, options, stream):
     screen = Messages() if stream is None else Screen(columns, rows, os.isatty(0))
     words = ["--marks"]
     if follows_size and not {"COLUMNS", "LINES"} & set(os.environ):
-        words += ["--columns", str(columns), "--rows", str(max(rows - 1, 1))]
+        drawn = size_to_draw_on(columns, rows)
+        words += [f"{name}={number}" for name, number in zip(SIZES, drawn)]
     else:
         follows_size = False
     words += [*options, "--terminal", "never" if stream is None else "always"]
@@ -430,6 +428,9 @@ def start(run, command, streams, digit, kind):
     run.events, writes = os.pipe()
     theirs = run.open_output(streams, kind)
     command.moves = [(theirs, it) for it in streams]
+    for it in ("PRODASH_FD", "PRODASH_FD_ID"):
+        # of another wrapper
+        os.environ.pop(it, None)
     if digit:
         command.moves.append((writes, digit))
         os.environ.update(PRODASH_FD=str(digit), PRODASH_FD_ID=job.identity(run.events))

@@ -8,7 +8,7 @@ to the job and to what is typed.
 # cursor's place and its style; makes room below, which scrolls at the last row.
 ERASE_BELOW, ERASE_BEHIND, KEEP, RESTORE, ROOM = b"\x1b[J", b"\x1b[K", b"\x1b7", b"\x1b8", b"\x1bD"
 ERASE_LINE, PLAIN = b"\x1b[2K", b"\x1b[m"
-# Between full screens a program draws on another page.
+# A full screen is drawn on a page of its own.
 FULL, NOT_FULL = b"\x1b[?1049h", b"\x1b[?1049l"
 # How much of a line is kept, more than a terminal has columns.
 LONG = 4096
@@ -88,7 +88,9 @@ class Screen:
         # Whether an empty row is left to what is typed, where the cursor is.
         self.has_gap = has_gap
         # The job's output since its last line feed, and how far that moves the cursor.
-        self.line, self.moves, self.is_full = b"", 0, False
+        self.line, self.moves = b"", 0
+        # Whether a full screen is shown, and the job's output before it.
+        self.is_full, self.under = False, b""
         # A frame of the rows alone, their number, and messages that wait for the end of a line.
         self.frame, self.count, self.held = b"", 0, b""
         # Whether rows may stand on the terminal, and do.
@@ -139,15 +141,27 @@ class Screen:
         self.held += messages
         return (self.tell() if self.can_draw() else b"") + self.draw()
 
+    def without_full(self, seen):
+        """Returns output without what is on the page of full screens.
+
+        Behind that the cursor is where it was. Nothing is left out as long as that page is shown.
+        """
+        while True:
+            before, sign, after = seen.partition(NOT_FULL if self.is_full else FULL)
+            if not sign:
+                return seen
+            self.is_full = not self.is_full
+            if self.is_full:
+                self.under, seen = before, after
+            else:
+                seen = self.under + after
+
     def put(self, output):
         """Returns what writes output of the job, between whole sequences also the rows."""
         written = self.erase() + output
-        seen = self.line + output
-        full, not_full = seen.rfind(FULL), seen.rfind(NOT_FULL)
-        if full != not_full:
-            self.is_full = full > not_full
-        _, feed, line = seen.rpartition(b"\n")
-        self.moves = max(0 if feed else self.moves, reach(line))
+        _, feed, line = self.without_full(self.line + output).rpartition(b"\n")
+        if not self.is_full:
+            self.moves = max(0 if feed else self.moves, reach(line))
         self.line = line if len(line) < LONG else line[line.find(b"\r", -LONG) :]
         return written + (self.tell() if self.can_draw() else b"") + self.draw()
 

@@ -52,3 +52,270 @@ A job writes lines, then a line that isn't whole.
   one
   two: 2
   same modes
+
+A message goes in above a line that isn't whole, which stays as it is. So does what is typed behind a
+prompt.
+
+  $ cat >prompts <<'.'
+  > . ./job
+  > echo one; printf 'name? '; say info @a - asked; read name; echo "it is $name"; next
+  > .
+  $ cat >answers <<'.'
+  > until asked
+  > until name?
+  > until 3/10
+  > keys Bob
+  > until name? Bob
+  > screen
+  > keys \n
+  > until it is Bob
+  > until 3/10
+  > screen
+  > tell go
+  > ended
+  > screen
+  > .
+  $ { echo 'run prodash-run --no-color -- sh prompts'; cat answers; } | on-terminal 50 8
+  one
+   build asked
+  name? Bob
+   build 3/10 files [========>---------------------]
+  one
+   build asked
+  name? Bob
+  it is Bob
+  
+   build 3/10 files [========>---------------------]
+  status 0
+  one
+   build asked
+  name? Bob
+  it is Bob
+  $ { echo 'run prodash-run --pty --no-color -- sh prompts'; cat answers; } | on-terminal 50 8
+  one
+   build asked
+  name? Bob
+   build 3/10 files [========>---------------------]
+  one
+   build asked
+  name? Bob
+  it is Bob
+   build 3/10 files [========>---------------------]
+  status 0
+  one
+   build asked
+  name? Bob
+  it is Bob
+
+A line that begins again with a carriage return stays, too, also one that nothing is written over.
+
+  $ cat >returns <<'.'
+  > . ./job
+  > printf 'got 10%%\r'; next; say info @a - ten; next; printf 'got 90%%\r'; next
+  > printf '\r2'; next; echo; next
+  > .
+  $ { echo 'run prodash-run --no-color -- sh returns'; cat <<'.'; } | on-terminal 50 8
+  > until got 10%
+  > until 3/10
+  > screen
+  > tell go
+  > until ten
+  > screen
+  > tell go
+  > until got 90%
+  > tell go
+  > until 2ot 90%
+  > until 3/10
+  > screen
+  > tell go
+  > tell go
+  > ended
+  > screen
+  > .
+  got 10%
+   build 3/10 files [========>---------------------]
+   build ten
+  got 10%
+   build 3/10 files [========>---------------------]
+   build ten
+  2ot 90%
+   build 3/10 files [========>---------------------]
+  status 0
+   build ten
+  2ot 90%
+
+While a line is as long as the terminal is wide, or longer, there are no rows below it.
+
+  $ cat >long <<'.'
+  > . ./job
+  > next; printf 1234567890123456789012345678901234567890; next; echo; next
+  > .
+  $ { echo 'run prodash-run --no-color -- sh long'; cat <<'.'; } | on-terminal 40 8
+  > until 3/10
+  > tell go
+  > until 1234567890123456789012345678901234567890
+  > gone 3/10
+  > tell go
+  > until 3/10
+  > screen
+  > tell go
+  > ended
+  > screen
+  > .
+  1234567890123456789012345678901234567890
+  
+   build 3/10 files [=====>--------------]
+  status 0
+  1234567890123456789012345678901234567890
+
+Colours and other styles of the job go on behind the rows, and a sequence is never cut in two.
+
+  $ cat >styles <<'.'
+  > . ./job
+  > printf 'a\033[3'; next; printf '1mred\n'; next; printf 'still red\033[m\303'; next; printf '\244\n'; next
+  > .
+  $ { echo 'run prodash-run --no-color -- sh styles'; cat <<'.'; } | on-terminal 40 8
+  > until a
+  > tell go
+  > until red
+  > until 3/10
+  > tell go
+  > until still red
+  > tell go
+  > until 3/10
+  > style red
+  > style still
+  > style build
+  > screen
+  > tell go
+  > ended
+  > screen
+  > .
+  31
+  31
+  plain
+  ared
+  still red\xc3\xa4 (esc)
+  
+   build 3/10 files [=====>--------------]
+  status 0
+  ared
+  still red\xc3\xa4 (esc)
+
+On the page of a full screen there are no rows and no messages until it is left.
+
+  $ cat >full <<'.'
+  > . ./job
+  > echo one; next; printf '\033[?1049h\033[Hfull'; say info @a - meanwhile; next; say set @a 4; next
+  > printf '\033[?1049l'; next
+  > .
+  $ { echo 'run prodash-run --no-color -- sh full'; cat <<'.'; } | on-terminal 40 8
+  > until 3/10
+  > tell go
+  > until full
+  > tell go
+  > screen
+  > tell go
+  > until meanwhile
+  > until 4/10
+  > screen
+  > tell go
+  > ended
+  > screen
+  > .
+  full
+  one
+   build meanwhile
+  
+   build 4/10 files [=======>------------]
+  status 0
+  one
+   build meanwhile
+
+What moves the cursor up has no rows below it until its line ends.
+
+  $ cat >moves <<'.'
+  > . ./job
+  > echo one; echo two; next; printf '\033[2Anew'; next; printf '\r\033[2B'; echo three; next
+  > .
+  $ { echo 'run prodash-run --no-color -- sh moves'; cat <<'.'; } | on-terminal 40 8
+  > until two
+  > until 3/10
+  > tell go
+  > until new
+  > gone 3/10
+  > screen
+  > tell go
+  > until three
+  > until 3/10
+  > screen
+  > tell go
+  > ended
+  > .
+  new
+  two
+  new
+  two
+  three
+  
+   build 3/10 files [=====>--------------]
+  status 0
+
+More rows than there is room for are cut, and lines above them go up.
+
+  $ cat >crowded <<'.'
+  > . ./job
+  > for it in 1 2 3 4 5 6 7; do say add 0 task $it; echo line $it; done; next
+  > .
+  $ { echo 'run prodash-run --no-color -- sh crowded'; cat <<'.'; } | on-terminal 40 6
+  > until more
+  > until line 7
+  > screen
+  > all
+  > tell go
+  > ended
+  > all
+  > .
+  line 7
+  
+   build 3/10 files [=====>--------------]
+   task 1
+   \xe2\x80\xa6 and 6 more (esc)
+  line 1
+  line 2
+  line 3
+  line 4
+  line 5
+  line 6
+  line 7
+  
+   build 3/10 files [=====>--------------]
+   task 1
+   \xe2\x80\xa6 and 6 more (esc)
+  status 0
+  line 1
+  line 2
+  line 3
+  line 4
+  line 5
+  line 6
+  line 7
+
+A window of one or two rows has none.
+
+  $ { echo 'run prodash-run --no-color -- sh crowded'; cat <<'.'; } | on-terminal 40 2
+  > until line 7
+  > screen
+  > tell go
+  > ended
+  > all
+  > .
+  line 7
+  status 0
+  line 1
+  line 2
+  line 3
+  line 4
+  line 5
+  line 6
+  line 7

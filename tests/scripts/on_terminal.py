@@ -4,10 +4,11 @@
 The steps are lines of standard input:
 
   run COMMAND    the shell starts a job in a group of its own, in the foreground
-  until TEXT     waits until the window shows a text, with no rows above it that it had before
+  until TEXT     waits until the window shows a text
   gone TEXT      waits until it doesn't show a text any more
-  screen         prints the window, and `|` behind the cursor's place
+  screen         prints the window
   all            prints also what has left the window
+  style TEXT     prints the style of a text
   keys TEXT      types a text, in which \\n, \\x03 and the like stand for keys
   tell PIPE TEXT writes a line to a named pipe
   size C R       changes the size of the terminal
@@ -152,6 +153,8 @@ class Play:
         elif name in ("screen", "all"):
             self.settle()
             print(*getattr(self.window, "lines" if name == "screen" else "all_lines")(), sep="\n")
+        elif name == "style":
+            print(self.window.style_of(words))
         elif name == "keys":
             os.write(self.ours, words.encode().decode("unicode_escape").encode())
         elif name == "tell":

@@ -14,7 +14,7 @@ FULL = "?1049"
 
 
 class Terminal:
-    """A window of rows, each a list of characters, with the places of a cursor that may wait to wrap.
+    """A window of rows, each a list of characters with styles, and a cursor that may wait to wrap.
 
     Rows that leave the window at its top are kept in `above`.
     """
@@ -23,7 +23,7 @@ class Terminal:
         self.columns, self.height = columns, rows
         self.rows, self.above, self.other = [[] for _ in range(rows)], [], None
         self.row = self.column = 0
-        self.kept, self.wraps, self.rest = (0, 0), True, ""
+        self.kept, self.wraps, self.rest, self.style = (0, 0, ""), True, "", ""
         self.decoder = codecs.getincrementaldecoder("utf-8")("replace")
 
     def play(self, written):
@@ -44,9 +44,11 @@ class Terminal:
         words, name, short = found.groups()
         number = int(words.split(";")[0] or 1) if words and words[0] != "?" else 1
         if short == "7":
-            self.kept = (self.row, self.column)
+            self.kept = (self.row, self.column, self.style)
         elif short == "8":
-            self.row, self.column = self.kept
+            self.row, self.column, self.style = self.kept
+        elif name == "m":
+            self.style = "" if words in ("", "0") else f"{self.style};{words}".lstrip(";")
         elif short == "D":
             self.feed()
         elif name == "A":
@@ -111,8 +113,8 @@ class Terminal:
                 else:
                     self.column = self.columns - width
             row = self.rows[self.row]
-            row += " " * (self.column + width - len(row))
-            row[self.column : self.column + width] = [char, ""][:width]
+            row += [(" ", "")] * (self.column + width - len(row))
+            row[self.column : self.column + width] = [(char, self.style), ("", "")][:width]
             self.column += width
 
     def resize(self, columns, rows):
@@ -128,11 +130,21 @@ class Terminal:
 
     def lines(self):
         """Returns the rows of the window without trailing blanks."""
-        shown = ["".join(it).rstrip() for it in self.rows]
+        shown = [text_of(it) for it in self.rows]
         while shown and not shown[-1]:
             shown.pop()
         return shown
 
     def all_lines(self):
         """Returns also the rows that have left the window."""
-        return ["".join(it).rstrip() for it in self.above] + self.lines()
+        return [text_of(it) for it in self.above] + self.lines()
+
+    def style_of(self, text):
+        """Returns the style of a text that the window shows."""
+        row = next(it for it in self.rows if text in text_of(it))
+        return row[text_of(row).index(text)][1] or "plain"
+
+
+def text_of(row):
+    """Returns the text of a row, without trailing blanks."""
+    return "".join(it for it, _ in row).rstrip()
