@@ -13,6 +13,7 @@ import time
 
 import job
 from display import READ, Display
+from keys import Keys
 from screen import Messages, Screen
 
 HELP = """\
@@ -99,6 +100,8 @@ class Run:
         self.follows_size = follows_size
         # what the job writes, and its lines; None once nobody writes there
         self.output = self.events = self.sentinel = None
+        # the keys of the terminal, and the modes of the job's output if nobody reads keys there
+        self.keys = self.modes = None
         self.pid = self.status = None
         self.woken, self.wakes = os.pipe()
         os.set_blocking(self.wakes, False)
@@ -120,6 +123,15 @@ class Run:
         self.screen.is_shown = is_shown
         if is_shown and not was_shown:
             self.paint(self.screen.draw())
+        if self.keys and self.keys.is_held() != (is_shown and self.wants_keys()):
+            if self.keys.is_held():
+                self.keys.give_back()
+            else:
+                self.keys.hold()
+
+    def wants_keys(self):
+        """Returns whether the job reads keys from its output, as less does: it has set modes."""
+        return self.output is not None and termios.tcgetattr(self.output) != self.modes
 
     def read_output(self):
         """Passes on what the job has written."""
@@ -175,6 +187,9 @@ class Run:
             self.output, theirs = os.pipe()
         else:
             self.output, theirs = job.output_terminal(self.screen.columns, self.screen.height)
+            self.modes = termios.tcgetattr(self.output)
+            if os.isatty(0):
+                self.keys = Keys(0, self.output, False)
         os.set_blocking(self.output, False)
         return theirs
 
@@ -186,6 +201,8 @@ class Run:
     def reads(self):
         """Returns the descriptors to read of, and None for each that isn't there."""
         display, found = self.display, [self.sentinel.told if self.sentinel else None]
+        if self.keys and self.keys.is_held() and not self.keys.left:
+            found.append(self.keys.stream)
         if not self.terminal.left:
             found += [self.output, display.frames if display.is_alive() else None]
         return [*found, self.events if len(display.lines) < READ else None]
@@ -193,7 +210,8 @@ class Run:
     def writes(self):
         """Returns the descriptors to write to, and None for each that isn't there."""
         terminal = self.terminal.fd if self.terminal.left else None
-        return [terminal, self.display.to if self.display.lines else None]
+        keys = self.output if self.keys and self.keys.left else None
+        return [terminal, self.display.to if self.display.lines else None, keys]
 
     def wait(self):
         """Waits until something can be done, and returns the descriptors with which it can."""
@@ -211,7 +229,7 @@ class Run:
     def timeout(self, is_blocked):
         """Returns after how many seconds something has to be done, or None."""
         now, times = time.monotonic(), [at for at, _ in self.own]
-        if not self.screen.is_shown:
+        if not self.screen.is_shown or self.keys and self.keys.is_held():
             times.append(now + LOOK)
         if self.display.lines and not is_blocked:
             times.append(self.taken + STUCK)
@@ -229,6 +247,7 @@ class Run:
             self.hear(os.read(self.woken, READ))
         self.pass_on()
         self.look()
+        self.pass_keys(ready)
         if self.terminal.left and self.terminal.fd in ready:
             self.terminal.flush()
         if self.output in ready:
@@ -243,6 +262,13 @@ class Run:
             elif self.display.lines and not self.terminal.left:
                 self.watch()
         return ready
+
+    def pass_keys(self, ready):
+        """Passes keys on to the job, if they are held."""
+        if self.keys and self.keys.is_held() and self.keys.stream in ready:
+            self.keys.read()
+        if self.keys and self.keys.left and self.output is not None:
+            self.keys.write()
 
     def watch(self):
         """Gives the display up if it has taken nothing for too long."""
@@ -285,12 +311,21 @@ class Run:
                 self.stop()
         self.shared = [it for it in waiting if it[0] > now]
 
+    def drain(self):
+        """Passes on what the job writes as it stops."""
+        until, poll = time.monotonic() + LOOK, select.poll()
+        if self.output is not None:
+            poll.register(self.output, select.POLLIN)
+        while self.output is not None and time.monotonic() < until and poll.poll(ALONE * 1000):
+            self.read_output()
+
     def stop(self):
         """Stops without rows, and goes on with them."""
-        if self.output is not None:
-            self.read_output()
+        self.drain()
         self.paint(self.screen.erase())
         self.terminal.finish(ALONE)
+        if self.keys:
+            self.keys.give_back()
         before = signals.signal(signals.SIGTSTP, signals.SIG_DFL)
         self.suspend()
         signals.signal(signals.SIGTSTP, before)
@@ -298,6 +333,7 @@ class Run:
         self.screen.is_shown = self.terminal.is_foreground()
         self.resize()
         self.paint(self.screen.draw())
+        self.look()
 
     def suspend(self):
         """Stops this process. The job was sent the signal as well."""
@@ -339,6 +375,8 @@ class Run:
         self.paint(self.screen.clear())
         while self.terminal.left and not self.is_hurried():
             self.step()
+        if self.keys:
+            self.keys.give_back()
         if self.sentinel:
             self.sentinel.end()
         return self.status

@@ -11,23 +11,11 @@ import termios
 import time
 
 import job
-from display import READ
+from keys import Keys
 from run import LATE, Run
 
 # A report of the monitor: the number of the job's process first, then each status.
 REPORT = struct.Struct("i")
-# What the keys do on a terminal, and the flags of the output, which stay as they are.
-SIGNS_OF_KEYS = termios.ICANON | termios.ECHO | termios.ECHONL | termios.ISIG | termios.IEXTEN
-CHANGES_OF_KEYS = (
-    termios.IGNBRK
-    | termios.BRKINT
-    | termios.PARMRK
-    | termios.ISTRIP
-    | termios.INLCR
-    | termios.IGNCR
-    | termios.ICRNL
-    | termios.IXON
-)
 
 
 def begin_job(command, terminal):
@@ -78,50 +66,23 @@ class Session:
         os.close(self.alive)
 
 
-class Modes:
-    """The modes of the user's terminal, all of whose keys go to the job's."""
-
-    def __init__(self, stream):
-        self.stream, self.before, self.set = stream, None, None
-
-    def take(self):
-        """Has the terminal pass on all keys."""
-        try:
-            self.before = termios.tcgetattr(self.stream)
-            self.set = [*self.before[:6], list(self.before[6])]
-            self.set[0] &= ~CHANGES_OF_KEYS
-            self.set[3] &= ~SIGNS_OF_KEYS
-            self.set[6][termios.VMIN], self.set[6][termios.VTIME] = 1, 0
-            termios.tcsetattr(self.stream, termios.TCSADRAIN, self.set)
-            self.set = termios.tcgetattr(self.stream)
-        except termios.error:
-            self.before = None
-
-    def give_back(self):
-        """Gives the terminal its modes back."""
-        if self.before:
-            try:
-                termios.tcsetattr(self.stream, termios.TCSADRAIN, self.before)
-            except termios.error:
-                pass
-        self.before = None
-
-
 class SessionRun(Run):
-    """A job in a session of its own, and the keys on their way to it."""
+    """A job in a session of its own, whose terminal gets all keys in the foreground."""
 
     def __init__(self, *words):
         super().__init__(*words)
         self.screen.has_gap = False
-        self.session, self.modes, self.keys = None, Modes(0), b""
-        self.has_keys = os.isatty(0)
+        self.session = None
 
     def open_output(self, streams, kind):
         """Opens the terminal of the job, and returns its end of it."""
         self.output, theirs = os.openpty()
-        if self.has_keys and self.terminal.is_foreground():
-            termios.tcsetattr(theirs, termios.TCSANOW, termios.tcgetattr(0))
-        job.set_size(self.output, self.screen.columns or 80, self.screen.height or 24)
+        if os.isatty(0):
+            if self.terminal.is_foreground():
+                # else they are those of the shell's line editor
+                termios.tcsetattr(theirs, termios.TCSANOW, termios.tcgetattr(0))
+            self.keys = Keys(0, self.output, True)
+        job.set_size(self.output, self.screen.columns, self.screen.height)
         os.set_blocking(self.output, False)
         return theirs
 
@@ -129,58 +90,27 @@ class SessionRun(Run):
         """Starts the monitor, which starts the job."""
         self.session = Session(command, theirs, others)
         self.pid = REPORT.unpack(os.read(self.session.told, REPORT.size))[0]
-        self.hold()
 
-    def hold(self):
-        """Has the keys passed on, in the foreground."""
-        if self.has_keys and self.terminal.is_foreground():
-            self.modes.take()
-
-    def look(self):
-        """Notes whether rows may be drawn now, and holds the keys if they may again."""
-        was_shown = self.screen.is_shown
-        super().look()
-        if self.screen.is_shown and not was_shown:
-            self.hold()
+    def wants_keys(self):
+        """Returns whether the keys are the job's: as long as there is one."""
+        return self.status is None
 
     def reads(self):
-        takes_keys = self.has_keys and self.modes.before and not self.keys
-        told = self.session.told if self.status is None else None
-        return [*super().reads(), told, 0 if takes_keys else None]
-
-    def writes(self):
-        return [*super().writes(), self.output if self.keys else None]
+        return [*super().reads(), self.session.told if self.status is None else None]
 
     def step(self):
-        """Does what can be done, and passes keys on."""
+        """Does what can be done, and hears what becomes of the job."""
         ready = super().step()
         if self.status is None and self.session.told in ready:
             self.hear_report(os.read(self.session.told, REPORT.size))
-        if 0 in ready and self.has_keys and not self.keys:
-            self.read_keys()
-        if self.keys and self.output is not None:
-            self.write_keys()
         return ready
-
-    def read_keys(self):
-        try:
-            self.keys = os.read(0, READ)
-        except OSError:
-            pass
-        # a terminal that is gone has none
-        self.has_keys = bool(self.keys)
-
-    def write_keys(self):
-        try:
-            self.keys = self.keys[os.write(self.output, self.keys) :]
-        except BlockingIOError:
-            pass
 
     def hear_report(self, report):
         """Stops with the job, or notes that it has ended."""
         status = REPORT.unpack(report)[0] if report else signals.SIGHUP
         if os.WIFSTOPPED(status):
             self.stop()
+            os.killpg(self.pid, signals.SIGCONT)
         else:
             self.status, self.ended = status, time.monotonic()
 
@@ -196,13 +126,6 @@ class SessionRun(Run):
             else:
                 self.own.append((time.monotonic() + LATE, it))
 
-    def stop(self):
-        """Stops the group, as the terminal would have, and has the job go on after that."""
-        self.modes.give_back()
-        super().stop()
-        self.hold()
-        os.killpg(self.pid, signals.SIGCONT)
-
     def suspend(self):
         """Stops the whole group, as the terminal would have."""
         os.killpg(0, signals.SIGTSTP)
@@ -212,9 +135,8 @@ class SessionRun(Run):
         return self.session.alive
 
     def end(self):
-        """Ends the display and the monitor, and gives the terminal its modes back."""
+        """Ends the display and the monitor."""
         status = super().end()
         self.ends_group = self.terminal.is_foreground()
-        self.modes.give_back()
         self.session.end()
         return status

@@ -1,0 +1,75 @@
+prodash run: keys
+=================
+
+`on-terminal` plays steps on a terminal, and `prodash-run` is `prodash run`. The keys are the job's, as
+without `prodash run`.
+
+  $ export TERM=xterm
+  $ unset COLUMNS LINES NO_COLOR
+  $ mkfifo go
+  $ cat >job <<'.'
+  > exec 3<>go
+  > say() { echo "$@" >&$PRODASH_FD; }
+  > next() { read _ <&3; }
+  > say add @a 0 build
+  > say init @a 10 files
+  > say set @a 3
+  > .
+
+A program that reads keys of the terminal that its output is gets them, too.
+
+  $ cat >reads.py <<'.'
+  > import os, termios
+  > before = termios.tcgetattr(2)
+  > modes = [*before[:3], before[3] & ~(termios.ICANON | termios.ECHO), *before[4:]]
+  > termios.tcsetattr(2, termios.TCSADRAIN, modes)
+  > print("press", flush=True)
+  > print("pressed", os.read(os.open(os.ttyname(2), os.O_RDONLY), 1).decode(), flush=True)
+  > termios.tcsetattr(2, termios.TCSADRAIN, before)
+  > .
+  $ cat >keys <<'.'
+  > . ./job
+  > python3 reads.py; next; printf 'and '; read line; echo "read $line"
+  > .
+  $ for kind in -- '--pty --'; do
+  >   { echo "run prodash-run --no-color $kind sh keys"; cat <<'.'; } | on-terminal 40 8
+  > until press
+  > keys k
+  > until pressed k
+  > until 3/10
+  > screen
+  > tell go
+  > until and
+  > keys a line\n
+  > ended
+  > screen
+  > modes
+  > .
+  > done
+  not shown: pressed k:
+  press
+  k
+   build 3/10 files [=====>--------------]
+  press
+  pressed k
+   build 3/10 files [=====>--------------]
+  status 0
+  press
+  pressed k
+  and a line
+  read a line
+  same modes
+
+What is typed stays for the next program, unless the job has a terminal of its own.
+
+  $ cat >later <<'.'
+  > prodash-run --no-color -- sh -c '. ./job; next'; read line; echo "later $line"
+  > .
+  $ { echo 'run sh later'; cat <<'.'; } | on-terminal 40 8
+  > until 3/10
+  > keys a line\n
+  > until a line
+  > tell go
+  > ended
+  > .
+  status 0
