@@ -63,11 +63,13 @@ def open_streams():
 
 
 def output_terminal(columns, rows):
-    """Returns both ends of a terminal that passes on output as it is, of this size."""
+    """Returns both ends of a terminal of this size that passes on output as it is.
+
+    A program that reads keys from it sets other modes, as of any terminal.
+    """
     ours, theirs = os.openpty()
     modes = termios.tcgetattr(theirs)
     modes[1] &= ~termios.OPOST
-    modes[3] &= ~(termios.ECHO | termios.ICANON | termios.ISIG)
     termios.tcsetattr(theirs, termios.TCSANOW, modes)
     set_size(ours, columns, rows)
     return ours, theirs

@@ -46,10 +46,16 @@ A program that reads keys of the terminal that its output is gets them, too.
   > modes
   > .
   > done
-  not shown: pressed k:
   press
-  k
+  pressed k
+  
    build 3/10 files [=====>--------------]
+  status 0
+  press
+  pressed k
+  and a line
+  read a line
+  same modes
   press
   pressed k
    build 3/10 files [=====>--------------]
@@ -71,5 +77,8 @@ What is typed stays for the next program, unless the job has a terminal of its o
   > until a line
   > tell go
   > ended
+  > screen
   > .
   status 0
+  a line
+  later a line
