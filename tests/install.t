@@ -5,12 +5,20 @@ Here bin/install is `install-prodash`. What it installs runs from a folder that 
 Python on the path.
 
   $ install-prodash $HOW prefix
-  $ find prefix -type f | sort
+  $ find prefix -type f -not -name '*.pyc' | sort
+  prefix/bin/prodash
   prefix/bin/prodash-live
   prefix/bin/prodash-replay
+  prefix/lib/prodash/command.py
+  prefix/lib/prodash/display.py
+  prefix/lib/prodash/job.py
+  prefix/lib/prodash/keys.py
   prefix/lib/prodash/live.py
   prefix/lib/prodash/prodash-live
   prefix/lib/prodash/relay.py
+  prefix/lib/prodash/run.py
+  prefix/lib/prodash/screen.py
+  prefix/lib/prodash/session.py
   $ mv prefix moved
   $ alone() { env -i PATH="$(dirname "$(command -v python3)"):/usr/bin:/bin" "$@"; }
   $ printf 'add @a 0 alpha\ninfo @a 0 one\n' | alone moved/bin/prodash-live --stdout
@@ -21,6 +29,16 @@ Python on the path.
   $ alone moved/bin/prodash-live --version | sed -E 's/[0-9a-f]{40}.*/../'
   prodash-live 0.1.0 (port of prodash 31.0.1)
   built from commit ..
+
+  $ alone moved/bin/prodash run -- sh -c 'echo add 0 alpha >&$PRODASH_FD; echo info 1 - one >&$PRODASH_FD'
+   alpha one
+  $ printf 'add @a 0 alpha\ninfo @a 0 two\n' | alone moved/bin/prodash live --stdout
+   alpha two
+  $ alone moved/bin/prodash help | head -n 1
+  Progress on the terminal, for a job, a script or a recording
+  $ alone moved/bin/prodash picture
+  prodash: no command picture: run, live, replay or help
+  [2]
 
 A program is replaced while it is running.
 

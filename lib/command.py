@@ -1,0 +1,68 @@
+"""The command prodash: one word for each of its programs."""
+import os
+
+HELP = """\
+Progress on the terminal, for a job, a script or a recording
+
+Usage: prodash COMMAND [WORD ..]
+
+Commands:
+{commands}
+  help     prints this
+
+Each has a help of its own, as prodash run --help.
+
+A script shows its progress by event lines. Below prodash run it writes them to PRODASH_FD:
+  prodash run sh -c 'echo "add @all 0 compress" >&$PRODASH_FD; ..'
+or all its standard output has them:
+  sh compress.sh | prodash live
+
+Lines:
+  add @WORD 0 NAME         adds an item, and calls it @WORD
+  add @WORD @ABOVE NAME    the same, below another item
+  init @WORD MAX [UNIT]    it has so many steps, as init @all 20 files; - for no maximum
+  set @WORD N, inc @WORD N
+                           sets its step, or adds to it
+  name @WORD NAME          changes its name
+  max @WORD MAX            changes its maximum
+  blocked @WORD, halted @WORD, running @WORD
+                           sets its state
+  info @WORD - TEXT, done @WORD - TEXT, fail @WORD - TEXT
+                           prints a message above the rows; - is the current moment
+  drop @WORD               removes it
+"""
+SHORT = {
+    "run": "runs a command with rows below its output, which any of its processes may add",
+    "live": "shows the event lines of standard input",
+    "replay": "writes the frames of a recording, or the page that they leave",
+    "picture": "makes an animated picture of a recording",
+}
+
+
+def text(scripts):
+    """Returns the help, with the commands that there are."""
+    return HELP.format(commands="\n".join(f"  {it:8} {SHORT[it]}" for it in ("run", *scripts)))
+
+
+def main(words, program, scripts):
+    """Runs a command. `program` returns the path of prodash-live, or None if there is none.
+
+    The other commands are the scripts at these paths.
+    """
+    name, *rest = words or ["help"]
+    if name == "run":
+        # no other command needs it
+        import run
+
+        found = program()
+        return 1 if found is None else run.main(found, rest)
+    if name in scripts:
+        os.execv(scripts[name], [scripts[name], *rest])
+    if name in ("--version", "-V"):
+        os.execv(scripts["live"], [scripts["live"], name])
+    if name in ("help", "--help", "-h"):
+        os.write(1, text(scripts).encode())
+        return 0
+    said = f"prodash: no command {name}: run, {', '.join(scripts)} or help\n"
+    os.write(2, said.encode())
+    return 2
