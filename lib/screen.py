@@ -129,10 +129,15 @@ class Screen:
         """Returns what prints the messages that wait above the job's line."""
         if not self.held:
             return b""
-        # the line moves down, or what is left of a long one goes on below
-        begin = b"\r" + ERASE_LINE if self.fits() else b"\r\n"
-        told = self.erase() + begin * bool(self.line) + PLAIN + self.held + self.line
-        self.held = b""
+        if self.line and self.has_gap and not self.moves:
+            # maybe a prompt that was answered: the cursor is below it then, and was kept behind it
+            begin, self.line = RESTORE * self.is_drawn + b"\r\n" + ERASE_BELOW, b""
+            self.is_drawn = False
+        else:
+            # the line moves down, or what is left of a long one goes on below
+            begin = b"\r" + ERASE_LINE if self.fits() else b"\r\n"
+            begin = self.erase() + begin * bool(self.line)
+        told, self.held = begin + PLAIN + self.held + self.line, b""
         return told
 
     def take(self, frame):

@@ -83,12 +83,12 @@ What is left on the terminal is what the job wrote. A line that isn't whole is n
   > screen'
   status 0
   one
-   build begins
   two
+   build begins
   status 0
   one
-   build begins
   two
+   build begins
   status 0
   one
    build begins

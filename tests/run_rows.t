@@ -53,8 +53,8 @@ A job writes lines, then a line that isn't whole.
   two: 2
   same modes
 
-A message goes in above a line that isn't whole, which stays as it is. So does what is typed behind a
-prompt.
+A line that isn't whole may be a prompt that was answered, if keys can be typed. So a message goes in
+below it. If what is typed is part of the output, or none can be, it goes in above the line.
 
   $ cat >prompts <<'.'
   > . ./job
@@ -65,7 +65,7 @@ prompt.
   > until name?
   > until 3/10
   > keys Bob
-  > until name? Bob
+  > until Bob
   > screen
   > keys \n
   > until it is Bob
@@ -77,19 +77,22 @@ prompt.
   > .
   $ { echo 'run prodash-run --no-color -- sh prompts'; cat answers; } | on-terminal 50 8
   one
+  name?
    build asked
-  name? Bob
+  Bob
    build 3/10 files [========>---------------------]
   one
+  name?
    build asked
-  name? Bob
+  Bob
   it is Bob
   
    build 3/10 files [========>---------------------]
   status 0
   one
+  name?
    build asked
-  name? Bob
+  Bob
   it is Bob
   $ { echo 'run prodash-run --pty --no-color -- sh prompts'; cat answers; } | on-terminal 50 8
   one
@@ -106,6 +109,45 @@ prompt.
    build asked
   name? Bob
   it is Bob
+  $ cat >asks <<'.'
+  > . ./job
+  > printf 'go on? '; read answer; say info @a - "$answer"; next
+  > .
+  $ { echo 'run prodash-run --no-color -- sh asks'; cat <<'.'; } | on-terminal 50 8
+  > until go on?
+  > until 3/10
+  > keys yes\n
+  > until build yes
+  > screen
+  > tell go
+  > ended
+  > screen
+  > .
+  go on? yes
+   build yes
+  
+   build 3/10 files [========>---------------------]
+  status 0
+  go on? yes
+   build yes
+  $ mkfifo answers.pipe
+  $ { echo 'run prodash-run --no-color -- sh prompts 0<>answers.pipe'; cat <<'.'; } | on-terminal 50 8
+  > until asked
+  > until name?
+  > screen
+  > tell answers.pipe Bob
+  > tell go
+  > ended
+  > screen
+  > .
+  one
+   build asked
+  name?
+   build 3/10 files [========>---------------------]
+  status 0
+  one
+   build asked
+  name? it is Bob
 
 A line that begins again with a carriage return stays, too, also one that nothing is written over.
 
