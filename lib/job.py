@@ -148,6 +148,7 @@ class Sentinel:
     def end(self):
         """Ends the process."""
         os.close(self.alive)
+        os.close(self.told)
         os.waitpid(self.pid, 0)
 
 

@@ -107,7 +107,7 @@ class Run:
         os.set_blocking(self.wakes, False)
         # signals that this process got, with the moment at which they are passed on, and those
         # that the sentinel got, with the moment until which they count
-        self.own, self.shared = [], []
+        self.own, self.shared, self.is_hurried = [], [], False
         # when the job has ended, when something was read, and when the display has taken lines
         self.ended = self.heard = self.taken = time.monotonic()
         # until when what others write is read, or the display is awaited, after the job's end
@@ -241,8 +241,7 @@ class Run:
         """Does what can be done, output before lines. Returns what was ready."""
         ready = self.wait()
         if self.sentinel and self.sentinel.told in ready:
-            until = time.monotonic() + ALONE
-            self.shared += [(until, it) for it in os.read(self.sentinel.told, READ)]
+            self.hear_sentinel()
         if self.woken in ready:
             self.hear(os.read(self.woken, READ))
         self.pass_on()
@@ -279,13 +278,25 @@ class Run:
     def hear(self, numbers):
         """Handles signals."""
         now = time.monotonic()
+        # one that comes later than the job's end ends this process, too
+        is_over = self.status is not None and now > self.ended + ALONE
         for it in numbers:
             if it == signals.SIGCHLD:
                 self.reap()
             elif it == signals.SIGWINCH:
                 self.resize()
             elif it in job.PASSED:
+                self.is_hurried |= is_over
                 self.own.append((now + ALONE, it))
+
+    def hear_sentinel(self):
+        """Notes which signals the group got. Another sentinel takes the place of one that ended."""
+        told = os.read(self.sentinel.told, READ)
+        until = time.monotonic() + ALONE
+        self.shared += [(until, it) for it in told]
+        if not told:
+            self.sentinel.end()
+            self.sentinel = job.Sentinel([self.display.to, self.output, self.events])
 
     def reap(self):
         """Notes whether the job has ended."""
@@ -362,7 +373,7 @@ class Run:
         if self.status is None:
             return False
         is_read = self.output is None and self.events is None
-        return is_read or time.monotonic() > self.quiet() or self.is_hurried()
+        return is_read or time.monotonic() > self.quiet() or self.is_hurried
 
     def end(self):
         """Ends the display, and leaves the terminal to others. Returns how the job ended."""
@@ -373,7 +384,7 @@ class Run:
         self.output = self.events = None
         self.finish_display()
         self.paint(self.screen.clear())
-        while self.terminal.left and not self.is_hurried():
+        while self.terminal.left and not self.is_hurried:
             self.step()
         if self.keys:
             self.keys.give_back()
@@ -384,14 +395,10 @@ class Run:
     def kept(self):
         """Returns a descriptor that stays open as long as others write to the job's output."""
 
-    def is_hurried(self):
-        """Returns whether a signal came after the end of the job, which ends this process, too."""
-        return any(until > self.ended + QUIET for until, _ in self.own)
-
     def finish_display(self):
         """Reads the last frames of the display, unless it is stuck."""
         self.until = time.monotonic() + STUCK
-        while self.display.is_alive() and not self.is_hurried():
+        while self.display.is_alive() and not self.is_hurried:
             if not self.display.lines:
                 self.display.close()
             if time.monotonic() > self.until and not self.terminal.left:

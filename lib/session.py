@@ -12,7 +12,7 @@ import time
 
 import job
 from keys import Keys
-from run import LATE, Run
+from run import Run
 
 # A report of the monitor: the number of the job's process first, then each status.
 REPORT = struct.Struct("i")
@@ -123,8 +123,6 @@ class SessionRun(Run):
         for it in numbers:
             if self.status is None:
                 (os.killpg if it == signals.SIGTSTP else os.kill)(self.pid, it)
-            else:
-                self.own.append((time.monotonic() + LATE, it))
 
     def suspend(self):
         """Stops the whole group, as the terminal would have."""

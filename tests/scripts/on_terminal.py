@@ -15,10 +15,12 @@ The steps are lines of standard input:
   stopped        waits until the job is stopped, and says whether the modes are as at the start
   fg, bg         the shell has the job go on, in the foreground or not
   signal NAME    sends a signal to the job's group, `one NAME` to its first process alone
-  kill NAME P    sends a signal to the first child of the job's process whose name begins with P
+  kill NAME P    sends a signal to the first child of the job's process whose words begin with P
   modes          says whether the modes of the terminal are those of the start
-  freeze, thaw   writes nothing of the terminal any more as after Ctrl-S, and goes on
+  file NAME      waits until there is a file
+  close          closes the window
   ended          waits until the job has ended, and says how
+  end NAME       sends a signal to its first process again and again until then
 """
 import contextlib
 import fcntl
@@ -33,15 +35,25 @@ import time
 
 from terminal import Terminal
 
+# The signals that stop a job, and those that may end it.
+STOPS = (signal.SIGTTOU, signal.SIGTTIN, signal.SIGTSTP)
+ENDS = (signal.SIGINT, signal.SIGQUIT, signal.SIGHUP, signal.SIGPIPE)
 # How long a step may take.
 SECONDS = 30
 
 
 def shell(orders, reports):
     """Starts a job on the terminal that is standard input, and says what becomes of it."""
-    for it in (signal.SIGTTOU, signal.SIGTTIN, signal.SIGTSTP, signal.SIGINT, signal.SIGQUIT):
+    for it in (*STOPS, *ENDS):
         signal.signal(it, signal.SIG_IGN)
     job = None
+
+    def hang_up(*_):
+        """Does what a shell does whose window is closed."""
+        with contextlib.suppress(ProcessLookupError):
+            os.killpg(job, signal.SIGHUP)
+
+    signal.signal(signal.SIGHUP, hang_up)
     for line in orders:
         order, _, words = line.rstrip("\n").partition(" ")
         if order == "run":
@@ -51,9 +63,7 @@ def shell(orders, reports):
                 os.setpgid(job, job or os.getpid())
             if not job:
                 os.tcsetpgrp(0, os.getpid())
-                for it in (signal.SIGTTOU, signal.SIGTTIN, signal.SIGTSTP, signal.SIGINT):
-                    signal.signal(it, signal.SIG_DFL)
-                for it in (signal.SIGQUIT, signal.SIGPIPE):
+                for it in (*STOPS, *ENDS):
                     signal.signal(it, signal.SIG_DFL)
                 os.execvp("sh", ["sh", "-c", f"exec {words}"])
         else:
@@ -63,7 +73,9 @@ def shell(orders, reports):
             continue
         print(f"job {job}", file=reports, flush=True)
         status = os.waitpid(job, os.WUNTRACED)[1]
-        os.tcsetpgrp(0, os.getpid())
+        with contextlib.suppress(OSError):
+            # unless the window is closed
+            os.tcsetpgrp(0, os.getpid())
         print(said_of(status), file=reports, flush=True)
 
 
@@ -74,6 +86,17 @@ def said_of(status):
     if os.WIFSIGNALED(status):
         return f"signal {signal.Signals(os.WTERMSIG(status)).name}"
     return f"status {os.WEXITSTATUS(status)}"
+
+
+def told(pipe, line):
+    """Writes a line to a named pipe, and returns whether anyone reads there."""
+    try:
+        fd = os.open(pipe, os.O_WRONLY | os.O_NONBLOCK)
+    except OSError:
+        return False
+    os.write(fd, f"{line}\n".encode())
+    os.close(fd)
+    return True
 
 
 class Play:
@@ -98,7 +121,7 @@ class Play:
             os._exit(0)
         for it in (orders, reports):
             os.close(it)
-        self.theirs, self.said, self.job, self.is_frozen = theirs, [], None, False
+        self.theirs, self.said, self.job = theirs, [], None
 
     def set_size(self, columns, rows):
         fcntl.ioctl(self.ours, termios.TIOCSWINSZ, struct.pack("HHHH", rows, columns, 0, 0))
@@ -107,24 +130,28 @@ class Play:
         """Plays what is written until something is there."""
         deadline = time.monotonic() + SECONDS
         while not is_there():
-            reads = [self.reports] + [self.ours] * (not self.is_frozen)
-            ready = select.select(reads, [], [], 0.05)[0]
-            if self.ours in ready:
-                self.window.play(os.read(self.ours, 65536))
-            if self.reports in ready:
-                self.said += os.read(self.reports, 4096).decode().splitlines()
-                while self.said and self.said[0].startswith("job "):
-                    self.job = int(self.said.pop(0).split()[1])
+            self.read()
             if time.monotonic() > deadline:
                 print(f"not {what}:", *self.window.lines(), sep="\n")
                 sys.exit(1)
+
+    def read(self):
+        """Plays what is written, and keeps what the shell reports, as soon as there is any."""
+        reads = [self.reports] + [self.ours] * (self.ours is not None)
+        ready = select.select(reads, [], [], 0.05)[0]
+        if self.ours in ready:
+            self.window.play(os.read(self.ours, 65536))
+        if self.reports in ready:
+            self.said += os.read(self.reports, 4096).decode().splitlines()
+            while self.said and self.said[0].startswith("job "):
+                self.job = int(self.said.pop(0).split()[1])
 
     def order(self, text):
         os.write(self.orders, f"{text}\n".encode())
 
     def settle(self):
         """Plays what is there."""
-        while select.select([self.ours], [], [], 0.02)[0]:
+        while self.ours is not None and select.select([self.ours], [], [], 0.02)[0]:
             self.window.play(os.read(self.ours, 65536))
 
     def report(self, name):
@@ -133,13 +160,21 @@ class Play:
         print(self.said.pop(0))
 
     def child(self, name):
-        """Returns the first child of the job's process whose name begins so."""
-        found = subprocess.run(["pgrep", "-P", str(self.job), f"^{name}"], capture_output=True)
+        """Returns the first child of the job's process whose words begin so."""
+        words = ["pgrep", "-f", "-P", str(self.job), f"^{name}"]
+        found = subprocess.run(words, capture_output=True)
         return int(found.stdout.split()[0])
 
     def same_modes(self):
         """Returns whether the modes of the terminal are those of the start."""
         return "same modes" if termios.tcgetattr(self.theirs) == self.modes_before else "other modes"
+
+    def close(self):
+        """Closes the window, which hangs up the shell and its job."""
+        self.settle()
+        os.close(self.theirs)
+        os.close(self.ours)
+        self.ours = None
 
     def step(self, name, words):
         """Takes a step."""
@@ -158,8 +193,7 @@ class Play:
         elif name == "keys":
             os.write(self.ours, words.encode().decode("unicode_escape").encode())
         elif name == "tell":
-            with open(first, "w", encoding="utf-8") as it:
-                print(rest, file=it)
+            self.wait(lambda: told(first, rest), f"read: {first}")
         elif name == "size":
             self.settle()
             self.window.resize(int(first), int(rest))
@@ -167,10 +201,18 @@ class Play:
         elif name in ("stopped", "ended"):
             self.report(name)
             self.settle()
+        elif name == "end":
+            while not self.said:
+                with contextlib.suppress(ProcessLookupError):
+                    self.send("one", words, "")
+                self.read()
+            self.report(name)
         elif name == "modes":
             print(self.same_modes())
-        elif name in ("freeze", "thaw"):
-            self.is_frozen = name == "freeze"
+        elif name == "file":
+            self.wait(lambda: os.path.exists(words), f"there: {words}")
+        elif name == "close":
+            self.close()
         else:
             self.send(name, first, rest)
 
