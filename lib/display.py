@@ -18,6 +18,8 @@ class Display:
         how = {"file_actions": moves, "setpgroup": 0, "setsigmask": (), "setsigdef": reset}
         # lines that it has not taken, parts of its next frame, and how it ended, or why
         self.lines, self.parts, self.status, self.reason = bytearray(), [], None, ""
+        # a size that waits for the end of a line
+        self.size, self.is_within_line = b"", False
         try:
             self.pid = os.posix_spawnp(program, ["prodash-live", *words], os.environ, **how)
         except OSError as error:
@@ -47,8 +49,20 @@ class Display:
 
     def send(self, lines):
         """Takes lines, and leaves them out if there is no program any more."""
-        if self.is_alive():
-            self.lines += lines
+        if not self.is_alive():
+            return
+        whole, feed, rest = lines.rpartition(b"\n")
+        self.lines += whole + feed + self.size * bool(feed) + rest
+        if feed:
+            self.size = b""
+        self.is_within_line = bool(rest) or self.is_within_line and not feed
+
+    def resize(self, columns, rows):
+        """Takes a size, between two lines."""
+        self.size = b"size %d %d\n" % (columns, rows)
+        if not self.is_within_line:
+            self.send(self.size)
+            self.size = b""
 
     def write(self):
         """Writes as many lines as the program takes."""

@@ -94,8 +94,15 @@ class Command:
         # signals that are blocked, and those that have their default action
         self.mask, self.reset = (), [signals.SIGPIPE, signals.SIGXFSZ, *handled()]
 
+    def keep(self):
+        """Keeps descriptors that are in their place already."""
+        for fd, at in self.moves:
+            if fd == at:
+                os.set_inheritable(fd, True)
+
     def start(self):
         """Starts it. Returns its process, or None and the status that it ended with at once."""
+        self.keep()
         actions = [(os.POSIX_SPAWN_CLOSE, it) for it in self.closed]
         actions += [(os.POSIX_SPAWN_DUP2, fd, at) for fd, at in self.moves]
         how = {"file_actions": actions, "setsigmask": self.mask, "setsigdef": self.reset}
@@ -106,6 +113,7 @@ class Command:
 
     def become(self):
         """Runs it in place of this process, or returns an exit status."""
+        self.keep()
         for it in self.closed:
             os.close(it)
         for fd, at in self.moves:

@@ -33,8 +33,8 @@ Options:
 """
 # How many seconds: until the display has begun or ended, or is given up if it takes nothing;
 # until a signal was for this process alone; between two looks at whether it is in the foreground;
-# without output of a job that has ended, and at most, until what others still write is left.
-STUCK, ALONE, LOOK, QUIET, LATE = 2, 0.05, 0.2, 0.2, 1
+# without anything of a job that has ended, until what others still write is left.
+STUCK, ALONE, LOOK, QUIET = 2, 0.05, 0.2, 0.2
 SIZES = ("--columns", "--rows")
 # What the job's output is: a terminal, that of a session of its own, or a pipe.
 TERMINAL, SESSION, PIPE = KINDS = ("", "--pty", "--no-pty")
@@ -53,9 +53,11 @@ class Terminal:
             self.fd, self.most = stream, select.PIPE_BUF
 
     def write(self, output):
-        """Takes output, and writes what there is room for."""
+        """Takes output, and writes what there is room for, if that doesn't block."""
         if not self.is_broken:
             self.left += output
+            if self.most == READ:
+                self.flush()
 
     def flush(self):
         """Writes what there is room for."""
@@ -89,6 +91,24 @@ class Terminal:
             return True
 
 
+class Rest:
+    """What was read of a descriptor since the job has ended."""
+
+    def __init__(self):
+        self.heard, self.size = 0, 0
+
+    def add(self, size, now, has_ended):
+        """Notes how much was read."""
+        self.heard, self.size = now, self.size + size * has_ended
+
+    def is_over(self, now, is_taken):
+        """Returns whether what comes is of others.
+
+        A pipe has no more, or nothing came although all was taken that did.
+        """
+        return self.size >= READ or is_taken and now > self.heard + QUIET
+
+
 class Run:
     """A job, its display, and all that is read and written between them."""
 
@@ -108,14 +128,20 @@ class Run:
         # signals that this process got, with the moment at which they are passed on, and those
         # that the sentinel got, with the moment until which they count
         self.own, self.shared, self.is_hurried = [], [], False
-        # when the job has ended, when something was read, and when the display has taken lines
-        self.ended = self.heard = self.taken = time.monotonic()
-        # until when what others write is read, or the display is awaited, after the job's end
-        self.until = None
+        # how long the terminal was stopped, which counts nowhere
+        self.stopped = 0
+        # when the job has ended, and when the display has taken lines
+        self.ended = self.taken = time.monotonic()
+        self.output_rest, self.events_rest = Rest(), Rest()
+        # until when the display is awaited at the end, and after how long it is stuck
+        self.until, self.stuck = None, STUCK
 
     def paint(self, written):
         self.terminal.write(written)
-        self.terminal.flush()
+
+    def clock(self):
+        """Returns the moment on a clock that stands still while the terminal is stopped."""
+        return time.monotonic() - self.stopped
 
     def look(self):
         """Notes whether rows may be drawn now, and draws them if they may again."""
@@ -148,16 +174,16 @@ class Run:
             self.output = None
         output = b"".join(read)
         if output:
-            self.heard = time.monotonic()
+            self.output_rest.add(len(output), self.clock(), self.status is not None)
             self.paint(self.screen.put(output))
 
     def read_events(self):
         """Passes on lines to the display."""
         lines = os.read(self.events, READ)
         if lines:
-            self.heard = time.monotonic()
+            self.events_rest.add(len(lines), self.clock(), self.status is not None)
             if not self.display.lines:
-                self.taken = self.heard
+                self.taken = self.clock()
             self.display.send(lines)
         else:
             os.close(self.events)
@@ -177,7 +203,7 @@ class Run:
 
     def write_lines(self):
         self.display.write()
-        self.taken = time.monotonic()
+        self.taken = self.clock()
 
     def open_output(self, streams, kind):
         """Opens what the job writes to in place of these streams, and returns the job's end."""
@@ -223,19 +249,24 @@ class Run:
         poll = select.poll()
         for it, event in wanted.items():
             poll.register(it, event)
-        timeout = self.timeout(bool(self.terminal.left))
-        return dict(poll.poll(timeout and max(timeout, 0) * 1000))
+        timeout, begun = self.timeout(), time.monotonic()
+        ready = dict(poll.poll(timeout and max(timeout, 0) * 1000))
+        if self.terminal.left:
+            self.stopped += time.monotonic() - begun
+        return ready
 
-    def timeout(self, is_blocked):
+    def timeout(self):
         """Returns after how many seconds something has to be done, or None."""
-        now, times = time.monotonic(), [at for at, _ in self.own]
+        now = time.monotonic()
+        times = [at - now for at, _ in self.own]
         if not self.screen.is_shown or self.keys and self.keys.is_held():
-            times.append(now + LOOK)
-        if self.display.lines and not is_blocked:
-            times.append(self.taken + STUCK)
-        if self.status is not None:
-            times.append(self.until or self.quiet())
-        return min(times) - now + 0.001 if times else None
+            times.append(LOOK)
+        if not self.terminal.left:
+            if self.display.lines:
+                times.append(self.taken + self.stuck - self.clock())
+            if self.status is not None:
+                times.append(self.until - self.clock() if self.until else QUIET)
+        return min(times) + 0.001 if times else None
 
     def step(self):
         """Does what can be done, output before lines. Returns what was ready."""
@@ -271,7 +302,7 @@ class Run:
 
     def watch(self):
         """Gives the display up if it has taken nothing for too long."""
-        if time.monotonic() > self.taken + STUCK:
+        if self.clock() > self.taken + self.stuck:
             self.display.give_up("the display was stuck", signals.SIGKILL)
             self.paint(self.screen.clear())
 
@@ -303,7 +334,13 @@ class Run:
         if self.pid and self.status is None:
             pid, status = os.waitpid(self.pid, os.WNOHANG)
             if pid:
-                self.status, self.ended = status, time.monotonic()
+                self.note_end(status)
+
+    def note_end(self, status):
+        """Notes how the job has ended."""
+        self.status, self.ended = status, time.monotonic()
+        for it in (self.output_rest, self.events_rest):
+            it.add(0, self.clock(), True)
 
     def pass_on(self):
         """Passes on the signals that the group didn't get, and stops with the job."""
@@ -340,7 +377,7 @@ class Run:
         before = signals.signal(signals.SIGTSTP, signals.SIG_DFL)
         self.suspend()
         signals.signal(signals.SIGTSTP, before)
-        self.taken = time.monotonic()
+        self.taken = self.clock()
         self.screen.is_shown = self.terminal.is_foreground()
         self.resize()
         self.paint(self.screen.draw())
@@ -361,19 +398,34 @@ class Run:
             job.set_size(self.output, *size)
             os.killpg(0, signals.SIGWINCH)
         if self.follows_size:
-            self.display.send(b"size %d %d\n" % size_to_draw_on(*size))
+            self.display.resize(*size_to_draw_on(*size))
         self.paint(self.screen.draw())
 
-    def quiet(self):
-        """Returns until when what is still written is waited for, after the end of the job."""
-        return min(max(self.heard, self.ended) + QUIET, self.ended + LATE)
+    def go_on(self):
+        """Does what can be done until the job has ended."""
+        while not self.is_over():
+            try:
+                self.step()
+            except Exception as error:
+                # whatever it is, it must not take the job's output away
+                self.fail(f"{type(error).__name__}: {error}")
+
+    def fail(self, reason):
+        """Goes on without a display, once."""
+        if isinstance(self.screen, Messages):
+            raise
+        erased, self.screen = self.screen.erase(), Messages(self.screen.columns, self.screen.height)
+        self.paint(erased)
+        if self.display.is_alive():
+            self.display.give_up(reason, signals.SIGKILL)
 
     def is_over(self):
         """Returns whether the job has ended and all is read, or what is left is of others."""
-        if self.status is None:
-            return False
-        is_read = self.output is None and self.events is None
-        return is_read or time.monotonic() > self.quiet() or self.is_hurried
+        if self.status is None or self.is_hurried:
+            return self.is_hurried
+        now, is_taken = self.clock(), not (self.terminal.left or self.display.lines)
+        rests = ((self.output, self.output_rest), (self.events, self.events_rest))
+        return all(fd is None or rest.is_over(now, is_taken) for fd, rest in rests)
 
     def end(self):
         """Ends the display, and leaves the terminal to others. Returns how the job ended."""
@@ -397,14 +449,16 @@ class Run:
 
     def finish_display(self):
         """Reads the last frames of the display, unless it is stuck."""
-        self.until = time.monotonic() + STUCK
+        self.until = self.clock() + STUCK
         while self.display.is_alive() and not self.is_hurried:
             if not self.display.lines:
                 self.display.close()
-            if time.monotonic() > self.until and not self.terminal.left:
+            if self.clock() > self.until and not self.terminal.left:
                 self.display.give_up("the display was stuck", signals.SIGKILL)
             else:
                 self.step()
+        if self.display.is_alive():
+            self.display.give_up("the display was not awaited", signals.SIGKILL)
 
 
 def size_to_draw_on(columns, rows):
@@ -446,7 +500,7 @@ def begin(make, program, options, stream):
     terminal = Terminal(2 if stream is None else stream)
     columns, rows = terminal.size() or (80, 24)
     follows_size = stream is not None and not any(value_of(options, it) for it in SIZES)
-    screen = Messages() if stream is None else Screen(columns, rows, os.isatty(0))
+    screen = Screen(columns, rows, os.isatty(0)) if stream is not None else Messages(columns, rows)
     words = ["--marks"]
     if follows_size and not {"COLUMNS", "LINES"} & set(os.environ):
         drawn = size_to_draw_on(columns, rows)
@@ -455,7 +509,11 @@ def begin(make, program, options, stream):
         follows_size = False
     words += [*options, "--terminal", "never" if stream is None else "always"]
     display = Display(program, words, [signals.SIGPIPE, signals.SIGXFSZ, *job.handled()])
-    return make(terminal, display, screen, follows_size)
+    run = make(terminal, display, screen, follows_size)
+    # its first rows may be late
+    delay = value_of(options, "--delay") or ""
+    run.stuck += int(delay) / 1000 if delay.isdecimal() else 0
+    return run
 
 
 def streams_of(stream, kind):
@@ -504,7 +562,7 @@ def run_of(kind):
 def report(run, status):
     """Says what has failed, and ends this process as the job has ended."""
     reason = run.display.reason
-    if reason:
+    if reason and not run.is_hurried:
         # behind the ^C that the terminal has shown
         feed = "\n" * os.WIFSIGNALED(status)
         os.write(2, f"{feed}prodash run: {reason}\n".encode())
@@ -541,6 +599,5 @@ def main(program, words):
         return status
     start(run, job.Command(command, closed), streams_of(stream, kind), digit, kind)
     run.take(frames)
-    while not run.is_over():
-        run.step()
+    run.go_on()
     report(run, run.end())

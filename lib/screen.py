@@ -66,10 +66,15 @@ def reach(line):
 
 
 class Messages:
-    """An output that is no terminal: it gets messages alone, and the job's output isn't read."""
+    """Messages alone, and a job's output as it is."""
 
-    columns = rows = height = None
     is_shown = True
+
+    def __init__(self, columns, rows):
+        self.columns, self.height = columns, rows
+
+    def put(self, output):
+        return output
 
     def take(self, frame):
         return frame

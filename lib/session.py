@@ -8,7 +8,6 @@ import fcntl
 import os
 import struct
 import termios
-import time
 
 import job
 from keys import Keys
@@ -112,7 +111,7 @@ class SessionRun(Run):
             self.stop()
             os.killpg(self.pid, signals.SIGCONT)
         else:
-            self.status, self.ended = status, time.monotonic()
+            self.note_end(status)
 
     def reap(self):
         """Leaves the job to the monitor."""
