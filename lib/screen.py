@@ -169,10 +169,13 @@ class Screen:
     def put(self, output):
         """Returns what writes output of the job, between whole sequences also the rows."""
         written = self.erase() + output
-        _, feed, line = self.without_full(self.line + output).rpartition(b"\n")
+        line = self.without_full(self.line + output).rpartition(b"\n")[2]
         if not self.is_full:
-            self.moves = max(0 if feed else self.moves, reach(line))
-        self.line = line if len(line) < LONG else line[line.find(b"\r", -LONG) :]
+            self.moves = reach(line)
+        if len(line) > LONG:
+            # from a carriage return on, if there is one
+            line = line[max(line.find(b"\r", -LONG), len(line) - LONG) :]
+        self.line = line
         return written + (self.tell() if self.can_draw() else b"") + self.draw()
 
     def clear(self):

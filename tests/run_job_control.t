@@ -81,6 +81,34 @@ Ctrl-Z stops the job without rows, and `fg` has it go on with them. The keys are
   ^Ztwo
   same modes
 
+What the job writes as it stops is there.
+
+  $ cat >says <<'.'
+  > trap 'echo stopping; kill -STOP $$' TSTP
+  > . ./job
+  > echo one; next; echo on; next
+  > .
+  $ { echo 'run prodash-run --no-color -- sh says'; cat <<'.'; } | on-terminal 40 8
+  > until 3/10
+  > until one
+  > keys \x1a
+  > stopped
+  > screen
+  > fg
+  > until on
+  > until 3/10
+  > tell go
+  > ended
+  > screen
+  > .
+  stopped
+  one
+  ^Zstopping
+  status 0
+  one
+  ^Zstopping
+  on
+
 After `bg` the output is written without rows, which come back in the foreground.
 
   $ cat >background <<'.'

@@ -190,7 +190,7 @@ While a line is as long as the terminal is wide, or longer, there are no rows be
 
   $ cat >long <<'.'
   > . ./job
-  > next; printf 1234567890123456789012345678901234567890; next; echo; next
+  > next; printf 1234567890123456789012345678901234567890; next; echo; next; printf %05000d 1; next
   > .
   $ { echo 'run prodash-run --no-color -- sh long'; cat <<'.'; } | on-terminal 40 8
   > until 3/10
@@ -201,14 +201,15 @@ While a line is as long as the terminal is wide, or longer, there are no rows be
   > until 3/10
   > screen
   > tell go
+  > until 0000000001
+  > gone 3/10
+  > tell go
   > ended
-  > screen
   > .
   1234567890123456789012345678901234567890
   
    build 3/10 files [=====>--------------]
   status 0
-  1234567890123456789012345678901234567890
 
 Colours and other styles of the job go on behind the rows, and a sequence is never cut in two.
 
@@ -221,21 +222,21 @@ Colours and other styles of the job go on behind the rows, and a sequence is nev
   > tell go
   > until red
   > until 3/10
+  > style build
   > tell go
   > until still red
   > tell go
   > until 3/10
   > style red
   > style still
-  > style build
   > screen
   > tell go
   > ended
   > screen
   > .
-  31
-  31
   plain
+  31
+  31
   ared
   still red\xc3\xa4 (esc)
   
@@ -248,10 +249,10 @@ On the page of a full screen there are no rows and no messages until it is left.
 
   $ cat >full <<'.'
   > . ./job
-  > echo one; next; printf '\033[?1049h\033[Hfull'; say info @a - meanwhile; next; say set @a 4; next
+  > echo one; next; printf 'abc\033[?1049h\033[Hfull'; say info @a - meanwhile; next; say set @a 4; next
   > printf '\033[?1049l'; next
   > .
-  $ { echo 'run prodash-run --no-color -- sh full'; cat <<'.'; } | on-terminal 40 8
+  $ { echo 'run prodash-run --no-color --fps 1000 -- sh full'; cat <<'.'; } | on-terminal 40 8
   > until 3/10
   > tell go
   > until full
@@ -267,11 +268,13 @@ On the page of a full screen there are no rows and no messages until it is left.
   > .
   full
   one
+  abc
    build meanwhile
   
    build 4/10 files [=======>------------]
   status 0
   one
+  abc
    build meanwhile
 
 What moves the cursor up has no rows below it until its line ends.
@@ -342,6 +345,83 @@ More rows than there is room for are cut, and lines above them go up.
   line 5
   line 6
   line 7
+
+Rows that are gone leave no room behind.
+
+  $ cat >shrinks <<'.'
+  > . ./job
+  > for it in x y z; do echo line $it; say add @$it 0 task $it; done; next
+  > for it in x y z; do say drop @$it; done; next; echo line d; next
+  > .
+  $ { echo 'run prodash-run --no-color -- sh shrinks'; cat <<'.'; } | on-terminal 40 7
+  > until task z
+  > tell go
+  > gone task
+  > tell go
+  > until line d
+  > screen
+  > tell go
+  > ended
+  > .
+  line z
+  line d
+  
+   build 3/10 files [=====>--------------]
+  status 0
+
+Those that don't fit in the window, as it is said to have more rows, are not drawn.
+
+  $ { echo 'run prodash-run --no-color --rows 20 -- sh crowded'; cat <<'.'; } | on-terminal 40 6
+  > until line 7
+  > tell go
+  > ended
+  > all
+  > .
+  status 0
+  line 1
+  line 2
+  line 3
+  line 4
+  line 5
+  line 6
+  line 7
+
+Nothing is left of rows that what is typed has moved below.
+
+  $ cat >typed <<'.'
+  > . ./job
+  > printf 'go on? '; read answer; say set @a 4; next
+  > .
+  $ { echo 'run prodash-run --no-color -- sh typed'; cat <<'.'; } | on-terminal 40 8
+  > until go on?
+  > until 3/10
+  > keys yes\n
+  > until 4/10
+  > screen
+  > tell go
+  > ended
+  > .
+  go on? yes
+  
+   build 4/10 files [=======>------------]
+  status 0
+
+A message has the terminal's own style.
+
+  $ cat >told <<'.'
+  > . ./job
+  > printf '\033[31mred\n'; next; say info @a - told; next
+  > .
+  $ { echo 'run prodash-run --no-color -- sh told'; cat <<'.'; } | on-terminal 40 8
+  > until red
+  > tell go
+  > until told
+  > style told
+  > tell go
+  > ended
+  > .
+  plain
+  status 0
 
 A window of one or two rows has none.
 
