@@ -17,6 +17,8 @@ PASSED = (
 )
 # The digits that a descriptor has in the shells that take only one. 9 is often that of a lock.
 DIGITS = range(8, 2, -1)
+# No descriptor of a wrapper is as high as this, unless the first ones are all taken.
+OWN = 256
 # How a job ends that isn't there, or can't be run.
 NOT_FOUND, NOT_RUN = 127, 126
 
@@ -36,6 +38,12 @@ def identity(fd):
     """Returns the device and the number of the file that a descriptor is open on."""
     it = os.fstat(fd)
     return f"{it.st_dev}:{it.st_ino}"
+
+
+def forget_descriptor():
+    """Leaves the descriptor of the lines out of the environment."""
+    for it in ("PRODASH_FD", "PRODASH_FD_ID"):
+        os.environ.pop(it, None)
 
 
 def is_nested():
@@ -126,6 +134,18 @@ class Command:
         except OSError as error:
             return self.refused(error)
 
+    def become_alone(self):
+        """Runs it in place of this process, with what this one was given and nothing else."""
+        self.moves = []
+        forget_descriptor()
+        for it in range(3, OWN):
+            try:
+                if not os.get_inheritable(it):
+                    os.close(it)
+            except OSError:
+                pass
+        return self.become()
+
     def refused(self, error):
         """Says why it can't be run, and returns the exit status."""
         os.write(2, f"prodash run: {self.words[0]}: {error.strerror}\n".encode())
@@ -140,6 +160,7 @@ class Sentinel:
         ends, self.alive = os.pipe()
         self.told, tells = os.pipe()
         os.set_blocking(tells, False)
+        mask = signals.pthread_sigmask(signals.SIG_BLOCK, PASSED)
         self.pid = os.fork()
         if not self.pid:
             for it in (self.alive, *others):
@@ -150,6 +171,7 @@ class Sentinel:
             signals.pthread_sigmask(signals.SIG_UNBLOCK, PASSED)
             os.read(ends, 1)
             os._exit(0)
+        signals.pthread_sigmask(signals.SIG_SETMASK, mask)
         os.close(ends)
         os.close(tells)
 

@@ -531,9 +531,8 @@ def start(run, command, streams, digit, kind):
     run.events, writes = os.pipe()
     theirs = run.open_output(streams, kind)
     command.moves = [(theirs, it) for it in streams]
-    for it in ("PRODASH_FD", "PRODASH_FD_ID"):
-        # of another wrapper
-        os.environ.pop(it, None)
+    # what is there is of another wrapper
+    job.forget_descriptor()
     if digit:
         command.moves.append((writes, digit))
         os.environ.update(PRODASH_FD=str(digit), PRODASH_FD_ID=job.identity(run.events))
@@ -571,6 +570,19 @@ def report(run, status):
     job.end_as(status, run.ends_group)
 
 
+def wrap(program, options, command):
+    """Starts the display, and the job unless the options are wrong."""
+    digit, stream = job.free_digit(), stream_to_draw_on(options)
+    kinds = [it for it in options if it in KINDS and stream is not None]
+    kind = kinds[-1] if kinds else TERMINAL
+    run = begin(run_of(kind), program, [it for it in options if it not in KINDS], stream)
+    frames = run.display.awaits(STUCK)
+    if frames is not None:
+        start(run, command, streams_of(stream, kind), digit, kind)
+        run.take(frames)
+    return run
+
+
 def main(program, words):
     """Runs the command of these words, with the program at this path as display."""
     if signals.getsignal(signals.SIGINT) == signals.default_int_handler:
@@ -587,17 +599,16 @@ def main(program, words):
     if job.is_nested():
         # the wrapper above has the rows
         return job.Command(command).become()
-    closed, digit = job.open_streams(), job.free_digit()
-    stream = stream_to_draw_on(options)
-    kinds = [it for it in options if it in KINDS and stream is not None]
-    kind = kinds[-1] if kinds else TERMINAL
-    run = begin(run_of(kind), program, [it for it in options if it not in KINDS], stream)
-    frames = run.display.awaits(STUCK)
-    if frames is None:
+    command = job.Command(command, job.open_streams())
+    try:
+        run = wrap(program, options, command)
+    except OSError as error:
+        # of this process: it has no descriptors or no processes left
+        os.write(2, f"prodash run: {error.strerror}\n".encode())
+        return command.become_alone()
+    if run.pid is None and run.status is None:
         status = os.WEXITSTATUS(run.display.status)
         os.write(2 if status else 1, f"{run.display.reason}\n".encode())
         return status
-    start(run, job.Command(command, closed), streams_of(stream, kind), digit, kind)
-    run.take(frames)
     run.go_on()
     report(run, run.end())

@@ -177,6 +177,25 @@ Each signal reaches the job exactly once, whether it is sent to its group or to 
   status 0
   status 0
 
+So it does if the process that watches the signals of the group is killed: another takes its place.
+
+  $ { echo 'run prodash-run python3 counts'; cat <<'.'; } | on-terminal 40 12
+  > until ready
+  > kill KILL .*prodash-run
+  > one USR1
+  > until 1 SIGUSR1
+  > signal INT
+  > until 2 SIGINT
+  > one USR2
+  > ended
+  > screen
+  > .
+  status 0
+  ready
+  1 SIGUSR1
+  2 SIGINT
+  3 SIGUSR2
+
 A signal at the start ends the job, or `prodash run` before there is one.
 
   $ cat >early.py <<'.'

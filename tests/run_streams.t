@@ -118,6 +118,26 @@ On a terminal without rows there are messages alone.
   err
    alpha one
 
+  $ cat >tells <<'.'
+  > . ./job
+  > next; say info @a - told; next
+  > .
+  $ for how in 'TERM=dumb prodash-run --no-color' 'TERM=xterm prodash-run --no-color'; do
+  >   { echo "run env $how -- sh tells"; cat <<'.'; } | on-terminal 40 8
+  > tell go
+  > until told
+  > screen
+  > tell go
+  > ended
+  > .
+  > done
+   build told
+  status 0
+   build told
+  
+   build 3/10 files [=====>--------------]
+  status 0
+
 In the background there are none either, and no mode of the terminal is changed.
 
   $ cat >behind <<'.'

@@ -23,8 +23,9 @@ stuck.
   > trap 'echo >got; echo got it' TERM
   > . ./job
   > next() { until read _ <&3; do :; done; }
-  > echo one; next; echo two; yes "set @a 4" | head -n 30000 >&$PRODASH_FD
-  > for it in 1 2 3 4 5 6 7 8; do say info @a - $it; sleep 0.3; done; echo >waited; next; echo three; next
+  > echo one; next; echo two
+  > { seq 4000 | sed 's/^/info @a - number /'; echo set @a 4; } >&$PRODASH_FD &
+  > for it in 1 2 3 4 5 6 7 8; do sleep 0.3; done; echo >waited; next; wait; echo three; next
   > .
   $ cat >stopped <<'.'
   > until one
@@ -36,31 +37,17 @@ stuck.
   > file got
   > screen
   > keys \x11
-  > until got it
   > until 4/10
   > tell go
   > until three
   > tell go
   > ended
-  > screen
   > .
-  $ { echo 'run prodash-run --no-color -- sh stops'; cat stopped; } | on-terminal 40 17
+  $ { echo 'run prodash-run --no-color -- sh stops'; cat stopped; } | on-terminal 40 8
   one
   
    build 3/10 files [=====>--------------]
   status 0
-  one
-  two
-  got it
-   build 1
-   build 2
-   build 3
-   build 4
-   build 5
-   build 6
-   build 7
-   build 8
-  three
   $ rm got waited
 
 A second signal ends what waits for the terminal at the end.

@@ -50,7 +50,7 @@ def shell(orders, reports):
 
     def hang_up(*_):
         """Does what a shell does whose window is closed."""
-        with contextlib.suppress(ProcessLookupError):
+        if job:
             os.killpg(job, signal.SIGHUP)
 
     signal.signal(signal.SIGHUP, hang_up)
@@ -76,6 +76,8 @@ def shell(orders, reports):
         with contextlib.suppress(OSError):
             # unless the window is closed
             os.tcsetpgrp(0, os.getpid())
+        if not os.WIFSTOPPED(status):
+            job = None
         print(said_of(status), file=reports, flush=True)
 
 
