@@ -58,16 +58,13 @@ def is_nested():
 def open_streams():
     """Opens each of the three streams that is closed, so that no pipe gets its number.
 
-    Returns those that were closed.
+    It is closed again in any other program.
     """
-    closed = []
     for it in range(3):
         try:
             os.fstat(it)
         except OSError:
             os.open(os.devnull, os.O_RDWR)
-            closed.append(it)
-    return closed
 
 
 def output_terminal(columns, rows):
@@ -96,9 +93,9 @@ def handled():
 class Command:
     """A command, with what it gets of this process."""
 
-    def __init__(self, words, closed=()):
-        # descriptors that take the place of others, and streams that were closed before
-        self.words, self.moves, self.closed = words, [], closed
+    def __init__(self, words):
+        # descriptors that take the place of others
+        self.words, self.moves = words, []
         # signals that are blocked, and those that have their default action
         self.mask, self.reset = (), [signals.SIGPIPE, signals.SIGXFSZ, *handled()]
 
@@ -111,8 +108,7 @@ class Command:
     def start(self):
         """Starts it. Returns its process, or None and the status that it ended with at once."""
         self.keep()
-        actions = [(os.POSIX_SPAWN_CLOSE, it) for it in self.closed]
-        actions += [(os.POSIX_SPAWN_DUP2, fd, at) for fd, at in self.moves]
+        actions = [(os.POSIX_SPAWN_DUP2, fd, at) for fd, at in self.moves]
         how = {"file_actions": actions, "setsigmask": self.mask, "setsigdef": self.reset}
         try:
             return os.posix_spawnp(self.words[0], self.words, os.environ, **how), None
@@ -122,8 +118,6 @@ class Command:
     def become(self):
         """Runs it in place of this process, or returns an exit status."""
         self.keep()
-        for it in self.closed:
-            os.close(it)
         for fd, at in self.moves:
             os.dup2(fd, at)
         for it in self.reset:

@@ -593,13 +593,15 @@ def main(program, words):
         return 0
     given = split(words)
     if given is None:
-        os.write(2, b"prodash run: no command: prodash run [OPTIONS] -- COMMAND [WORD ..]\n")
+        os.write(2, b"prodash run: no command behind --\n\n")
+        os.write(2, b"Usage: prodash run [OPTIONS] -- COMMAND [WORD ..]\n")
         return 2
     options, command = given
     if job.is_nested():
         # the wrapper above has the rows
         return job.Command(command).become()
-    command = job.Command(command, job.open_streams())
+    job.open_streams()
+    command = job.Command(command)
     try:
         run = wrap(program, options, command)
     except OSError as error:

@@ -63,13 +63,19 @@ The status is that of the job, also if a signal has ended it.
 Without a command nothing begins.
 
   $ prodash-run
-  prodash run: no command: prodash run [OPTIONS] -- COMMAND [WORD ..]
+  prodash run: no command behind --
+  
+  Usage: prodash run [OPTIONS] -- COMMAND [WORD ..]
   [2]
   $ prodash-run --no-color
-  prodash run: no command: prodash run [OPTIONS] -- COMMAND [WORD ..]
+  prodash run: no command behind --
+  
+  Usage: prodash run [OPTIONS] -- COMMAND [WORD ..]
   [2]
   $ prodash-run --no-color --
-  prodash run: no command: prodash run [OPTIONS] -- COMMAND [WORD ..]
+  prodash run: no command behind --
+  
+  Usage: prodash run [OPTIONS] -- COMMAND [WORD ..]
   [2]
 
 What is left on the terminal is what the job wrote. A line that isn't whole is not ended.

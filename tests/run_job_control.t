@@ -174,6 +174,22 @@ Ctrl-C ends the job, and `prodash run` ends by the same signal, so a script arou
   $ { echo 'run prodash-run -- sh one'; cat interrupted; } | on-terminal 40 8 | grep signal
   signal SIGINT
 
+So it is with Ctrl-Z.
+
+  $ { echo 'run env KIND=--pty bash around'; cat <<'.'; } | on-terminal 40 8
+  > until 3/10
+  > until one
+  > keys \x1a
+  > stopped
+  > gone 3/10
+  > fg
+  > until 3/10
+  > keys \x03
+  > ended
+  > .
+  stopped
+  signal SIGINT
+
 The job may handle it.
 
   $ cat >handles <<'.'
@@ -193,27 +209,29 @@ The job may handle it.
 
 A new size is that of the rows, and of the job's output once the job is told of it.
 
+  $ cat >sized.py <<'.'
+  > import os, signal
+  > signal.signal(signal.SIGINT, signal.SIG_DFL)
+  > signal.pthread_sigmask(signal.SIG_BLOCK, [signal.SIGWINCH])
+  > while True:
+  >     print("size", *os.get_terminal_size(1), flush=True)
+  >     signal.sigwait([signal.SIGWINCH])
+  > .
   $ cat >sized <<'.'
-  > trap 'stty size <&1' WINCH
   > . ./job
-  > while :; do next; done
+  > exec python3 sized.py
   > .
   $ cat >sizes <<'.'
   > until 3/10 files [=================>------------------------------------------]
+  > until size 80 8
   > size 40 10
   > until 3/10 files [=====>--------------]
-  > tell go
-  > until 10 40
-  > screen
+  > until size 40 10
+  > until 3/10
   > keys \x03
   > ended
   > .
-  $ { echo 'run prodash-run --no-color -- bash sized'; cat sizes; } | on-terminal 80 8
-  10 40
-  
-   build 3/10 files [=====>--------------]
+  $ { echo 'run prodash-run --no-color -- sh sized'; cat sizes; } | on-terminal 80 8
   signal SIGINT
-  $ { echo 'run prodash-run --pty --no-color -- bash sized'; cat sizes; } | on-terminal 80 8
-  10 40
-   build 3/10 files [=====>--------------]
+  $ { echo 'run prodash-run --pty --no-color -- sh sized'; cat sizes; } | on-terminal 80 8
   signal SIGINT

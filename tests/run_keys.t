@@ -66,6 +66,27 @@ A program that reads keys of the terminal that its output is gets them, too.
   read a line
   same modes
 
+The modes of the user's terminal are given back also if it doesn't set its own back.
+
+  $ sed '$d' reads.py >ends.py
+  $ { echo "run prodash-run --no-color -- python3 ends.py"; cat <<'.'; } | on-terminal 40 8
+  > until press
+  > keys k
+  > ended
+  > modes
+  > .
+  status 0
+  same modes
+
+A terminal of the job's own has the modes of the user's.
+
+  $ cat >stty <<'.'
+  > stty kill ^G; prodash-run --pty -- sh -c 'stty -a | grep -o "kill = .G"'
+  > .
+  $ { echo "run sh stty"; echo ended; echo screen; } | on-terminal 40 8
+  status 0
+  kill = ^G
+
 What is typed stays for the next program, unless the job has a terminal of its own.
 
   $ cat >later <<'.'
