@@ -90,6 +90,20 @@ def handled():
     return [it for it in PASSED if signals.getsignal(it) != signals.SIG_IGN]
 
 
+def fork(does, *words):
+    """Begins a process that does this and ends. Returns its number.
+
+    What fails there ends there: it must not run on as a second wrapper.
+    """
+    pid = os.fork()
+    if not pid:
+        try:
+            does(*words)
+        finally:
+            os._exit(1)
+    return pid
+
+
 class Command:
     """A command, with what it gets of this process."""
 
@@ -146,6 +160,17 @@ class Command:
         return NOT_FOUND if isinstance(error, FileNotFoundError) else NOT_RUN
 
 
+def watch(ends, tells, others):
+    """Tells the numbers of signals until the end."""
+    for it in others:
+        if it is not None:
+            os.close(it)
+    # the handlers do nothing but this
+    signals.set_wakeup_fd(tells)
+    signals.pthread_sigmask(signals.SIG_UNBLOCK, PASSED)
+    os.read(ends, 1)
+
+
 class Sentinel:
     """A process of the same group, which says which signals the whole group gets."""
 
@@ -155,16 +180,7 @@ class Sentinel:
         self.told, tells = os.pipe()
         os.set_blocking(tells, False)
         mask = signals.pthread_sigmask(signals.SIG_BLOCK, PASSED)
-        self.pid = os.fork()
-        if not self.pid:
-            for it in (self.alive, *others):
-                if it is not None:
-                    os.close(it)
-            # the handlers do nothing but this
-            signals.set_wakeup_fd(tells)
-            signals.pthread_sigmask(signals.SIG_UNBLOCK, PASSED)
-            os.read(ends, 1)
-            os._exit(0)
+        self.pid = fork(watch, ends, tells, (self.alive, *others))
         signals.pthread_sigmask(signals.SIG_SETMASK, mask)
         os.close(ends)
         os.close(tells)
@@ -176,21 +192,25 @@ class Sentinel:
         os.waitpid(self.pid, 0)
 
 
+def pass_rest(fd, to, kept):
+    """Becomes a `cat` of what others write, to a stream or to nowhere."""
+    os.setpgid(0, 0)
+    null = os.open(os.devnull, os.O_WRONLY)
+    for source, at in ((fd, 0), (null if to is None else to, 1), (null, 2)):
+        os.dup2(source, at)
+    if kept is not None:
+        os.set_inheritable(kept, True)
+    for it in (*PASSED, signals.SIGPIPE):
+        signals.signal(it, signals.SIG_DFL)
+    os.execvp("cat", ["cat"])
+
+
 def leave(fd, to, kept=None):
     """Leaves a process that reads what others still write there, so that they aren't ended.
 
     It keeps a descriptor open until then.
     """
-    if not os.fork():
-        os.setpgid(0, 0)
-        null = os.open(os.devnull, os.O_WRONLY)
-        for source, at in ((fd, 0), (null if to is None else to, 1), (null, 2)):
-            os.dup2(source, at)
-        if kept is not None:
-            os.set_inheritable(kept, True)
-        for it in (*PASSED, signals.SIGPIPE):
-            signals.signal(it, signals.SIG_DFL)
-        os.execvp("cat", ["cat"])
+    fork(pass_rest, fd, to, kept)
 
 
 def end_as(status, of_group=False):

@@ -26,13 +26,14 @@ def begin_job(command, terminal):
     os._exit(command.become())
 
 
-def monitor(command, terminal, tells, ends):
+def monitor(command, terminal, tells, ends, others):
     """Leads a session, and reports the job's process and each of its statuses."""
+    for it in others:
+        if it is not None:
+            os.close(it)
     os.setsid()
     fcntl.ioctl(terminal, termios.TIOCSCTTY, 0)
-    pid = os.fork()
-    if not pid:
-        begin_job(command, terminal)
+    pid = job.fork(begin_job, command, terminal)
     for it in {terminal, *(fd for fd, _ in command.moves)}:
         os.close(it)
     os.write(tells, REPORT.pack(pid))
@@ -41,7 +42,6 @@ def monitor(command, terminal, tells, ends):
         status = os.waitpid(pid, os.WUNTRACED)[1]
         os.write(tells, REPORT.pack(status))
     os.read(ends, 1)
-    os._exit(0)
 
 
 class Session:
@@ -51,12 +51,8 @@ class Session:
         """Starts the monitor and the job. They have none of the other descriptors."""
         self.told, tells = os.pipe()
         ends, self.alive = os.pipe()
-        self.pid = os.fork()
-        if not self.pid:
-            for it in (self.told, self.alive, *others):
-                if it is not None:
-                    os.close(it)
-            monitor(command, terminal, tells, ends)
+        others = (self.told, self.alive, *others)
+        self.pid = job.fork(monitor, command, terminal, tells, ends, others)
         os.close(tells)
         os.close(ends)
 

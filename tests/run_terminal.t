@@ -55,7 +55,6 @@ A second signal ends what waits for the terminal at the end.
   $ cat >never <<'.'
   > echo one; exec 3<>go; read _ <&3; echo two; echo >ends
   > .
-
   $ { echo 'run prodash-run --no-color -- sh never'; cat <<'.'; } | on-terminal 40 8
   > until one
   > keys \x13
@@ -71,7 +70,6 @@ A window that is closed hangs the job up. One that doesn't care goes on to its e
   > . ./job
   > echo one; next; echo two; say set @a 4; echo >file; exit 3
   > .
-
   $ for kind in -- '--no-pty --' '--pty --'; do
   >   { echo "run prodash-run --no-color $kind sh closed"; printf 'until one\nclose\nended\n'; } |
   >     on-terminal 40 8
@@ -93,7 +91,6 @@ A window that is closed hangs the job up. One that doesn't care goes on to its e
   status 3
 
 SIGTERM to the display, and to the process that watches the signals of the group.
-
   $ { echo 'run prodash-run --no-color -- sh closed'; cat <<'.'; } | on-terminal 60 8
   > until 3/10
   > kill TERM .*python
@@ -108,7 +105,6 @@ SIGTERM to the display, and to the process that watches the signals of the group
   one
   two
   prodash run: the display was ended by signal 15
-
   $ { echo 'run prodash-run --no-color -- sh closed'; cat <<'.'; } | on-terminal 60 8
   > until 3/10
   > kill KILL .*python
