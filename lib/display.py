@@ -1,4 +1,4 @@
-"""prodash-live behind two pipes: it reads event lines, and writes frames with a mark behind each."""
+"""prodash-live behind two pipes: it reads event lines, and marks the end of each frame."""
 import os
 import select
 
@@ -59,10 +59,11 @@ class Display:
 
     def resize(self, columns, rows):
         """Takes a size, between two lines."""
-        self.size = b"size %d %d\n" % (columns, rows)
-        if not self.is_within_line:
-            self.send(self.size)
-            self.size = b""
+        size = b"size %d %d\n" % (columns, rows)
+        if self.is_within_line:
+            self.size = size
+        else:
+            self.send(size)
 
     def write(self):
         """Writes as many lines as the program takes."""

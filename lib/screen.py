@@ -37,7 +37,8 @@ def parts(frame):
     drawn = b"".join(it + b"\r\n" for it in rows)
     back = b"\x1b[%dA" % count if count else b""
     modes = after if up else end
-    return (head + messages + modes) * bool(messages), head + drawn + ERASE_BELOW + back + modes, count
+    told = head + messages + modes if messages else b""
+    return told, head + drawn + ERASE_BELOW + back + modes, count
 
 
 def is_half(line):

@@ -17,7 +17,8 @@ of a named pipe, `go`.
   > echo one; next; say set @a 4; echo two; next
   > .
 
-A display that is killed leaves no rows, and the job ends as without it. Only a status of 0 becomes 1.
+A display that is killed leaves no rows, and the job ends as without it. Only a status of 0 becomes
+1.
 
   $ cat >killed <<'.'
   > until 3/10

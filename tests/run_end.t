@@ -100,7 +100,8 @@ What is left on the terminal is what the job wrote. A line that isn't whole is n
    build begins
   two
 
-A child in the background that goes on is not waited for, and not ended. What it writes is passed on.
+A child in the background that goes on is not waited for, and not ended. What it writes is passed
+on.
 
   $ cat >leaves <<'.'
   > exec 3<>go

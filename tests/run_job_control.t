@@ -1,8 +1,8 @@
 prodash run: job control
 ========================
 
-`on-terminal` plays steps on a terminal, whose shell has one job. `prodash-run` is `prodash run`. The
-job waits for lines of a named pipe, `go`.
+`on-terminal` plays steps on a terminal, whose shell has one job. `prodash-run` is `prodash run`.
+The job waits for lines of a named pipe, `go`.
 
   $ export TERM=xterm
   $ unset COLUMNS LINES NO_COLOR
@@ -235,3 +235,22 @@ A new size is that of the rows, and of the job's output once the job is told of 
   signal SIGINT
   $ { echo 'run prodash-run --pty --no-color -- sh sized'; cat sizes; } | on-terminal 80 8
   signal SIGINT
+
+The display is told a new size between two lines of the job.
+
+  $ sed 's/while True/while os.get_terminal_size(1).columns > 40/' sized.py >narrow.py
+  $ cat >within <<'.'
+  > . ./job
+  > printf 'set @a' >&$PRODASH_FD; python3 narrow.py; echo >narrow; next; echo ' 4' >&$PRODASH_FD; next
+  > .
+  $ { echo 'run prodash-run --no-color -- sh within'; cat <<'.'; } | on-terminal 80 8
+  > until size 80 8
+  > until 3/10
+  > size 40 10
+  > file narrow
+  > tell go
+  > until 4/10 files [=======>------------]
+  > tell go
+  > ended
+  > .
+  status 0

@@ -1,8 +1,8 @@
 prodash run: keys
 =================
 
-`on-terminal` plays steps on a terminal, and `prodash-run` is `prodash run`. The keys are the job's, as
-without `prodash run`.
+`on-terminal` plays steps on a terminal, and `prodash-run` is `prodash run`. The keys are the
+job's, as without `prodash run`.
 
   $ export TERM=xterm
   $ unset COLUMNS LINES NO_COLOR

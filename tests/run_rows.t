@@ -53,8 +53,8 @@ A job writes lines, then a line that isn't whole.
   two: 2
   same modes
 
-A line that isn't whole may be a prompt that was answered, if keys can be typed. So a message goes in
-below it. If what is typed is part of the output, or none can be, it goes in above the line.
+A line that isn't whole may be a prompt that was answered, if keys can be typed. So a message goes
+in below it. If what is typed is part of the output, or none can be, it goes in above the line.
 
   $ cat >prompts <<'.'
   > . ./job

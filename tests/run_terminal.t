@@ -16,8 +16,8 @@ of a named pipe, `go`.
   > say set @a 3
   > .
 
-After Ctrl-S nothing is written, and signals reach the job all the same. The display is not taken for
-stuck.
+After Ctrl-S nothing is written, and signals reach the job all the same. The display is not taken
+for stuck.
 
   $ cat >stops <<'.'
   > trap 'echo >got; echo got it' TERM

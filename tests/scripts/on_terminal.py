@@ -169,7 +169,8 @@ class Play:
 
     def same_modes(self):
         """Returns whether the modes of the terminal are those of the start."""
-        return "same modes" if termios.tcgetattr(self.theirs) == self.modes_before else "other modes"
+        is_same = termios.tcgetattr(self.theirs) == self.modes_before
+        return "same modes" if is_same else "other modes"
 
     def close(self):
         """Closes the window, which hangs up the shell and its job."""
