@@ -66,6 +66,47 @@ A program that reads keys of the terminal that its output is gets them, too.
   read a line
   same modes
 
+A prompt for a password is written to the terminal by itself. It stands in the free line, and what is
+typed isn't shown.
+
+  $ cat >secret <<'.'
+  > . ./job
+  > { next; say set @a 4; } &
+  > python3 -c 'import getpass; print("got", getpass.getpass("Secret: "))'; next
+  > .
+  $ for kind in -- '--pty --'; do
+  >   { echo "run prodash-run --no-color $kind sh secret"; cat <<'.'; } | on-terminal 40 8
+  > until Secret:
+  > until 3/10
+  > tell go
+  > until 4/10
+  > keys abc
+  > screen
+  > keys \n
+  > until got abc
+  > until 4/10
+  > screen
+  > tell go
+  > ended
+  > modes
+  > .
+  > done
+  Secret:
+   build 4/10 files [=======>------------]
+  Secret:
+  got abc
+  
+   build 4/10 files [=======>------------]
+  status 0
+  same modes
+  Secret:
+   build 4/10 files [=======>------------]
+  Secret:
+  got abc
+   build 4/10 files [=======>------------]
+  status 0
+  same modes
+
 The modes of the user's terminal are given back also if it doesn't set its own back.
 
   $ sed '$d' reads.py >ends.py
