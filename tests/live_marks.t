@@ -5,7 +5,7 @@ A program that passes frames on finds their ends by `--marks`: a NUL, which no f
 frame. The first one comes before all frames, once the options are right.
 
   $ prodash-live --marks --terminal always </dev/null
-  \x00\r\x1b[J\x00\r\x1b[J\x00 (no-eol) (esc)
+  \x00\r\x1b[?7l\x1b[J\x1b[?7h\x00\r\x1b[?7l\x1b[J\x1b[?7h\x00 (no-eol) (esc)
   $ printf 'add @a 0 alpha\ninfo @a 0 one\n' | prodash-live --marks --stdout
   \x00 alpha one (esc)
   \x00 (no-eol) (esc)

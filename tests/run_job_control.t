@@ -222,7 +222,7 @@ A new size is that of the rows, and of the job's output once the job is told of 
   > exec python3 sized.py
   > .
   $ cat >sizes <<'.'
-  > until 3/10 files [=================>------------------------------------------]
+  > until 3/10 files [==========>--------------------------]
   > until size 80 8
   > size 40 10
   > until 3/10 files [=====>--------------]
