@@ -229,8 +229,10 @@ class Run:
         display, found = self.display, [self.sentinel.told if self.sentinel else None]
         if self.keys and self.keys.is_held() and not self.keys.left:
             found.append(self.keys.stream)
+        if len(self.terminal.left) < READ:
+            found.append(self.output)
         if not self.terminal.left:
-            found += [self.output, display.frames if display.is_alive() else None]
+            found.append(display.frames if display.is_alive() else None)
         return [*found, self.events if len(display.lines) < READ else None]
 
     def writes(self):
