@@ -217,14 +217,13 @@ A signal at the start ends the job, or `prodash run` before there is one.
   > .
   $ python3 early.py --terminal always --
   {-15}
-  $ for kind in -- '--no-pty --' '--pty --'; do
-  >   echo "run python3 early.py $kind
-  > ended
-  > screen" | on-terminal 40 12
-  > done
+  $ early() { printf 'run python3 early.py %s\nended\nscreen\n' "$1" | on-terminal 40 12; }
+  $ early --
   status 0
   {-15}
+  $ early '--no-pty --'
   status 0
   {-15}
+  $ early '--pty --'
   status 0
   {-15}
