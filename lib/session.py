@@ -113,11 +113,12 @@ class SessionRun(Run):
         """Leaves the job to the monitor."""
 
     def pass_on(self):
-        """Passes all signals on: the job is in another group."""
+        """Passes all signals on. The job's group is stopped and hung up whole, as by a terminal."""
         numbers, self.own = [it for _, it in self.own], []
         for it in numbers:
             if self.status is None:
-                (os.killpg if it == signals.SIGTSTP else os.kill)(self.pid, it)
+                is_for_all = it in (signals.SIGTSTP, signals.SIGHUP)
+                (os.killpg if is_for_all else os.kill)(self.pid, it)
 
     def suspend(self):
         """Stops the whole group, as the terminal would have."""

@@ -90,6 +90,19 @@ A window that is closed hangs the job up. One that doesn't care goes on to its e
   signal SIGHUP
   status 3
 
+With a terminal of its own the job's children are hung up, too.
+
+  $ cat >child <<'.'
+  > sh -c 'trap "echo >hung; exit" HUP; echo one; exec 3<>go; read _ <&3'; echo two
+  > .
+  $ { echo "run prodash-run --no-color --pty -- sh child"; cat <<'.'; } | on-terminal 40 8
+  > until one
+  > close
+  > file hung
+  > ended
+  > .
+  signal SIGHUP
+
 SIGTERM to the display, and to the process that watches the signals of the group.
   $ { echo 'run prodash-run --no-color -- sh closed'; cat <<'.'; } | on-terminal 60 8
   > until 3/10
