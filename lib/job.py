@@ -161,14 +161,15 @@ class Command:
 
 
 def watch(ends, tells, others):
-    """Tells the numbers of signals until the end."""
+    """Tells the numbers of signals, and answers by a 0 once all are told, until the end."""
     for it in others:
         if it is not None:
             os.close(it)
     # the handlers do nothing but this
     signals.set_wakeup_fd(tells)
     signals.pthread_sigmask(signals.SIG_UNBLOCK, PASSED)
-    os.read(ends, 1)
+    while os.read(ends, 1):
+        os.write(tells, b"\0")
 
 
 class Sentinel:
@@ -178,12 +179,24 @@ class Sentinel:
         """Starts the process, without the other descriptors."""
         ends, self.alive = os.pipe()
         self.told, tells = os.pipe()
+        # how often it was asked, and has answered
+        self.asked = self.answers = 0
         os.set_blocking(tells, False)
         mask = signals.pthread_sigmask(signals.SIG_BLOCK, PASSED)
         self.pid = fork(watch, ends, tells, (self.alive, *others))
         signals.pthread_sigmask(signals.SIG_SETMASK, mask)
         os.close(ends)
         os.close(tells)
+
+    def ask(self):
+        """Asks it for an answer, and returns which one it will be."""
+        try:
+            os.write(self.alive, b"?")
+        except OSError:
+            # another one takes its place
+            pass
+        self.asked += 1
+        return self.asked
 
     def end(self):
         """Ends the process."""

@@ -125,8 +125,8 @@ class Run:
         self.pid = self.status = None
         self.woken, self.wakes = os.pipe()
         os.set_blocking(self.wakes, False)
-        # signals that this process got, with the moment at which they are passed on, and those
-        # that the sentinel got, with the moment until which they count
+        # signals that this process got, with the moment at which the sentinel is asked or not
+        # awaited any more, and the answer; and those that it got, until when they count
         self.own, self.shared, self.is_hurried = [], [], False
         # how long the terminal was stopped, which counts nowhere
         self.stopped = 0
@@ -260,7 +260,7 @@ class Run:
     def timeout(self):
         """Returns after how many seconds something has to be done, or None."""
         now = time.monotonic()
-        times = [at - now for at, _ in self.own]
+        times = [at - now for at, _, _ in self.own]
         if not self.screen.is_shown or self.keys and self.keys.is_held():
             times.append(LOOK)
         if not self.terminal.left:
@@ -320,16 +320,21 @@ class Run:
                 self.resize()
             elif it in job.PASSED:
                 self.is_hurried |= is_over
-                self.own.append((now + ALONE, it))
+                self.own.append((now + ALONE, it, None))
 
     def hear_sentinel(self):
         """Notes which signals the group got. Another sentinel takes the place of one that ended."""
         told = os.read(self.sentinel.told, READ)
-        until = time.monotonic() + ALONE
-        self.shared += [(until, it) for it in told]
+        until = time.monotonic() + STUCK
+        self.shared += [(until, it) for it in told if it]
+        self.sentinel.answers += told.count(0)
         if not told:
             self.sentinel.end()
-            self.sentinel = job.Sentinel([self.display.to, self.output, self.events])
+            try:
+                self.sentinel = job.Sentinel([self.display.to, self.output, self.events])
+            except OSError:
+                # what this process gets is passed on then
+                self.sentinel = None
 
     def reap(self):
         """Notes whether the job has ended."""
@@ -344,22 +349,29 @@ class Run:
         for it in (self.output_rest, self.events_rest):
             it.add(0, self.clock(), True)
 
+    def has_answer(self, answer):
+        """Returns whether the sentinel has told what it got, or there is none."""
+        return not self.sentinel or answer is not None and answer <= self.sentinel.answers
+
     def pass_on(self):
         """Passes on the signals that the group didn't get, and stops with the job."""
-        now, waiting, own = time.monotonic(), self.shared, self.own
-        self.own = []
-        for until, number in own:
-            shared = [it for it in waiting if it[1] == number]
+        now, own, self.own = time.monotonic(), self.own, []
+        for until, number, answer in own:
+            shared = [it for it in self.shared if it[1] == number]
             if shared:
-                waiting.remove(shared[0])
-            elif now < until:
-                self.own.append((until, number))
+                self.shared.remove(shared[0])
+            elif now < until and not self.has_answer(answer):
+                self.own.append((until, number, answer))
+                continue
+            elif answer is None and self.sentinel:
+                # what it got before is told ahead of the answer
+                self.own.append((now + STUCK, number, self.sentinel.ask()))
                 continue
             elif self.status is None:
                 os.kill(self.pid, number)
             if number == signals.SIGTSTP:
                 self.stop()
-        self.shared = [it for it in waiting if it[0] > now]
+        self.shared = [it for it in self.shared if it[0] > now]
 
     def drain(self):
         """Passes on what the job writes as it stops."""

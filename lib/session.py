@@ -114,7 +114,7 @@ class SessionRun(Run):
 
     def pass_on(self):
         """Passes all signals on. The job's group is stopped and hung up whole, as by a terminal."""
-        numbers, self.own = [it for _, it in self.own], []
+        numbers, self.own = [it for _, it, _ in self.own], []
         for it in numbers:
             if self.status is None:
                 is_for_all = it in (signals.SIGTSTP, signals.SIGHUP)
