@@ -135,6 +135,9 @@ class Play:
             self.read()
             if time.monotonic() > deadline:
                 print(f"not {what}:", *self.window.lines(), sep="\n")
+                if self.job:
+                    with contextlib.suppress(ProcessLookupError):
+                        os.killpg(self.job, signal.SIGKILL)
                 sys.exit(1)
 
     def read(self):
