@@ -81,8 +81,8 @@ const FRAMES: &[Drawing] = &[
 #[rattlefmt::skip]
 const ASCII: &[Drawing] = &[
     Drawing((40, 3), &[
-        (Show(FIVE), Ok("\r\x1b[2K a\n\x1b[2K ... and 4 more\n\x1b[J\x1b[2A")),
-        (PrintHidden(&[("é", "…")], &[]), Ok("\r\x1b[2K é …\n\x1b[2K\n\x1b[J\x1b[1A")),
+        (Show(FIVE), Ok("\r\x1b[?7l\x1b[2K a\n\x1b[2K ... and 4 more\n\x1b[J\x1b[2A\x1b[?7h")),
+        (PrintHidden(&[("é", "…")], &[]), Ok("\r\x1b[?7l\x1b[2K é …\n\x1b[2K\n\x1b[J\x1b[1A\x1b[?7h")),
     ]),
 ];
 
@@ -127,18 +127,18 @@ const UNSAFE: &[Drawing] = &[
     // bidi controls, separators, and the byte order mark
     Drawing((40, 20), &[
         (Show(&[("\u{61C}\u{200E}\u{200F}\u{202A}\u{202B}\u{202C}\u{202D}\u{202E}", None)]),
-            Ok("\r\x1b[2K \u{FFFD}\u{FFFD}\u{FFFD}\u{FFFD}\u{FFFD}\u{FFFD}\u{FFFD}\u{FFFD}\n\x1b[J\x1b[1A")),
+            Ok("\r\x1b[?7l\x1b[2K \u{FFFD}\u{FFFD}\u{FFFD}\u{FFFD}\u{FFFD}\u{FFFD}\u{FFFD}\u{FFFD}\n\x1b[J\x1b[1A\x1b[?7h")),
         (Show(&[("\u{2066}\u{2067}\u{2068}\u{2069}\u{2028}\u{2029}\u{FEFF}", None)]),
-            Ok("\r\x1b[2K \u{FFFD}\u{FFFD}\u{FFFD}\u{FFFD}\u{FFFD}\u{FFFD}\u{FFFD}\n\x1b[J\x1b[1A")),
-        (PrintHidden(&[("a\u{202E}", "b\u{2066}c")], &[]), Ok("\r\x1b[2K a\u{FFFD} b\u{FFFD}c\n\x1b[J")),
+            Ok("\r\x1b[?7l\x1b[2K \u{FFFD}\u{FFFD}\u{FFFD}\u{FFFD}\u{FFFD}\u{FFFD}\u{FFFD}\n\x1b[J\x1b[1A\x1b[?7h")),
+        (PrintHidden(&[("a\u{202E}", "b\u{2066}c")], &[]), Ok("\r\x1b[?7l\x1b[2K a\u{FFFD} b\u{FFFD}c\n\x1b[J\x1b[?7h")),
     ]),
     Drawing((20, 20), &[
-        (Measure(Kind::Label("i\u{202E}t"), 2, None), Ok("\r\x1b[2K t 2 i\u{FFFD}t [  ===   =]\n\x1b[J\x1b[1A")),
+        (Measure(Kind::Label("i\u{202E}t"), 2, None), Ok("\r\x1b[?7l\x1b[2K t 2 i\u{FFFD}t [  ===   =]\n\x1b[J\x1b[1A\x1b[?7h")),
     ]),
     // the characters before and after each range of them are kept
     Drawing((40, 20), &[
         (Show(&[("\u{61B}\u{61D}\u{200D}\u{2010}\u{2027}\u{202F}\u{2065}\u{206A}\u{FEFE}\u{FF00}", None)]),
-            Ok("\r\x1b[2K \u{61B}\u{61D}\u{200D}\u{2010}\u{2027}\u{202F}\u{2065}\u{206A}\u{FEFE}\u{FF00}\n\x1b[J\x1b[1A")),
+            Ok("\r\x1b[?7l\x1b[2K \u{61B}\u{61D}\u{200D}\u{2010}\u{2027}\u{202F}\u{2065}\u{206A}\u{FEFE}\u{FF00}\n\x1b[J\x1b[1A\x1b[?7h")),
     ]),
     // a row has changed if only its unsafe characters have
     Drawing((40, 20), &[
