@@ -578,7 +578,11 @@ def report(run, status):
     if reason and not run.is_hurried:
         # behind the ^C that the terminal has shown
         feed = "\n" * os.WIFSIGNALED(status)
-        os.write(2, f"{feed}prodash run: {reason}\n".encode())
+        try:
+            os.write(2, f"{feed}prodash run: {reason}\n".encode())
+        except OSError:
+            # as where the terminal is gone
+            pass
         if not status:
             os._exit(1)
     job.end_as(status, run.ends_group)
