@@ -51,7 +51,9 @@ def shell(orders, reports):
     def hang_up(*_):
         """Does what a shell does whose window is closed."""
         if job:
-            os.killpg(job, signal.SIGHUP)
+            with contextlib.suppress(ProcessLookupError):
+                # it may have ended meanwhile
+                os.killpg(job, signal.SIGHUP)
 
     signal.signal(signal.SIGHUP, hang_up)
     for line in orders:
