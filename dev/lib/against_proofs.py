@@ -6,7 +6,6 @@ check, a round, which has one of each function. A function may have no goals whe
 isn't proved, and is then tried in a further round, and at last alone.
 """
 import os
-import shutil
 import subprocess
 import tempfile
 
@@ -24,13 +23,13 @@ ROUND = 60
 class Trial:
     """How the wrong bodies of one crate are tried.
 
-    `end` is told how each ended, and `pool` has the threads that wait for checks.
+    `end` is told how each ended, and `pool` has the threads that wait for checks. The folder
+    `proved` of the room has the right bodies of the crate and of those that it uses.
     """
 
     def __init__(self, crate, room, pool, end):
         self.crate, self.room, self.pool, self.end = crate, room, pool, end
-        # The copy in which the right bodies are proved.
-        self.proved = f"{room}/{crate}"
+        self.proved = f"{room}/proved"
 
     def check(self, folder, *words):
         """Checks the crate of a copy."""
@@ -41,7 +40,6 @@ class Trial:
 
     def prove_right_bodies(self):
         """Proves the crate as it is. Returns None, or what was said last if that fails."""
-        crates.copy([self.crate], self.proved)
         verdict = self.check(self.proved)
         return "\n".join(verdict.lines[-5:]) if verdict.status else None
 
@@ -54,10 +52,6 @@ class Trial:
                 break
             left = still
         list(self.pool.map(self.try_alone, left))
-
-    def clear(self):
-        """Removes the copy."""
-        shutil.rmtree(self.proved)
 
     def verdict_on(self, round_):
         """Checks the functions of a round, in a copy with its wrong bodies."""
