@@ -141,7 +141,8 @@ One that writes without a pause is not waited for either.
   $ kill $(cat yes.pids)
 
 Each signal reaches the job exactly once, whether it is sent to its group or to `prodash run` alone.
-`counts` counts them until SIGUSR2.
+`counts` counts them until SIGUSR2. Between two of a kind for the group is one for `prodash run`: two
+that wait at a time would be one.
 
   $ cat >counts <<'.'
   > import signal
@@ -160,11 +161,11 @@ Each signal reaches the job exactly once, whether it is sent to its group or to 
   > until 1 SIGINT
   > signal INT
   > until 2 SIGINT
-  > keys \x03
-  > until 3 SIGINT
-  > signal TERM
-  > until 4 SIGTERM
   > one TERM
+  > until 3 SIGTERM
+  > keys \x03
+  > until 4 SIGINT
+  > signal TERM
   > until 5 SIGTERM
   > one HUP
   > until 6 SIGHUP
