@@ -18,11 +18,11 @@ On a terminal there are rows, with the size and the colours that the environment
   >     python3 -c 'import pty, sys; pty.spawn(["sh", "-c", sys.argv[1]])' "$1" </dev/null
   > }
   $ on_terminal 'COLUMNS=30 NO_COLOR=1 exec prodash-examples threads' >frames
-  $ head -n 1 frames | tr -d '\r'
-   job 0/4 [>------------------]
+  $ grep -o 'job 0/4 .*-]' frames | head -n 1
+  job 0/4 [>------------------]
   $ on_terminal 'exec prodash-examples threads' >frames
-  $ head -n 1 frames | cut -c 1-9
-   \x1b[1;36mj (esc)
+  $ grep -o '.\[1;36mjob' frames | head -n 1
+  \x1b[1;36mjob (esc)
 
 Each part takes twenty steps of a twentieth of a second, and the job a step for each part. That they
 are done is told as a success, which is green.
