@@ -46,14 +46,14 @@ Nothing waits for a frame that won't come, because the output is broken or the r
 Frames in a burst
 =================
 
-While lines wait for a frame it is drawn early: at one frame a second, 300,000 messages take less
+While lines wait for a frame it is drawn early: at one frame a second, 270,000 messages take less
 than a minute. If each of their frames came a second after the one before, they would take longer.
 
   $ {
   >   echo 'add @a 0 a'
-  >   yes 'info @a 0 one' | head -n 300000
+  >   yes 'info @a 0 one' | head -n 270000
   > } | timeout 60 prodash-live --stdout --fps 1 | uniq -c | sed 's/^ *//'
-  300000  a one
+  270000  a one
 
 After a burst frames are as far apart as before it: at two a second, the last four of these
 messages, each of which is in a frame of its own, take two seconds.

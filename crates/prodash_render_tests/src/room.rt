@@ -79,7 +79,8 @@ fn assert_sleeps<R: Host>(rt: &R, clock: &Arc<DeepClock<R>>, count: u64) {
     assert_soon(rt, &Reaches(&clock.sleeps, count), "sleeps");
 }
 
-/// The event loop, the ticker and the thread that waits for the delay.
+/// The event loop, the ticker and the thread that waits for the delay. Off a terminal the message is
+/// all that is written, whether or not the delay has passed.
 #[test]
 fn threads_of_a_renderer_have_room(rt: HostRuntime) {
     let alloc: Global = rt.alloc();
@@ -92,6 +93,7 @@ fn threads_of_a_renderer_have_room(rt: HostRuntime) {
     };
     let options = Options {
         initial_delay: Some(FRAME),
+        output_is_terminal: false,
         ..options()
     };
     let theirs = share(&rt, &clock);
