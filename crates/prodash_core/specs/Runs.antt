@@ -185,7 +185,7 @@ abbrev pub ErasesOnPages : SessionOptions → List Event → List Reply → Scre
 ErasesOnPages options es rs s s' =
     (page : Terminal)
     → FitsTerminal (new_session options).renderer (renderings_of options es rs) s'.broken page
-    → ShowsErasing s.bytes s'.bytes
+    → ShowsErasing options.draw.whole_messages s.bytes s'.bytes
     (drawn_frames (new_session options).renderer (renderings_of options es rs)) page
 
 -- no line of a defensive renderer's frames has an unsafe character

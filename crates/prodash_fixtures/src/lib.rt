@@ -31,6 +31,8 @@ pub const TERMINAL: Options = Options {
     timestamp: false,
     hide_cursor: false,
     defensive: false,
+    synchronized: false,
+    whole_messages: false,
     bar_columns: None,
     ascii: false,
 };

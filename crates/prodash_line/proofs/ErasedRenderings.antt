@@ -20,7 +20,7 @@ use Rattle.prodash_line.specs.declared.render.line.draw.layout.Layout.TheVariant
 use Rattle.prodash_line.specs.declared.render.line.page.sign.Sign.{Sign}
 use Rattle.prodash_line.specs.declared.render.line.page.sign.Sign.TheVariants.{CarriageReturn, EraseLine, ShowCursor}
 use Rattle.prodash_line.specs.Lines.{Line, columns_of, line_text}
-use Rattle.prodash_line.specs.DrawnLines.{as_drawn, erases_rows, layout_of}
+use Rattle.prodash_line.specs.DrawnLines.{as_drawn, erases_rows, layout_of, prints_whole}
 use Rattle.prodash_line.specs.ProgressRows.{DrawnRow, drawn_row_line, row_lines, fitting_count, fitting, more_line, more_lines}
 use Rattle.prodash_line.specs.MessageLines.{message_lines}
 use Rattle.prodash_line.specs.Frames.{Body, Unchanged, Draws, Closes, Frame, body_lines, frame_signs}
@@ -31,15 +31,17 @@ use Rattle.prodash_line.specs.Renderer.{Renderer, Drawing, has_messages, closes_
 use Rattle.prodash_line.specs.Screens.{ScreenState, WritesFrame}
 use Rattle.prodash_line.specs.Renderings.{Rendering, RendersEach, renderer_after}
 use Rattle.prodash_line.specs.plumbing.RenderedInputs.{RendersAll}
-use Rattle.prodash_line.specs.ErasedPages.{lines_of, HasScalars, ShowsWhole, ErasesPages, ErasesPagesOf, ShowsAnywhere}
+use Rattle.prodash_line.specs.ErasedPages.{cut_lines_of, HasScalars, ShowsWhole, ShowsInOneRow, ShowsBody, ErasesPages, ErasesPagesOf, ShowsAnywhere}
+use Rattle.prodash_line.specs.Terminals.{terminal_after}
 use Rattle.prodash_line.proofs.FittingFrames.{AreWithin, BodyWithin, FrameWithin, frame_cut}
 use Rattle.prodash_line.proofs.Lists.{AllByRecursion-append, AllByRecursion-parts}
 use Rattle.prodash_line.proofs.OrderlyFrames.{orderly_at}
+use Rattle.prodash_line.proofs.OverwriteBytes.{counted}
 use Rattle.prodash_line.proofs.ProperFrames.{IsProperText, IsProperLine, HasProperLines, frame_proper}
 use Rattle.prodash_line.proofs.UnseenSigns.{IsUnseen}
 use Rattle.prodash_line.proofs.Renderings.{each}
 use Rattle.prodash_line.proofs.ErasedPages.{IsLow, EndsUnseen, NoneLeft, ErasesRows, shows_frame}
-use Rattle.prodash_line.proofs.WholeTexts.{shows_whole}
+use Rattle.prodash_line.proofs.WholeTexts.{shows_whole, shows_in_one_row}
 use Rattle.prodash_line.proofs.SafeFrames.{clean_frame}
 
 first_true : (a b : Bool) → (a && b) ≡ true → a ≡ true
@@ -60,7 +62,7 @@ few_by : (n height count : ℕ) → count ≡ min (cond (nat_lt n height) n (hei
     → count + cond (nat_eq (n - count) 0 || nat_lt height 2) 0 1 < height
 few_by n height count e i = grind (arith, nat_tests)
 
-few_lines : (options : Options) (layout : Layout) (midpoint : ℕ) (rows : List DrawnRow) → layout ≡ Erasing options.terminal_dimensions.1 → 0 < options.terminal_dimensions.1
+few_lines : (options : Options) (layout : Layout) (midpoint : ℕ) (rows : List DrawnRow) → layout ≡ Erasing options.terminal_dimensions.1 options.synchronized options.whole_messages → 0 < options.terminal_dimensions.1
     → length (row_lines options midpoint (fitting layout rows) ++ more_lines options (length rows - length (fitting layout rows))) < options.terminal_dimensions.1
 few_lines options layout midpoint rows e i =
     let height = options.terminal_dimensions.1 in
@@ -75,8 +77,8 @@ few_lines options layout midpoint rows e i =
     let few : length fit + cond none 0 1 < height = few_by (length rows) height (length fit) taken i in
     subst (λ (n : ℕ). n < height) (sym (size ∙ ap (λ (n : ℕ). n + length (more_lines options others)) mapped ∙ ap (λ (n : ℕ). length fit + n) more)) few
 
-erasing_layout : (options : Options) → erases_rows options ≡ true → layout_of options ≡ Erasing options.terminal_dimensions.1
-erasing_layout options e = ap (λ (b : Bool). cond b (Erasing options.terminal_dimensions.1) Overwriting) e
+erasing_layout : (options : Options) → erases_rows options ≡ true → layout_of options ≡ Erasing options.terminal_dimensions.1 options.synchronized options.whole_messages
+erasing_layout options e = ap (λ (b : Bool). cond b (Erasing options.terminal_dimensions.1 options.synchronized options.whole_messages) Overwriting) e
 
 pub few_drawn : (r : Renderer) (at : ℕ) (rows : List PathRow) → erases_rows r.options ≡ true → 0 < r.options.terminal_dimensions.1 → length (drawn_lines r at rows) < r.options.terminal_dimensions.1
 few_drawn r at rows e i = few_lines r.options (layout_of r.options) r.midpoint (drawn_rows r at rows) (erasing_layout r.options e) i
@@ -86,6 +88,12 @@ erases_still r (Tick at show (Some seen)) = refl
 erases_still r (Tick at show None) = refl
 erases_still r (Resize at show width rows) = refl
 erases_still r (Quit at) = refl
+
+whole_still : (r : Renderer) (input : Input) → (remember r input).options.whole_messages ≡ r.options.whole_messages
+whole_still r (Tick at show (Some seen)) = refl
+whole_still r (Tick at show None) = refl
+whole_still r (Resize at show width rows) = refl
+whole_still r (Quit at) = refl
 
 -- ---- drawn lines are low
 
@@ -123,9 +131,6 @@ erases false true erasing printed c p e = cc
 erases false false true true c p e = cc
 erases false false true false c p e = cc
 erases false false false printed c p e = cc
-
-counted : (n : ℕ) → 0 < n → not (nat_eq n 0) ≡ true
-counted n h = grind (arith, nat_tests)
 
 none_seen : (r : Renderer) (show : Bool) (rows : List PathRow) (pushed at : ℕ) (messages : List Message) → erases_rows r.options ≡ true
     → action_at r (Tick at show (Some (rows, messages, pushed))) ≡ Leave → message_lines r.options r.origin_widths messages ≡ []
@@ -182,19 +187,28 @@ lines_whole : (columns : ℕ → ℕ) (width : ℕ) (lines : List Line) → AreW
 lines_whole columns width [] h = tt
 lines_whole columns width (line ∷ lines) h = (line_whole columns width line h.0, lines_whole columns width lines h.1)
 
+-- whole messages that have room show in one row
+each_in_one_row : (columns : ℕ → ℕ) (width : ℕ) (lines : List Line) → AllByRecursion (ShowsInOneRow columns width) lines
+each_in_one_row columns width [] = tt
+each_in_one_row columns width (line ∷ lines) = (λ fits. shows_in_one_row columns width (line_text line) fits, each_in_one_row columns width lines)
+
 drawn_within : (width : ℕ) (b : Body) → BodyWithin true width b → AreWithin true width (body_lines [] b)
 drawn_within width Unchanged h = tt
 drawn_within width (Draws lines) h = h
 drawn_within width (Closes ending) h = tt
 
-frame_whole : (columns : ℕ → ℕ) (width : ℕ) (f : Frame) → FrameWithin true width f → AllByRecursion (ShowsWhole columns width) (lines_of f)
-frame_whole columns width f h = AllByRecursion-append (ShowsWhole columns width) f.messages (body_lines [] f.body)
-    (lines_whole columns width f.messages h.messages) (lines_whole columns width (body_lines [] f.body) (drawn_within width f.body h.body))
+cut_whole : (columns : ℕ → ℕ) (width : ℕ) (whole : Bool) (messages : List Line) → (whole ≡ false → AreWithin true width messages) → AllByRecursion (ShowsWhole columns width) (cond whole [] messages)
+cut_whole columns width true messages h = tt
+cut_whole columns width false messages h = lines_whole columns width messages (h refl)
+
+frame_whole : (columns : ℕ → ℕ) (width : ℕ) (f : Frame) → FrameWithin true width f → AllByRecursion (ShowsWhole columns width) (cut_lines_of f)
+frame_whole columns width f h = AllByRecursion-append (ShowsWhole columns width) (cond (prints_whole f.layout) [] f.messages) (body_lines [] f.body)
+    (cut_whole columns width (prints_whole f.layout) f.messages h.messages) (lines_whole columns width (body_lines [] f.body) (drawn_within width f.body h.body))
 
 -- ---- the frame of an input
 
 pub frame_erases : (r : Renderer) (input : Input) → erases_rows r.options ≡ true → 0 < (remember r input).options.terminal_dimensions.1
-    → ErasesRows (remember r input).options.terminal_dimensions.1 (frame_at r input)
+    → ErasesRows (remember r input).options.terminal_dimensions.1 r.options.whole_messages (frame_at r input)
 frame_erases r input c high =
     let r' = remember r input in
     let f = frame_at r input in
@@ -203,7 +217,8 @@ frame_erases r input c high =
     let c' : erases_rows r'.options ≡ true = erases_still r input ∙ c in
     let few = few_drawn r' (moment_of input) (latest_rows r'.last_rows) c' high in
     record {
-      layout = erasing_layout r'.options c';
+      synchronized = r'.options.synchronized;
+      layout = erasing_layout r'.options c' ∙ ap (Erasing height r'.options.synchronized) (whole_still r input);
       opening = (orderly_at r input).opening;
       low = body_low (action_at r input) drawing (ending_of r) height few high;
       ends = body_ends (action_at r input) drawing (ending_of r) (ends (is_cursor_hidden r) r.options.defensive r.options.output_is_terminal c);
@@ -225,9 +240,13 @@ erased_frame r input s s' writes c = record {
   shows = λ columns page has.
       let size = (remember r input).options.terminal_dimensions in
       let high : 0 < size.1 = omega (arith, has.row, has.window, has.height) in
-      shows_frame columns size page r.widths (frame_at r input) has (frame_erases r input c high);
+      let f = frame_at r input in
+      let erases = frame_erases r input c high in
+      subst (λ (whole : Bool). ShowsBody whole columns page f.messages f.body (terminal_after columns (frame_signs r.widths f) page)) (sym (ap prints_whole erases.layout))
+      (shows_frame columns size r.options.whole_messages page r.widths f has erases);
   whole = λ columns.
       frame_whole columns (remember r input).options.terminal_dimensions.0 (frame_at r input) (frame_cut r input (second_true r.options.defensive r.options.output_is_terminal c));
+  one_row = λ columns. each_in_one_row columns (remember r input).options.terminal_dimensions.0 (frame_at r input).messages;
 }
 
 pub erases_pages : (r : Renderer) (input : Input) (s : ScreenState) (result : Result Answer Refusal) (r' : Renderer) (s' : ScreenState) → Renders r input s result r' s' → ErasesPages r input s result s'

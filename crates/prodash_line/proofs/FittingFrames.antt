@@ -1,5 +1,5 @@
 -- The lines of a terminal's frames are no wider than the terminal, since they are cut to its width.
-use Rattle.std.proofs.Common.{◌≡◌, ℕ, ◌-◌, ◌≤◌, nat_eq, nat_lt, Bool, true, false, cond, List, [], ◌∷◌, ◌++◌, length, refl, sym, subst, ◌∙◌, Some, None, Result, Ok, Err}
+use Rattle.std.proofs.Common.{◌≡◌, ℕ, ◌-◌, ◌≤◌, nat_eq, nat_lt, Bool, true, false, cond, List, [], ◌∷◌, ◌++◌, length, refl, sym, ap, subst, ◌∙◌, Option, Some, None, Result, Ok, Err}
 use Rattle.std.specs.Prelude.{⊤, ◌||◌, MatchBool}
 use Rattle.std.specs.Bool.{then_some}
 use Rattle.std.specs.List.{AllByRecursion}
@@ -15,7 +15,7 @@ use Rattle.prodash_line.specs.declared.render.line.draw.action.Action.{Action}
 use Rattle.prodash_line.specs.declared.render.line.draw.action.Action.TheVariants.{Leave, Redraw, Erase, Close}
 use Rattle.prodash_line.specs.declared.render.line.page.sign.Sign.{Sign}
 use Rattle.prodash_line.specs.Lines.{Line, columns_of, cut, in_color}
-use Rattle.prodash_line.specs.DrawnLines.{as_drawn}
+use Rattle.prodash_line.specs.DrawnLines.{limit_of, as_drawn, layout_of, prints_whole}
 use Rattle.prodash_line.specs.ProgressRows.{DrawnRow, row_line, row_lines, more_line, more_lines}
 use Rattle.prodash_line.specs.MessageLines.{message_line, message_lines, origin_width, greatest_width}
 use Rattle.prodash_line.specs.Frames.{Body, Unchanged, Draws, Closes, Frame}
@@ -38,7 +38,7 @@ BodyWithin cut columns (Draws lines) = AreWithin cut columns lines
 BodyWithin cut columns (Closes ending) = ⊤
 
 pub record FrameWithin (cut : Bool) (columns : ℕ) (f : Frame) : Type 0 where
-  pub messages : AreWithin cut columns f.messages
+  pub messages : prints_whole f.layout ≡ false → AreWithin cut columns f.messages
   pub body : BodyWithin cut columns f.body
 
 -- a terminal of these columns, or none
@@ -77,17 +77,23 @@ drawn_lines_within cut columns r at rows h =
     AllByRecursion-append (IsWithin cut columns) (row_lines r.options r.midpoint (fitting_rows r at rows)) (more_lines r.options more)
     (rows_within cut columns r.options r.midpoint (fitting_rows r at rows) h) (more_within cut columns r.options more h)
 
-messages_within : (cut : Bool) (columns : ℕ) (options : Options) (widths : List ℕ) (messages : List Message) → HasWidth cut columns options → AreWithin cut columns (message_lines options widths messages)
-messages_within cut columns options widths [] h = tt
-messages_within cut columns options widths (m ∷ messages) h =
-    let all = widths ++ origin_width options.defensive m.origin ∷ [] in
-    (drawn_within cut columns options (message_line options (greatest_width all) m) h, messages_within cut columns options all messages h)
+-- a message is cut unless messages are written whole
+message_within : (whole : Bool) (limit : Option ℕ) (cuts : Bool) (columns : ℕ) (line : Line) → whole ≡ false → IsWithin cuts columns (cut limit line) → IsWithin cuts columns (cut (cond whole None limit) line)
+message_within true limit cuts columns line e h = cc
+message_within false limit cuts columns line e h = h
 
-printed_within : (cut : Bool) (columns : ℕ) (r : Renderer) (input : Input) → HasWidth cut columns r.options → AreWithin cut columns (printed_at r input)
-printed_within cut columns r (Tick at show (Some seen)) h = messages_within cut columns r.options r.origin_widths seen.1 h
-printed_within cut columns r (Tick at show None) h = tt
-printed_within cut columns r (Resize at show width rows) h = tt
-printed_within cut columns r (Quit at) h = tt
+messages_within : (cut : Bool) (columns : ℕ) (options : Options) (widths : List ℕ) (messages : List Message) → prints_whole (layout_of options) ≡ false → HasWidth cut columns options → AreWithin cut columns (message_lines options widths messages)
+messages_within cut columns options widths [] e h = tt
+messages_within cut columns options widths (m ∷ messages) e h =
+    let all = widths ++ origin_width options.defensive m.origin ∷ [] in
+    let line = message_line options (greatest_width all) m in
+    (message_within (prints_whole (layout_of options)) (limit_of options) cut columns (in_color options.colored line) e (drawn_within cut columns options line h), messages_within cut columns options all messages e h)
+
+printed_within : (cut : Bool) (columns : ℕ) (r : Renderer) (input : Input) → prints_whole (frame_at r input).layout ≡ false → HasWidth cut columns r.options → AreWithin cut columns (printed_at r input)
+printed_within cut columns r (Tick at show (Some seen)) e h = messages_within cut columns r.options r.origin_widths seen.1 e h
+printed_within cut columns r (Tick at show None) e h = tt
+printed_within cut columns r (Resize at show width rows) e h = tt
+printed_within cut columns r (Quit at) e h = tt
 
 body_within : (cut : Bool) (columns : ℕ) (action : Action) (drawing : Drawing) (ending : List Sign) → AreWithin cut columns drawing.lines → BodyWithin cut columns (body_of action drawing ending)
 body_within cut columns Leave drawing ending h = tt
@@ -106,18 +112,18 @@ frame_within : (cut : Bool) (columns height : ℕ) (r : Renderer) (input : Input
 frame_within cut columns height r input k h =
     let r' = remember r input in
     record {
-      messages = printed_within cut columns r input h;
+      messages = λ e. printed_within cut columns r input e h;
       body = body_within cut columns (action_at r input) (drawing_at r input) (ending_of r)
           (drawn_lines_within cut columns r' (moment_of input) (latest_rows r'.last_rows) (size_kept cut columns height r input k h));
     }
 
 -- on a terminal, whatever size is remembered
-printed_cut : (r : Renderer) (input : Input) → r.options.output_is_terminal ≡ true → AreWithin true (remember r input).options.terminal_dimensions.0 (printed_at r input)
-printed_cut r (Tick at show (Some seen)) e =
-    messages_within true r.options.terminal_dimensions.0 r.options r.origin_widths seen.1 (record { terminal = e; width = refl })
-printed_cut r (Tick at show None) e = tt
-printed_cut r (Resize at show width rows) e = tt
-printed_cut r (Quit at) e = tt
+printed_cut : (r : Renderer) (input : Input) → r.options.output_is_terminal ≡ true → prints_whole (frame_at r input).layout ≡ false → AreWithin true (remember r input).options.terminal_dimensions.0 (printed_at r input)
+printed_cut r (Tick at show (Some seen)) e cuts =
+    messages_within true r.options.terminal_dimensions.0 r.options r.origin_widths seen.1 cuts (record { terminal = e; width = refl })
+printed_cut r (Tick at show None) e cuts = tt
+printed_cut r (Resize at show width rows) e cuts = tt
+printed_cut r (Quit at) e cuts = tt
 
 terminal_kept : (r : Renderer) (input : Input) → (remember r input).options.output_is_terminal ≡ r.options.output_is_terminal
 terminal_kept r (Tick at show (Some seen)) = refl
@@ -129,7 +135,7 @@ pub frame_cut : (r : Renderer) (input : Input) → r.options.output_is_terminal 
 frame_cut r input e =
     let r' = remember r input in
     record {
-      messages = printed_cut r input e;
+      messages = λ cuts. printed_cut r input e cuts;
       body = body_within true r'.options.terminal_dimensions.0 (action_at r input) (drawing_at r input) (ending_of r)
           (drawn_lines_within true r'.options.terminal_dimensions.0 r' (moment_of input) (latest_rows r'.last_rows) (record { terminal = terminal_kept r input ∙ e; width = refl }));
     }
@@ -184,7 +190,7 @@ all_fit : (cut : Bool) (columns height : ℕ) (frames : List Frame) → AllByRec
     → AllByRecursion (FrameFits false columns height) frames
 all_fit cut columns height [] h w = tt
 all_fit cut columns height (f ∷ fs) h w =
-    (record { layout = h.0.layout; messages = lines_fit cut columns f.messages h.0.messages w.0.messages; body = body_fits cut columns height f.body h.0.body w.0.body }, all_fit cut columns height fs h.1 w.1)
+    (record { layout = h.0.layout; messages = lines_fit cut columns f.messages h.0.messages (w.0.messages (ap prints_whole h.0.layout)); body = body_fits cut columns height f.body h.0.body w.0.body }, all_fit cut columns height fs h.1 w.1)
 
 -- the lines of each frame fit, whether they are cut or are asked to
 pub frames_fit : (r : Renderer) (xs : List Rendering) (columns height : ℕ) → columns ≡ r.options.terminal_dimensions.0 → AllByRecursion (λ x. KeepsSize columns height x.input) xs

@@ -73,7 +73,7 @@ fit_all layout levels rows shown others e h =
 more_over : (layout : Layout) (widths : List ℕ) (n : ℕ) (lines : List Line) → (layout ≡ Overwriting → lines ≡ [])
     → lines_bytes layout (drop n (covered layout widths)) lines ≡ lines_bytes layout [] lines
 more_over Overwriting widths n lines h = ap (lines_bytes Overwriting (drop n widths)) (h refl) ∙ ap (lines_bytes Overwriting []) (sym (h refl))
-more_over (Erasing height) widths n lines h = ap (λ (w : List ℕ). lines_bytes (Erasing height) w lines) (drop_all n [] (omega arith))
+more_over (Erasing height synchronized whole) widths n lines h = ap (λ (w : List ℕ). lines_bytes (Erasing height synchronized whole) w lines) (drop_all n [] (omega arith))
 
 -- the bytes of both
 pub both_written : (layout : Layout) (options : Options) (levels : Option (ℕ × ℕ)) (widths : List ℕ) (rows shown others : List Row) (lines : List Line) (before first all : List ℕ)

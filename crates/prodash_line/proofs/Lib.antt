@@ -54,3 +54,4 @@ pub mod WorkedWriters
 pub mod WorkedSigns
 pub mod WorkedTerminals
 pub mod WorkedUnits
+pub mod WrappedMessages

@@ -11,7 +11,7 @@ use Rattle.std.proofs.lemmas.List.{take_at, get_or_at, append_cancel_left}
 use Rattle.std.proofs.lemmas.Str.{encode_same, char_from_byte, length-encode, len_utf8_bounds}
 use Rattle.std.proofs.lemmas.Bool.Decides.{nat_tests}
 use Rattle.prodash_line.specs.declared.render.line.page.sign.Sign.{Sign}
-use Rattle.prodash_line.specs.declared.render.line.page.sign.Sign.TheVariants.{Char, LineFeed, CarriageReturn, Up, EraseLine, EraseBelow, HideCursor, ShowCursor, NoWrap, Wrap, Open, Reset}
+use Rattle.prodash_line.specs.declared.render.line.page.sign.Sign.TheVariants.{Char, LineFeed, CarriageReturn, Up, EraseLine, EraseBelow, HideCursor, ShowCursor, NoWrap, Wrap, BeginUpdate, EndUpdate, Open, Reset}
 use Rattle.prodash_line.specs.declared.render.line.page.style.Style.{Style}
 use Rattle.prodash_line.specs.Styles.{style_codes, style_parameters}
 use Rattle.prodash_line.specs.Signs.{spelling_of, spelling, sequence, IsProper}
@@ -26,10 +26,15 @@ abbrev styled : Option Style → Sign
 styled None = Reset
 styled (Some style) = Open style
 
+-- of the signs that set a mode of terminals or reset one, the one whose parameters are so long: for wrapping, the cursor, or an update
+abbrev mode_of : ℕ → Sign → Sign → Sign → Sign
+mode_of n wrap cursor update = cond (n == 2) wrap (cond (n == 3) cursor update)
+
 -- the sign that has this sequence, if one does
 abbrev pub candidate : List ℕ → ℕ → Sign
 candidate parameters final_byte =
-    cond (final_byte == 65) (Up (digits_value 10 parameters)) (cond (final_byte == 75) EraseLine (cond (final_byte == 74) EraseBelow (cond (final_byte == 108) (cond (length parameters == 2) NoWrap HideCursor) (cond (final_byte == 104) (cond (length parameters == 2) Wrap ShowCursor)
+    cond (final_byte == 65) (Up (digits_value 10 parameters)) (cond (final_byte == 75) EraseLine (cond (final_byte == 74) EraseBelow
+    (cond (final_byte == 108) (mode_of (length parameters) NoWrap HideCursor EndUpdate) (cond (final_byte == 104) (mode_of (length parameters) Wrap ShowCursor BeginUpdate)
     (styled (style_of (map (digits_value 10) (parts_of parameters))))))))
 
 -- the sign other than a character that the bytes begin with, if they do
@@ -90,6 +95,8 @@ unspell_other HideCursor x o p = refl
 unspell_other ShowCursor x o p = refl
 unspell_other NoWrap x o p = refl
 unspell_other Wrap x o p = refl
+unspell_other BeginUpdate x o p = refl
+unspell_other EndUpdate x o p = refl
 unspell_other (Open style) x o p = unspell_sequence (style_parameters style) 109 x (style_is_parameters style) refl ∙ ap (λ (codes : List ℕ). styled (style_of codes)) (codes_of_parameters style p) ∙ ap styled (style_of-codes style)
 unspell_other Reset x o p = refl
 

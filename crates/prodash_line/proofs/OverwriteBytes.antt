@@ -1,7 +1,8 @@
 -- Lines over those on screen: their bytes are the spelling of a frame's signs.
-use Rattle.std.proofs.Common.{◌≡◌, ℕ, Bool, suc, ◌+◌, ◌-◌, ◌<◌, ◌≤◌, List, [], ◌∷◌, ◌++◌, length, drop, replicate, refl, sym, ap, ◌∙◌, append_assoc, append-nil, arith, ⊎_elim, get_or, drop-cons, length-drop}
-use Rattle.std.specs.Prelude.{min, max}
+use Rattle.std.proofs.Common.{◌≡◌, ℕ, nat_eq, Bool, true, false, suc, ◌+◌, ◌-◌, ◌<◌, ◌≤◌, List, [], ◌∷◌, ◌++◌, length, drop, replicate, refl, sym, ap, ◌∙◌, append_assoc, append-nil, arith, ⊎_elim, get_or, drop-cons, length-drop}
+use Rattle.std.specs.Prelude.{min, max, not}
 use Rattle.std.proofs.lemmas.Bool.{cases_lt}
+use Rattle.std.proofs.lemmas.Bool.Decides.{nat_tests}
 use Rattle.std.proofs.lemmas.List.{drop-drop, drop_all}
 use Rattle.prodash_base.specs.declared.messages.Message.{Message}
 use Rattle.prodash_line.specs.declared.render.line.page.sign.Sign.{Sign}
@@ -10,12 +11,12 @@ use Rattle.prodash_line.specs.declared.render.line.draw.layout.Layout.{Layout}
 use Rattle.prodash_line.specs.declared.render.line.draw.layout.Layout.TheVariants.{Overwriting, Erasing}
 use Rattle.prodash_line.specs.Signs.{spelling_of, spelling}
 use Rattle.prodash_line.specs.Lines.{Line, spaces, columns_of}
-use Rattle.prodash_line.specs.Frames.{Frame, line_signs, piece_signs, row_start, covered, overwrite_line, first_width, lines_over, overwrite, cursor_up, erased_rows, redraw, body_signs, frame_start, frame_end, frame_signs}
+use Rattle.prodash_line.specs.Frames.{Frame, line_signs, piece_signs, row_start, covered, overwrite_line, first_width, lines_over, overwrite, cursor_up, erased_rows, redraw, body_signs, unwrapped, message_layout, has_lines, messages_start, frame_start, frame_begin, frame_end, frame_signs}
 use Rattle.prodash_line.specs.declared.render.line.draw.input.Options.{Options}
 use Rattle.prodash_line.specs.MessageLines.{drawn_message_line, message_lines, origin_width, widths_of_origins, greatest_width}
 use Rattle.prodash_line.specs.plumbing.Writing.{line_bytes}
 use Rattle.prodash_line.specs.plumbing.OverwriteBytes.{row_end, overwrite_line_bytes, lines_bytes, blank_bytes}
-use Rattle.prodash_line.specs.plumbing.FrameWriting.{action_start, action_end, erasing_end}
+use Rattle.prodash_line.specs.plumbing.FrameWriting.{action_start, action_end, redraw_end}
 use Rattle.prodash_line.specs.Renderer.{Drawing, body_of}
 use Rattle.prodash_line.specs.declared.render.line.draw.action.Action.{Action}
 use Rattle.prodash_line.specs.declared.render.line.draw.action.Action.TheVariants.{Leave, Redraw, Erase, Close}
@@ -100,14 +101,20 @@ redrawn widths lines count most before left a b d n l m ea eb ed =
     ∙ ap (λ t. before ++ t) (sym (redraw_bytes widths lines))
 
 -- and on rows that are erased
-pub redrawn_erasing : (height : ℕ) (widths : List ℕ) (lines : List Line) (count : ℕ) (before a d : List ℕ) → length lines ≡ count
-    → a ≡ before ++ lines_bytes (Erasing height) [] lines → d ≡ a ++ spelling (erasing_end height (length widths) count) → d ≡ before ++ spelling (redraw (Erasing height) widths lines)
-redrawn_erasing height widths lines count before a d n ea ed =
-    let end = erasing_end height (length widths) (length lines) in
-    ed ∙ ap (λ k. a ++ spelling (erasing_end height (length widths) k)) (sym n)
-    ∙ ap (λ t. t ++ spelling end) (ea ∙ ap (λ t. before ++ t) (overwritten (Erasing height) [] lines))
-    ∙ append_assoc before (spelling (lines_over (Erasing height) [] lines)) (spelling end)
-    ∙ ap (λ t. before ++ t) (sym (spelling-append (lines_over (Erasing height) [] lines) end))
+pub redrawn_erasing : (height : ℕ) (synchronized whole : Bool) (widths : List ℕ) (lines : List Line) (count : ℕ) (before a d : List ℕ) → length lines ≡ count
+    → a ≡ before ++ (spelling (unwrapped whole) ++ lines_bytes (Erasing height synchronized whole) [] lines) → d ≡ a ++ spelling (redraw_end height (length widths) count)
+    → d ≡ before ++ spelling (redraw (Erasing height synchronized whole) widths lines)
+redrawn_erasing height synchronized whole widths lines count before a d n ea ed =
+    let layout = Erasing height synchronized whole in
+    let end = redraw_end height (length widths) (length lines) in
+    let drawn = lines_over layout [] lines in
+    let start = unwrapped whole in
+    ed ∙ ap (λ k. a ++ spelling (redraw_end height (length widths) k)) (sym n)
+    ∙ ap (λ t. t ++ spelling end) (ea ∙ ap (λ t. before ++ (spelling start ++ t)) (overwritten layout [] lines))
+    ∙ append_assoc before (spelling start ++ spelling drawn) (spelling end)
+    ∙ ap (λ t. before ++ t) (append_assoc (spelling start) (spelling drawn) (spelling end))
+    ∙ ap (λ t. before ++ (spelling start ++ t)) (sym (spelling-append drawn end))
+    ∙ ap (λ t. before ++ t) (sym (spelling-append start (drawn ++ end)))
 
 -- one erased row more
 pub erased_more : (n : ℕ) (old erased new total : List ℕ) → erased ≡ old ++ spelling_of EraseLine → new ≡ erased ++ spelling_of LineFeed
@@ -171,31 +178,58 @@ length-message_lines options widths (m ∷ messages) = ap suc (length-message_li
 -- where the frame of an action is to erase rows, it begins as its body says
 pub action_starts : (layout : Layout) (action : Action) (drawing : Drawing) (ending : List Sign) → action_start layout action ≡ frame_start layout (body_of action drawing ending)
 action_starts Overwriting action drawing ending = refl
-action_starts (Erasing height) Leave drawing ending = refl
-action_starts (Erasing height) Redraw drawing ending = refl
-action_starts (Erasing height) Erase drawing ending = refl
-action_starts (Erasing height) Close drawing ending = refl
+action_starts (Erasing height synchronized whole) Leave drawing ending = refl
+action_starts (Erasing height synchronized whole) Redraw drawing ending = refl
+action_starts (Erasing height synchronized whole) Erase drawing ending = refl
+action_starts (Erasing height synchronized whole) Close drawing ending = refl
 
 -- and ends as it says
 pub action_ends : (layout : Layout) (action : Action) (drawing : Drawing) (ending : List Sign) → action_end layout action ≡ frame_end layout (body_of action drawing ending)
 action_ends Overwriting action drawing ending = refl
-action_ends (Erasing height) Leave drawing ending = refl
-action_ends (Erasing height) Redraw drawing ending = refl
-action_ends (Erasing height) Erase drawing ending = refl
-action_ends (Erasing height) Close drawing ending = refl
+action_ends (Erasing height synchronized whole) Leave drawing ending = refl
+action_ends (Erasing height synchronized whole) Redraw drawing ending = refl
+action_ends (Erasing height synchronized whole) Erase drawing ending = refl
+action_ends (Erasing height synchronized whole) Close drawing ending = refl
+
+-- a number that isn't 0
+pub counted : (n : ℕ) → 0 < n → not (nat_eq n 0) ≡ true
+counted n h = grind (arith, nat_tests)
+
+-- there are lines if their number isn't 0
+pub has_by_length : (lines : List Line) → not (nat_eq (length lines) 0) ≡ has_lines lines
+has_by_length [] = refl
+has_by_length (line ∷ lines) = counted (length (line ∷ lines)) (omega arith)
+
+-- nothing comes before messages if there are none
+pub no_messages_start : (layout : Layout) → messages_start layout false ≡ []
+no_messages_start Overwriting = refl
+no_messages_start (Erasing height synchronized whole) = refl
+
+-- the beginning of a frame without messages
+pub begins_without : (layout : Layout) (action : Action) (drawing : Drawing) (ending : List Sign)
+    → action_start layout action ≡ frame_begin layout [] (body_of action drawing ending)
+begins_without layout action drawing ending =
+    action_starts layout action drawing ending
+    ∙ sym (append-nil (frame_start layout (body_of action drawing ending)))
+    ∙ ap (λ (signs : List Sign). frame_start layout (body_of action drawing ending) ++ signs) (sym (no_messages_start layout))
+
+-- the bytes of the beginning, and of what comes before messages
+pub begun_with : (opening first second : List Sign) (a b : List ℕ) → a ≡ spelling (opening ++ first) → b ≡ a ++ spelling second → b ≡ spelling (opening ++ (first ++ second))
+begun_with opening first second a b ea eb =
+    eb ∙ ap (λ t. t ++ spelling second) ea ∙ sym (spelling-append (opening ++ first) second) ∙ ap spelling (append_assoc opening first second)
 
 -- what it begins with, the messages over the lines on screen, the body over those that are left, and what it ends with
-pub frame_bytes_of : (f : Frame) (start end : List Sign) (widths left o a b z : List ℕ) (count : ℕ) → o ≡ spelling (f.opening ++ start) → start ≡ frame_start f.layout f.body
-    → end ≡ frame_end f.layout f.body → a ≡ o ++ lines_bytes f.layout (covered f.layout widths) f.messages → left ≡ drop count widths
+pub frame_bytes_of : (f : Frame) (start end : List Sign) (widths left o a b z : List ℕ) (count : ℕ) → o ≡ spelling (f.opening ++ start) → start ≡ frame_begin f.layout f.messages f.body
+    → end ≡ frame_end f.layout f.body → a ≡ o ++ lines_bytes (message_layout f.layout) (covered f.layout widths) f.messages → left ≡ drop count widths
     → count ≡ length f.messages → b ≡ a ++ spelling (body_signs f.layout left f.body) → z ≡ b ++ spelling end → z ≡ spelling (frame_signs widths f)
 frame_bytes_of f start end widths left o a b z count eo es ee ea l n eb ez =
-    let first = frame_start f.layout f.body in
+    let first = frame_begin f.layout f.messages f.body in
     let last = frame_end f.layout f.body in
-    let printed = lines_over f.layout (covered f.layout widths) f.messages in
+    let printed = lines_over (message_layout f.layout) (covered f.layout widths) f.messages in
     let body = body_signs f.layout (drop (length f.messages) widths) f.body in
     let begins : o ≡ spelling f.opening ++ spelling first = eo ∙ ap (λ t. spelling (f.opening ++ t)) es ∙ spelling-append f.opening first in
     ez ∙ ap (λ t. b ++ spelling t) ee
-    ∙ ap (λ t. t ++ spelling last) (eb ∙ ap (λ t. t ++ spelling (body_signs f.layout left f.body)) (ea ∙ ap (λ t. o ++ t) (overwritten f.layout (covered f.layout widths) f.messages) ∙ ap (λ t. t ++ spelling printed) begins)
+    ∙ ap (λ t. t ++ spelling last) (eb ∙ ap (λ t. t ++ spelling (body_signs f.layout left f.body)) (ea ∙ ap (λ t. o ++ t) (overwritten (message_layout f.layout) (covered f.layout widths) f.messages) ∙ ap (λ t. t ++ spelling printed) begins)
     ∙ ap (λ w. ((spelling f.opening ++ spelling first) ++ spelling printed) ++ spelling (body_signs f.layout w f.body)) (l ∙ ap (λ k. drop k widths) n))
     ∙ append_assoc ((spelling f.opening ++ spelling first) ++ spelling printed) (spelling body) (spelling last)
     ∙ append_assoc (spelling f.opening ++ spelling first) (spelling printed) (spelling body ++ spelling last)

@@ -1,18 +1,18 @@
 -- The signs of frames whose lines have proper characters are proper, so their bytes are read as them.
-use Rattle.std.proofs.Common.{◌≡◌, false, ℕ, zero, suc, ◌+◌, ◌-◌, List, [], ◌∷◌, Option, Some, None, length, map, drop, refl, arith}
-use Rattle.std.specs.Prelude.{max, replicate}
+use Rattle.std.proofs.Common.{◌≡◌, true, false, Bool, cond, nat_lt, ℕ, zero, suc, ◌+◌, ◌-◌, List, [], ◌∷◌, Option, Some, None, length, map, drop, refl, arith}
+use Rattle.std.specs.Prelude.{max, replicate, ◌&&◌, not}
 use Rattle.std.specs.List.{AllByRecursion}
 use Rattle.std.specs.Char.{is_control}
 use Rattle.std.proofs.lemmas.Bool.Decides.{nat_tests}
 use Rattle.unicode_width.specs.Width.{char_width}
 use Rattle.prodash_line.specs.declared.render.line.page.sign.Sign.{Sign}
-use Rattle.prodash_line.specs.declared.render.line.page.sign.Sign.TheVariants.{Char, LineFeed, CarriageReturn, EraseLine, EraseBelow, Reset}
+use Rattle.prodash_line.specs.declared.render.line.page.sign.Sign.TheVariants.{Char, LineFeed, CarriageReturn, Up, EraseLine, EraseBelow, NoWrap, Wrap, BeginUpdate, EndUpdate, Reset}
 use Rattle.prodash_line.specs.declared.render.line.draw.layout.Layout.{Layout}
 use Rattle.prodash_line.specs.declared.render.line.draw.layout.Layout.TheVariants.{Overwriting, Erasing}
 use Rattle.prodash_line.specs.declared.render.line.page.style.Style.{Style}
 use Rattle.prodash_line.specs.Signs.{IsProper}
 use Rattle.prodash_line.specs.Lines.{Piece, Line, spaces, columns_of}
-use Rattle.prodash_line.specs.Frames.{styled_signs, piece_signs, line_signs, overwrite_line, first_width, row_start, covered, lines_over, cursor_up, erased_rows, left_over, redraw, frame_start, frame_end, widths_of, Body, Frame, body_lines, body_signs, frame_signs, lines_after, signs_of}
+use Rattle.prodash_line.specs.Frames.{styled_signs, piece_signs, line_signs, overwrite_line, first_width, row_start, covered, lines_over, cursor_up, erased_rows, left_over, redraw, unwrapped, update_start, update_end, erasing_start, message_layout, messages_start, blank_below, has_lines, frame_start, frame_begin, frame_end, widths_of, Body, Frame, body_lines, body_signs, frame_signs, lines_after, signs_of}
 use Rattle.prodash_line.specs.Reading.{AreProper}
 use Rattle.prodash_line.specs.Fits.{IsPlainChar, IsPlainPiece, IsPlain, LineFits, LinesFit, BodyFits, FrameFits}
 use Rattle.prodash_line.proofs.Lists.{AllByRecursion-append, AllByRecursion-replicate, AllByRecursion-map}
@@ -79,7 +79,7 @@ overwrite_line_proper width line h codes = AllByRecursion-append IsProper (line_
 -- of what a row begins with
 row_start_proper : (layout : Layout) → AreProper (row_start layout)
 row_start_proper Overwriting = tt
-row_start_proper (Erasing height) = (tt, tt)
+row_start_proper (Erasing height synchronized whole) = (tt, tt)
 
 -- of lines
 lines_proper : (layout : Layout) (widths : List ℕ) (lines : List Line) → AllByRecursion IsProperLine lines → HaveCodes lines → AreProper (lines_over layout widths lines)
@@ -98,6 +98,11 @@ erased_proper : (n : ℕ) → AreProper (erased_rows n)
 erased_proper zero = tt
 erased_proper (suc n) = (tt, (tt, erased_proper n))
 
+-- of some signs or none
+either_proper : (b : Bool) (signs : List Sign) → AreProper signs → AreProper (cond b signs [])
+either_proper true signs h = h
+either_proper false signs h = tt
+
 -- of lines drawn anew
 redraw_proper : (layout : Layout) (widths : List ℕ) (lines : List Line) → AllByRecursion IsProperLine lines → HaveCodes lines → AreProper (redraw layout widths lines)
 redraw_proper Overwriting widths lines h codes =
@@ -106,10 +111,12 @@ redraw_proper Overwriting widths lines h codes =
     (lines_proper Overwriting widths _ (AllByRecursion-append IsProperLine lines _ h (AllByRecursion-replicate IsProperLine n [] tt))
     (AllByRecursion-append HasCodes lines _ codes (AllByRecursion-replicate HasCodes n [] tt)))
     (cursor_up_proper (max (length lines) (length widths)))
-redraw_proper (Erasing height) widths lines h codes =
+redraw_proper (Erasing height synchronized whole) widths lines h codes =
     let rest = left_over height (length widths) (length lines) in
-    AllByRecursion-append IsProper (lines_over (Erasing height) [] lines) _ (lines_proper (Erasing height) [] lines h codes)
-    (AllByRecursion-append IsProper (erased_rows rest) (EraseBelow ∷ cursor_up (length lines + rest)) (erased_proper rest) (tt, cursor_up_proper (length lines + rest)))
+    let layout = Erasing height synchronized whole in
+    AllByRecursion-append IsProper (unwrapped whole) _ (either_proper whole (NoWrap ∷ []) (tt, tt))
+    (AllByRecursion-append IsProper (lines_over layout [] lines) _ (lines_proper layout [] lines h codes)
+    (AllByRecursion-append IsProper (erased_rows rest) (EraseBelow ∷ cursor_up (length lines + rest)) (erased_proper rest) (tt, cursor_up_proper (length lines + rest))))
 
 -- of signs that end a frame
 ending_proper : (s : Sign) → IsEnding s → IsProper s
@@ -124,25 +131,43 @@ body_proper layout widths (Body.Draws lines) h o = redraw_proper layout widths l
 body_proper layout widths (Body.Closes ending) h o =
     AllByRecursion-append IsProper (redraw layout widths []) ending (redraw_proper layout widths [] tt tt) (AllByRecursion-map IsEnding IsProper ending ending_proper o)
 
+-- of what ends an update
+update_end_proper : (synchronized : Bool) → AreProper (update_end synchronized)
+update_end_proper synchronized = either_proper synchronized (EndUpdate ∷ []) (tt, tt)
+
+-- of what begins a frame that erases rows
+erasing_start_proper : (synchronized whole : Bool) → AreProper (erasing_start synchronized whole)
+erasing_start_proper synchronized whole =
+    AllByRecursion-append IsProper (update_start synchronized) _ (either_proper synchronized (BeginUpdate ∷ []) (tt, tt))
+    (tt, either_proper (not whole) (NoWrap ∷ []) (tt, tt))
+
+-- of what messages begin with
+messages_start_proper : (layout : Layout) (some : Bool) → AreProper (messages_start layout some)
+messages_start_proper Overwriting some = tt
+messages_start_proper (Erasing height synchronized whole) some =
+    either_proper (some && whole) (Wrap ∷ EraseLine ∷ blank_below height)
+    (tt, (tt, either_proper (nat_lt 1 height) (LineFeed ∷ EraseBelow ∷ Up 1 ∷ []) (tt, (tt, ((omega arith, omega arith), tt)))))
+
 -- of what a frame begins with
 start_proper : (layout : Layout) (b : Body) → AreProper (frame_start layout b)
 start_proper Overwriting b = tt
-start_proper (Erasing height) Body.Unchanged = tt
-start_proper (Erasing height) (Body.Draws lines) = (tt, (tt, tt))
-start_proper (Erasing height) (Body.Closes ending) = (tt, (tt, tt))
+start_proper (Erasing height synchronized whole) Body.Unchanged = tt
+start_proper (Erasing height synchronized whole) (Body.Draws lines) = erasing_start_proper synchronized whole
+start_proper (Erasing height synchronized whole) (Body.Closes ending) = erasing_start_proper synchronized whole
 
 -- and of what it ends with
 end_proper : (layout : Layout) (b : Body) → AreProper (frame_end layout b)
 end_proper Overwriting b = tt
-end_proper (Erasing height) Body.Unchanged = tt
-end_proper (Erasing height) (Body.Draws lines) = (tt, tt)
-end_proper (Erasing height) (Body.Closes ending) = (tt, tt)
+end_proper (Erasing height synchronized whole) Body.Unchanged = tt
+end_proper (Erasing height synchronized whole) (Body.Draws lines) = (tt, update_end_proper synchronized)
+end_proper (Erasing height synchronized whole) (Body.Closes ending) = (tt, update_end_proper synchronized)
 
 -- of a frame
 pub frame_proper : (widths : List ℕ) (f : Frame) → HasProperLines f → IsOrderly f → AreProper (frame_signs widths f)
 frame_proper widths f h o = AllByRecursion-append IsProper f.opening _ (AllByRecursion-map IsUnseen IsProper f.opening unseen_proper o.opening)
-    (AllByRecursion-append IsProper (frame_start f.layout f.body) _ (start_proper f.layout f.body)
-    (AllByRecursion-append IsProper (lines_over f.layout (covered f.layout widths) f.messages) _ (lines_proper f.layout (covered f.layout widths) f.messages h.messages o.messages)
+    (AllByRecursion-append IsProper (frame_begin f.layout f.messages f.body) _
+    (AllByRecursion-append IsProper (frame_start f.layout f.body) _ (start_proper f.layout f.body) (messages_start_proper f.layout (has_lines f.messages)))
+    (AllByRecursion-append IsProper (lines_over (message_layout f.layout) (covered f.layout widths) f.messages) _ (lines_proper (message_layout f.layout) (covered f.layout widths) f.messages h.messages o.messages)
     (AllByRecursion-append IsProper (body_signs f.layout (drop (length f.messages) widths) f.body) _
     (body_proper f.layout (drop (length f.messages) widths) f.body h.drawn o.body) (end_proper f.layout f.body))))
 

@@ -19,7 +19,7 @@ erased_row = 27 ∷ 91 ∷ 50 ∷ 75 ∷ 32 ∷ 32 ∷ 32 ∷ 32 ∷ 32 ∷ 32 �
 -- where a row begins among these bytes
 abbrev pub start_of : Layout → ℕ
 start_of Overwriting = 4
-start_of (Erasing height) = 0
+start_of (Erasing height synchronized whole) = 0
 
 -- at most six spaces at the beginning of a row
 pub row_begins : (layout : Layout) (count : ℕ) → count ≤ 6
@@ -32,14 +32,14 @@ row_begins Overwriting (suc (suc (suc (suc zero)))) l = refl
 row_begins Overwriting (suc (suc (suc (suc (suc zero))))) l = refl
 row_begins Overwriting (suc (suc (suc (suc (suc (suc zero)))))) l = refl
 row_begins Overwriting (suc (suc (suc (suc (suc (suc (suc count))))))) l = absurd (omega arith)
-row_begins (Erasing height) zero l = refl
-row_begins (Erasing height) (suc zero) l = refl
-row_begins (Erasing height) (suc (suc zero)) l = refl
-row_begins (Erasing height) (suc (suc (suc zero))) l = refl
-row_begins (Erasing height) (suc (suc (suc (suc zero)))) l = refl
-row_begins (Erasing height) (suc (suc (suc (suc (suc zero))))) l = refl
-row_begins (Erasing height) (suc (suc (suc (suc (suc (suc zero)))))) l = refl
-row_begins (Erasing height) (suc (suc (suc (suc (suc (suc (suc count))))))) l = absurd (omega arith)
+row_begins (Erasing height synchronized whole) zero l = refl
+row_begins (Erasing height synchronized whole) (suc zero) l = refl
+row_begins (Erasing height synchronized whole) (suc (suc zero)) l = refl
+row_begins (Erasing height synchronized whole) (suc (suc (suc zero))) l = refl
+row_begins (Erasing height synchronized whole) (suc (suc (suc (suc zero)))) l = refl
+row_begins (Erasing height synchronized whole) (suc (suc (suc (suc (suc zero))))) l = refl
+row_begins (Erasing height synchronized whole) (suc (suc (suc (suc (suc (suc zero)))))) l = refl
+row_begins (Erasing height synchronized whole) (suc (suc (suc (suc (suc (suc (suc count))))))) l = absurd (omega arith)
 
 -- a line that is begun with as many spaces as a path is long, and goes on with the name of the row
 pub head_begun : {limit : Option ℕ} {layout : Layout} {a b : LineWriter} {n : ℕ} (old : LineWriter) (colored defensive : Bool) (row : PathRow) (to : Option ℕ) (at : Layout) → limit ≡ to → layout ≡ at → n ≡ length row.0

@@ -23,7 +23,7 @@ use Rattle.prodash_line.specs.declared.render.line.draw.action.Action.TheVariant
 use Rattle.prodash_line.specs.declared.render.line.page.sign.Sign.{Sign}
 use Rattle.prodash_line.specs.declared.render.line.page.style.Style.{Style}
 use Rattle.prodash_line.specs.Lines.{Piece, Line, styled, in_color, width_of, columns_of, longest_prefix_of, longest_prefix, cut_to, cut}
-use Rattle.prodash_line.specs.DrawnLines.{safe_char, drawn_chars, limit_of, as_drawn}
+use Rattle.prodash_line.specs.DrawnLines.{safe_char, drawn_chars, limit_of, message_limit_of, as_drawn}
 use Rattle.prodash_line.specs.ProgressRows.{DrawnRow, fraction_of, values_by, numbered_cell, bounded_bar, unbounded_bar, bar, bar_columns, padded, row_line_with, row_lines, ellipsis, more_line, more_lines}
 use Rattle.prodash_line.specs.TextStyles.{row_style}
 use Rattle.prodash_line.specs.MessageLines.{time_of, text_of, message_line, message_lines, origin_width, greatest_width}
@@ -213,11 +213,14 @@ text_clean defensive width m e = (
   ((refl, tt), (drawn_clean defensive m.message e, tt)),
 )
 
+message_clean : (options : Options) (line : Line) → IsSafe line → IsSafe (cut (message_limit_of options) (in_color options.colored line))
+message_clean options line h = cut_clean (message_limit_of options) (in_color options.colored line) (in_color_clean options.colored line h)
+
 messages_clean : (options : Options) (widths : List ℕ) (messages : List Message) → options.defensive ≡ true → AllByRecursion IsSafe (message_lines options widths messages)
 messages_clean options widths [] e = tt
 messages_clean options widths (m ∷ messages) e =
     let all = widths ++ origin_width options.defensive m.origin ∷ [] in (
-      as_drawn_clean options (message_line options (greatest_width all) m) (
+      message_clean options (message_line options (greatest_width all) m) (
         (refl, tt),
         pieces (time_of options.timestamp m) (text_of options.defensive (greatest_width all) m)
             (time_clean options.timestamp m) (text_clean options.defensive (greatest_width all) m e),

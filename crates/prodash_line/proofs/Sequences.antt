@@ -6,7 +6,7 @@ use lib.Pointwise.{pointwise}
 use Rattle.std.proofs.lemmas.Bool.{both_ways}
 use Rattle.std.proofs.lemmas.List.{same_from_push, append-nil}
 use Rattle.std.proofs.lemmas.Str.{char_from_byte}
-use Rattle.prodash_line.specs.declared.render.line.page.sign.Sign.TheVariants.{Char, LineFeed, CarriageReturn, Up, EraseLine, EraseBelow, HideCursor, ShowCursor, NoWrap, Wrap, Open, Reset}
+use Rattle.prodash_line.specs.declared.render.line.page.sign.Sign.TheVariants.{Char, LineFeed, CarriageReturn, Up, EraseLine, EraseBelow, HideCursor, ShowCursor, NoWrap, Wrap, BeginUpdate, EndUpdate, Open, Reset}
 use Rattle.prodash_line.specs.Styles.{style_parameters}
 use Rattle.prodash_line.specs.Signs.{sequence}
 use Rattle.prodash_line.specs.plumbing.SignReading.{MakesNone, NoStyle}
@@ -28,6 +28,8 @@ pub record Refuses (parameters : List ℕ) (final_byte : ℕ) : Type 0 where
   pub show : final_byte ≡ 104 → parameters ≡ 63 ∷ 50 ∷ 53 ∷ [] → ⊥
   pub no_wrap : final_byte ≡ 108 → parameters ≡ 63 ∷ 55 ∷ [] → ⊥
   pub wrap : final_byte ≡ 104 → parameters ≡ 63 ∷ 55 ∷ [] → ⊥
+  pub begin_update : final_byte ≡ 104 → parameters ≡ 63 ∷ 50 ∷ 48 ∷ 50 ∷ 54 ∷ [] → ⊥
+  pub end_update : final_byte ≡ 108 → parameters ≡ 63 ∷ 50 ∷ 48 ∷ 50 ∷ 54 ∷ [] → ⊥
   pub open_style : final_byte ≡ 109 → NoStyle parameters
   pub reset : final_byte ≡ 109 → parameters ≡ 48 ∷ [] → ⊥
 
@@ -45,5 +47,7 @@ makes_none parameters final_byte h HideCursor p e = let s = same_sequence (63 �
 makes_none parameters final_byte h ShowCursor p e = let s = same_sequence (63 ∷ 50 ∷ 53 ∷ []) parameters 104 final_byte e in h.show (sym s.1) (sym s.0)
 makes_none parameters final_byte h NoWrap p e = let s = same_sequence (63 ∷ 55 ∷ []) parameters 108 final_byte e in h.no_wrap (sym s.1) (sym s.0)
 makes_none parameters final_byte h Wrap p e = let s = same_sequence (63 ∷ 55 ∷ []) parameters 104 final_byte e in h.wrap (sym s.1) (sym s.0)
+makes_none parameters final_byte h BeginUpdate p e = let s = same_sequence (63 ∷ 50 ∷ 48 ∷ 50 ∷ 54 ∷ []) parameters 104 final_byte e in h.begin_update (sym s.1) (sym s.0)
+makes_none parameters final_byte h EndUpdate p e = let s = same_sequence (63 ∷ 50 ∷ 48 ∷ 50 ∷ 54 ∷ []) parameters 108 final_byte e in h.end_update (sym s.1) (sym s.0)
 makes_none parameters final_byte h (Open style) p e = let s = same_sequence (style_parameters style) parameters 109 final_byte e in h.open_style (sym s.1) style p s.0
 makes_none parameters final_byte h Reset p e = let s = same_sequence (48 ∷ []) parameters 109 final_byte e in h.reset (sym s.1) (sym s.0)

@@ -9,7 +9,7 @@ use Rattle.std.proofs.lemmas.Fmt.{decimal_is_IsNumeral}
 use Rattle.std.proofs.lemmas.List.{take-append-drop, take_at, get_or_at, length-take-le, append-nil, nil_from_length}
 use Rattle.std.proofs.lemmas.Str.{char_from_byte, encode_same}
 use Rattle.prodash_line.specs.declared.render.line.page.sign.Sign.{Sign}
-use Rattle.prodash_line.specs.declared.render.line.page.sign.Sign.TheVariants.{Char, LineFeed, CarriageReturn, Up, EraseLine, EraseBelow, HideCursor, ShowCursor, NoWrap, Wrap, Open, Reset}
+use Rattle.prodash_line.specs.declared.render.line.page.sign.Sign.TheVariants.{Char, LineFeed, CarriageReturn, Up, EraseLine, EraseBelow, HideCursor, ShowCursor, NoWrap, Wrap, BeginUpdate, EndUpdate, Open, Reset}
 use Rattle.prodash_line.specs.Styles.{style_parameters}
 use Rattle.prodash_line.specs.Signs.{spelling_of, spelling, sequence, IsProper}
 use Rattle.prodash_line.specs.Reading.{AreProper, IsLongestPrefix}
@@ -48,6 +48,8 @@ begins_sequence HideCursor bytes rest p e = sequence_begins (63 ∷ 50 ∷ 53 �
 begins_sequence ShowCursor bytes rest p e = sequence_begins (63 ∷ 50 ∷ 53 ∷ []) 104 ShowCursor bytes rest refl (refl, (refl, (refl, tt))) refl e
 begins_sequence NoWrap bytes rest p e = sequence_begins (63 ∷ 55 ∷ []) 108 NoWrap bytes rest refl (refl, (refl, tt)) refl e
 begins_sequence Wrap bytes rest p e = sequence_begins (63 ∷ 55 ∷ []) 104 Wrap bytes rest refl (refl, (refl, tt)) refl e
+begins_sequence BeginUpdate bytes rest p e = sequence_begins (63 ∷ 50 ∷ 48 ∷ 50 ∷ 54 ∷ []) 104 BeginUpdate bytes rest refl (refl, (refl, (refl, (refl, (refl, tt))))) refl e
+begins_sequence EndUpdate bytes rest p e = sequence_begins (63 ∷ 50 ∷ 48 ∷ 50 ∷ 54 ∷ []) 108 EndUpdate bytes rest refl (refl, (refl, (refl, (refl, (refl, tt))))) refl e
 begins_sequence (Open style) bytes rest p e = sequence_begins (style_parameters style) 109 (Open style) bytes rest refl (style_is_parameters style) refl e
 begins_sequence Reset bytes rest p e = sequence_begins (48 ∷ []) 109 Reset bytes rest refl (refl, tt) refl e
 

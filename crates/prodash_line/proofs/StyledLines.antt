@@ -11,7 +11,7 @@ use Rattle.prodash_line.specs.declared.render.line.page.style.Style.{Style}
 use Rattle.prodash_line.specs.Styles.{style_codes}
 use Rattle.prodash_line.specs.TextStyles.{dimmed, name_style, style_in, row_style}
 use Rattle.prodash_line.specs.Lines.{Piece, Line, styled, shown_style, in_color, width_of, columns_of, longest_prefix, cut_to, cut}
-use Rattle.prodash_line.specs.DrawnLines.{limit_of, as_drawn}
+use Rattle.prodash_line.specs.DrawnLines.{limit_of, message_limit_of, as_drawn}
 use Rattle.prodash_line.specs.ProgressRows.{DrawnRow, values_by, bounded_bar, unbounded_bar, bar, bar_columns, padded, row_line_with, row_lines, more_line, more_lines}
 use Rattle.prodash_line.specs.MessageLines.{time_of, text_of, message_line, drawn_message_line, message_lines, origin_width, greatest_width}
 use Rattle.prodash_line.proofs.Lists.{AllByRecursion-append}
@@ -114,7 +114,9 @@ text_has defensive width m = (some_code _ _, (tt, (some_code _ _, tt)))
 
 message_has : (options : Options) (width : ℕ) (m : Message) → HasCodes (drawn_message_line options width m)
 message_has options width m =
-    drawn_has options (message_line options width m) (tt, AllByRecursion-append (λ q. HasCode q.style) (time_of options.timestamp m) (text_of options.defensive width m) (time_has options.timestamp m) (text_has options.defensive width m))
+    let line = message_line options width m in
+    cut_has (message_limit_of options) (in_color options.colored line)
+    (in_color_has options.colored line (tt, AllByRecursion-append (λ q. HasCode q.style) (time_of options.timestamp m) (text_of options.defensive width m) (time_has options.timestamp m) (text_has options.defensive width m)))
 
 pub messages_have : (options : Options) (widths : List ℕ) (messages : List Message) → HaveCodes (message_lines options widths messages)
 messages_have options widths [] = tt

@@ -1,9 +1,9 @@
 -- A text that has room shows whole.
-use Rattle.std.proofs.Common.{◌≡◌, ℕ, zero, suc, ◌+◌, ◌-◌, ◌≤◌, Bool, true, false, cond, List, [], ◌∷◌, ◌++◌, length, set, get_or, refl, sym, ap, ◌∙◌, append_assoc, length-append, arith}
+use Rattle.std.proofs.Common.{◌≡◌, ℕ, zero, suc, ◌+◌, ◌-◌, ◌≤◌, Bool, true, false, cond, nat_lt, List, [], ◌∷◌, ◌++◌, length, set, get_or, refl, sym, ap, ◌∙◌, append_assoc, length-append, arith}
 use Rattle.std.specs.Prelude.{min}
 use Rattle.std.proofs.lemmas.Bool.{le-ltb}
 use Rattle.std.proofs.lemmas.List.{append-nil, get_or_at, set_at, get_or-drop, drop_at, length_push}
-use Rattle.prodash_line.specs.CellRows.{Cell, Holds, Half, CellRow, blank_cell, blank_cells, is_half, blank_if_half, write, join, joined_by, put, typed, played, text_columns, joined_with, joined, cells_with, shown}
+use Rattle.prodash_line.specs.CellRows.{Cell, Holds, Half, CellRow, blank_cell, blank_cells, blank_row, is_half, blank_if_half, write, join, joined_by, put, typed, played, wrapped, wrapped_from, text_columns, joined_with, joined, cells_with, shown}
 
 -- these cells, then blank ones, with the cursor between them
 abbrev filled : List Cell → ℕ → CellRow
@@ -160,3 +160,32 @@ show_by columns width (suc (suc n)) c text shows fits =
 pub shows_whole : (columns : ℕ → ℕ) (width : ℕ) (text : List ℕ) → Shows columns width text
 shows_whole columns width [] fits = ap blank_cells (let f : width ≡ width - 0 = omega arith in f)
 shows_whole columns width (c ∷ text) fits = show_by columns width (columns c) c text (shows_whole columns width text) fits
+
+-- ---- texts whose characters wrap, but have room in one row
+
+column_of : (b : Bool) (x y : CellRow) → b ≡ false → (cond b x y).column ≡ y.column
+column_of true x y e = cc
+column_of false x y e = refl
+
+-- a character that has room takes its columns
+put_moves : (n width c : ℕ) (row : CellRow) → row.column + min n 2 ≤ width → (put n width c row).column ≡ row.column + min n 2
+put_moves zero width c row fits = omega arith
+put_moves (suc zero) width c row fits = omega arith
+put_moves (suc (suc n)) width c row fits =
+    column_of (nat_lt width (row.column + 2)) _ _ (le-ltb width (row.column + 2) (omega arith))
+    ∙ (let f : row.column + 2 ≡ row.column + min (suc (suc n)) 2 = omega arith in f)
+
+in_one_row : (columns : ℕ → ℕ) (width : ℕ) (text : List ℕ) (row : CellRow) → row.column + text_columns columns text ≤ width
+    → wrapped_from columns width text row ≡ (typed columns width text row).cells ∷ []
+in_one_row columns width [] row fits = refl
+in_one_row columns width (c ∷ text) row fits =
+    let moves : (put (columns c) width c row).column ≡ row.column + min (columns c) 2 = put_moves (columns c) width c row (omega arith) in
+    ap (λ (b : Bool). cond b (row.cells ∷ wrapped_from columns width text (put (columns c) width c (blank_row width))) (wrapped_from columns width text (put (columns c) width c row)))
+    (le-ltb width (row.column + min (columns c) 2) (omega arith))
+    ∙ in_one_row columns width text (put (columns c) width c row) (omega arith)
+
+pub shows_in_one_row : (columns : ℕ → ℕ) (width : ℕ) (text : List ℕ) → text_columns columns text ≤ width
+    → wrapped columns width text ≡ (shown columns text ++ blank_cells (width - text_columns columns text)) ∷ []
+shows_in_one_row columns width text fits =
+    in_one_row columns width text (blank_row width) (omega arith)
+    ∙ ap (λ (cells : List Cell). cells ∷ []) (shows_whole columns width text fits)

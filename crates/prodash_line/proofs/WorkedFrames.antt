@@ -10,7 +10,7 @@ use Rattle.prodash_base.specs.Messages.{message_of}
 use Rattle.prodash_base.specs.declared.messages.Message.{Message}
 use Rattle.prodash_base.specs.declared.messages.MessageLevel.TheVariants.{Info, Failure}
 use Rattle.prodash_line.specs.declared.render.line.page.sign.Sign.{Sign}
-use Rattle.prodash_line.specs.declared.render.line.page.sign.Sign.TheVariants.{Char, LineFeed, CarriageReturn, Up, EraseLine, EraseBelow, NoWrap, Wrap, HideCursor, ShowCursor, Open, Reset}
+use Rattle.prodash_line.specs.declared.render.line.page.sign.Sign.TheVariants.{Char, LineFeed, CarriageReturn, Up, EraseLine, EraseBelow, NoWrap, Wrap, BeginUpdate, EndUpdate, HideCursor, ShowCursor, Open, Reset}
 use Rattle.prodash_line.specs.declared.render.line.draw.input.Options.{Options}
 use Rattle.prodash_line.specs.declared.render.line.draw.input.Input.{Input}
 use Rattle.prodash_line.specs.declared.render.line.draw.input.Input.TheVariants.{Tick, Resize, Quit}
@@ -18,7 +18,7 @@ use Rattle.prodash_base.specs.declared.refusal.Refusal.TheVariants.{Closed}
 use Rattle.prodash_line.specs.Frames.{frame_signs}
 use Rattle.prodash_line.specs.Renderer.{Renderer, default_options, new_renderer, frame_at, next_renderer}
 use Rattle.prodash_line.specs.Fits.{FrameFits}
-use Rattle.prodash_line.specs.Lines.{line_text}
+use Rattle.prodash_line.specs.Lines.{line_text, longest_prefix}
 use Rattle.prodash_line.specs.TextStyles.{of_color, dimmed, row_style}
 use Rattle.prodash_line.specs.declared.render.line.page.style.Color.TheVariants.{Red, Green, Yellow, Cyan, White}
 use Rattle.prodash_line.specs.declared.render.line.page.style.Color.{Color}
@@ -206,13 +206,13 @@ unfolding chars str_width step past_emoji
 leaves_unchanged = refl
 
 -- in a window of four rows three rows fit; of four there are two, and the line that counts the others; in one of a single row there is none
-pub three_fit : fitting_count (Erasing 4) 3 ≡ 3
+pub three_fit : fitting_count (Erasing 4 false false) 3 ≡ 3
 three_fit = refl
 
-pub two_of_four : fitting_count (Erasing 4) 4 ≡ 2
+pub two_of_four : fitting_count (Erasing 4 false false) 4 ≡ 2
 two_of_four = refl
 
-pub none_fits : fitting_count (Erasing 1) 1 ≡ 0
+pub none_fits : fitting_count (Erasing 1 false false) 1 ≡ 0
 none_fits = refl
 
 pub others : line_text (more_line false 2) ≡ 32 ∷ 8230 ∷ codes " and 2 more"
@@ -233,6 +233,22 @@ no_row_for_others = refl
 pub closes_erased : signs_at (next_renderer defensive task_row) (Quit 1) ≡ CarriageReturn ∷ NoWrap ∷ EraseLine ∷ LineFeed ∷ EraseBelow ∷ Up 1 ∷ Wrap ∷ []
 unfolding chars str_width step past_emoji
 closes_erased = refl
+
+-- a synchronized update, and a message that isn't cut on four columns; the row is
+abbrev whole : Renderer
+whole = new_renderer (record options { defensive = true; synchronized = true; whole_messages = true; terminal_dimensions = (4, 3) }) false
+
+pub whole_message : signs_at whole (tick 1 true (row (codes "task") ∷ []) (message_of 0 Info (codes "b") (codes "xyz") ∷ []))
+    ≡ BeginUpdate ∷ CarriageReturn ∷ Wrap ∷ EraseLine ∷ LineFeed ∷ EraseBelow ∷ Up 1 ∷ map Char (codes " b xyz")
+    ++ LineFeed ∷ NoWrap ∷ EraseLine ∷ map Char (codes " tas") ++ LineFeed ∷ EraseBelow ∷ Up 1 ∷ Wrap ∷ EndUpdate ∷ []
+unfolding chars str_width step past_emoji longest_prefix
+whole_message = refl
+
+-- in a window of one row nothing is erased below the cursor's row, and no row is drawn
+pub one_row : signs_at (new_renderer (record options { defensive = true; whole_messages = true; terminal_dimensions = (4, 1) }) false) (tick 1 true (row (codes "task") ∷ []) (message_of 0 Info (codes "b") (codes "xyz") ∷ []))
+    ≡ CarriageReturn ∷ Wrap ∷ EraseLine ∷ map Char (codes " b xyz") ++ LineFeed ∷ NoWrap ∷ EraseBelow ∷ Wrap ∷ []
+unfolding chars str_width step past_emoji longest_prefix
+one_row = refl
 
 -- without a terminal nothing is erased
 pub erases_terminals : signs_at (new_renderer (record options { defensive = true; output_is_terminal = false }) false) (tick 0 true [] (message_of 0 Info (codes "b") (codes "x") ∷ []))

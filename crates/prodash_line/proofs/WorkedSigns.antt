@@ -2,7 +2,7 @@
 use Rattle.std.proofs.Common.{◌≡◌, true, false, [], ◌∷◌, Some, None, refl}
 use Rattle.std.specs.Prelude.{codes}
 use Rattle.std.specs.Fmt.{digits}
-use Rattle.prodash_line.specs.declared.render.line.page.sign.Sign.TheVariants.{Up, EraseLine, HideCursor, ShowCursor, NoWrap, Wrap, Open, Reset}
+use Rattle.prodash_line.specs.declared.render.line.page.sign.Sign.TheVariants.{Up, EraseLine, HideCursor, ShowCursor, NoWrap, Wrap, BeginUpdate, EndUpdate, Open, Reset}
 use Rattle.prodash_line.specs.declared.render.line.page.style.Color.TheVariants.{White, Cyan}
 use Rattle.prodash_line.specs.declared.render.line.page.style.Style.{Style}
 use Rattle.prodash_line.specs.Signs.{spelling, spelling_of, IsProper}
@@ -49,6 +49,13 @@ no_wrap = refl
 
 pub wrap : spelling_of Wrap ≡ 27 ∷ 91 ∷ codes "?7h"
 wrap = refl
+
+-- a synchronized update
+pub begin_update : spelling_of BeginUpdate ≡ 27 ∷ 91 ∷ codes "?2026h"
+begin_update = refl
+
+pub end_update : spelling_of EndUpdate ≡ 27 ∷ 91 ∷ codes "?2026l"
+end_update = refl
 
 -- a row is erased, and the cursor goes up by ten
 pub erased_above : spelling (EraseLine ∷ Up 10 ∷ []) ≡ 27 ∷ 91 ∷ 50 ∷ 75 ∷ 27 ∷ 91 ∷ codes "10A"

@@ -1,4 +1,4 @@
--- A row of cells on a terminal, for any widths of characters: what writing characters of no, one or two columns into it leaves.
+-- Rows of cells on a terminal, for any widths of characters: what writing characters of no, one or two columns into them leaves.
 use Rattle.std.specs.Prelude.{ℕ, zero, suc, ◌+◌, ◌-◌, min, Bool, true, false, List, [], ◌∷◌, ◌++◌, replicate, slice_index_or, slice_set, nat_lt, if◌then◌else◌, Option, Some, None}
 use Rattle.unicode_width.specs.Width.{char_width}
 
@@ -77,6 +77,18 @@ typed columns width (c ∷ text) row = typed columns width text (put (columns c)
 -- what a text leaves in a blank row
 abbrev pub played : (ℕ → ℕ) → ℕ → List ℕ → List Cell
 played columns width text = (typed columns width text (blank_row width)).cells
+
+-- the rows that a text leaves from this row on, if characters that have no room go to the next row, and the rows below are blank
+abbrev pub wrapped_from : (ℕ → ℕ) → ℕ → List ℕ → CellRow → List (List Cell)
+wrapped_from columns width [] row = row.cells ∷ []
+wrapped_from columns width (c ∷ text) row =
+    if nat_lt width (row.column + min (columns c) 2)
+    then row.cells ∷ wrapped_from columns width text (put (columns c) width c (blank_row width))
+    else wrapped_from columns width text (put (columns c) width c row)
+
+-- the rows that it leaves from a blank row on
+abbrev pub wrapped : (ℕ → ℕ) → ℕ → List ℕ → List (List Cell)
+wrapped columns width text = wrapped_from columns width text (blank_row width)
 
 -- how many columns a text has
 abbrev pub text_columns : (ℕ → ℕ) → List ℕ → ℕ

@@ -1,6 +1,6 @@
 -- Texts and lines as they are drawn: without unsafe characters if the renderer is defensive, in colour or not, and cut at the width of a
 -- terminal; and how frames are laid out.
-use Rattle.std.specs.Prelude.{ℕ, Bool, ◌&&◌, List, map, chars, Option, if◌then◌else◌}
+use Rattle.std.specs.Prelude.{ℕ, Bool, false, ◌&&◌, List, map, chars, Option, None, if◌then◌else◌}
 use Rattle.std.specs.Bool.{then_some}
 use Rattle.prodash_line.specs.declared.render.line.draw.input.Options.{Options}
 use Rattle.prodash_line.specs.UnsafeCharacters.{is_unsafe}
@@ -30,4 +30,13 @@ erases_rows options = options.defensive && options.output_is_terminal
 
 -- how the frames of a renderer with these options are laid out
 abbrev pub layout_of : Options → Layout
-layout_of options = if erases_rows options then Erasing options.terminal_dimensions.1 else Overwriting
+layout_of options = if erases_rows options then Erasing options.terminal_dimensions.1 options.synchronized options.whole_messages else Overwriting
+
+-- are messages written whole, with wrapping?
+abbrev pub prints_whole : Layout → Bool
+prints_whole Overwriting = false
+prints_whole (Erasing height synchronized whole) = whole
+
+-- the columns to which the lines of messages are cut: none, if they are written whole
+abbrev pub message_limit_of : Options → Option ℕ
+message_limit_of options = if prints_whole (layout_of options) then None else limit_of options

@@ -1,17 +1,17 @@
 -- What a page shows after a frame that erases the rows that it writes on, whatever the page showed before, and however many columns its terminal
 -- gives each character.
-use Rattle.std.specs.Prelude.{◌≡◌, ◌<◌, Result, OnOk, ◌≤◌, ◌^◌, ◌⊎◌, ℕ, ◌+◌, ◌-◌, Bool, true, false, List, [], ◌++◌, length, map, take, replicate}
+use Rattle.std.specs.Prelude.{◌≡◌, ◌<◌, Result, OnOk, ◌≤◌, ◌^◌, ◌⊎◌, ℕ, ◌+◌, ◌-◌, Bool, true, false, if◌then◌else◌, List, [], ◌∷◌, ◌++◌, length, map, take, replicate}
 use Rattle.std.specs.Char.{IsScalar}
-use Rattle.std.specs.List.{AllByRecursion}
+use Rattle.std.specs.List.{AllByRecursion, flat_map}
 use Rattle.prodash_base.specs.declared.refusal.Refusal.{Refusal}
 use Rattle.prodash_line.specs.declared.render.line.draw.input.Answer.{Answer}
 use Rattle.prodash_line.specs.declared.render.line.draw.input.Input.{Input}
 use Rattle.prodash_line.specs.declared.render.line.page.sign.Sign.{Sign}
 use Rattle.prodash_line.specs.Signs.{spelling}
 use Rattle.prodash_line.specs.Lines.{Line, columns_of, line_text}
-use Rattle.prodash_line.specs.DrawnLines.{erases_rows}
+use Rattle.prodash_line.specs.DrawnLines.{erases_rows, prints_whole}
 use Rattle.prodash_line.specs.Frames.{Body, Unchanged, Draws, Closes, Frame, body_lines, signs_of, all_lines_after, printed_lines}
-use Rattle.prodash_line.specs.CellRows.{Cell, blank_cells, played, text_columns, shown}
+use Rattle.prodash_line.specs.CellRows.{Cell, blank_cells, played, wrapped, text_columns, shown}
 use Rattle.prodash_line.specs.Terminals.{Terminal, terminal_after}
 use Rattle.prodash_line.specs.Reading.{AreProper}
 use Rattle.prodash_line.specs.Renderer.{Renderer, remember, frame_at}
@@ -30,27 +30,41 @@ pub record HasSize (size : ℕ × ℕ) (page : Terminal) : Type 0 where
 abbrev pub line_row : (ℕ → ℕ) → ℕ → Line → List Cell
 line_row columns width line = played columns width (line_text line)
 
--- The rows above the cursor's are as they were. From the cursor's on are the rows of the messages, then those of these lines, then blank rows,
--- and there are no fewer rows than before. The cursor is at the beginning of the row below the messages, inside the window, and characters wrap.
-pub record ShowsErased (columns : ℕ → ℕ) (page : Terminal) (messages lines : List Line) (after : Terminal) : Type 0 where
+-- the rows of lines, one for each
+abbrev pub line_rows : (ℕ → ℕ) → ℕ → List Line → List (List Cell)
+line_rows columns width lines = map (line_row columns width) lines
+
+-- the rows of messages: all that the text of each leaves, if they are written whole, and else one for each
+abbrev pub message_rows : Bool → (ℕ → ℕ) → ℕ → List Line → List (List Cell)
+message_rows true columns width messages = flat_map (λ line. wrapped columns width (line_text line)) messages
+message_rows false columns width messages = line_rows columns width messages
+
+-- The rows above the cursor's are as they were. From the cursor's on are the rows of the messages, whole or not, then those of these lines, then
+-- blank rows, and there are no fewer rows than before. The cursor is at the beginning of the row below the messages, inside the window, and
+-- characters wrap.
+pub record ShowsErased (whole : Bool) (columns : ℕ → ℕ) (page : Terminal) (messages lines : List Line) (after : Terminal) : Type 0 where
   pub blanks : ℕ
-  pub rows : after.rows ≡ take page.row page.rows ++ (map (line_row columns page.width) (messages ++ lines) ++ replicate blanks (blank_cells page.width))
+  pub rows : after.rows ≡ take page.row page.rows ++ (message_rows whole columns page.width messages ++ (line_rows columns page.width lines ++ replicate blanks (blank_cells page.width)))
   pub kept : length page.rows ≤ length after.rows
-  pub row : after.row ≡ page.row + length messages
+  pub row : after.row ≡ page.row + length (message_rows whole columns page.width messages)
   pub column : after.column ≡ 0
   pub size : HasSize (page.width, page.height) after
   pub wraps : after.wraps ≡ true
 
 -- A frame with this body: one that leaves the lines on screen prints no message and leaves the page. Any other shows its messages and the
 -- lines that it draws.
-abbrev pub ShowsBody : (ℕ → ℕ) → Terminal → List Line → Body → Terminal → Type 0
-ShowsBody columns page messages Unchanged after = (messages ≡ []) × (after ≡ page)
-ShowsBody columns page messages (Draws lines) after = ShowsErased columns page messages lines after
-ShowsBody columns page messages (Closes ending) after = ShowsErased columns page messages [] after
+abbrev pub ShowsBody : Bool → (ℕ → ℕ) → Terminal → List Line → Body → Terminal → Type 0
+ShowsBody whole columns page messages Unchanged after = (messages ≡ []) × (after ≡ page)
+ShowsBody whole columns page messages (Draws lines) after = ShowsErased whole columns page messages lines after
+ShowsBody whole columns page messages (Closes ending) after = ShowsErased whole columns page messages [] after
 
 -- the lines that a frame prints and draws
 abbrev pub lines_of : Frame → List Line
 lines_of f = f.messages ++ body_lines [] f.body
+
+-- those of them that are cut: messages that are written whole are not
+abbrev pub cut_lines_of : Frame → List Line
+cut_lines_of f = (if prints_whole f.layout then [] else f.messages) ++ body_lines [] f.body
 
 -- the characters of the lines are scalar values, as those of every `str` are
 abbrev pub HasScalars : Frame → Type 0
@@ -62,15 +76,22 @@ ShowsWhole columns width line =
     let n = text_columns columns (line_text line) in
     n ≤ columns_of line → line_row columns width line ≡ shown columns (line_text line) ++ blank_cells (width - n)
 
+-- A whole message for which the terminal has enough columns shows in one row: each character in its cells, and blanks behind the last.
+abbrev pub ShowsInOneRow : (ℕ → ℕ) → ℕ → Line → Type 0
+ShowsInOneRow columns width line =
+    let n = text_columns columns (line_text line) in
+    n ≤ width → wrapped columns width (line_text line) ≡ (shown columns (line_text line) ++ blank_cells (width - n)) ∷ []
+
 -- What is written is the spelling of signs, which are proper if the lines' characters are scalar values, so that reading it gives them. However
--- many columns a terminal gives each character, every page of this size shows the frame after the signs, and lines that are no wider than the
--- renderer took them for show whole.
+-- many columns a terminal gives each character, every page of this size shows the frame after the signs, and cut lines that are no wider than
+-- the renderer took them for show whole, as whole messages do in one row that has room.
 pub record ShowsAnywhere (size : ℕ × ℕ) (f : Frame) (old new : List ℕ) : Type 0 where
   pub signs : List Sign
   pub written : new ≡ old ++ spelling signs
   pub proper : HasScalars f → AreProper signs
-  pub shows : (columns : ℕ → ℕ) (page : Terminal) → HasSize size page → ShowsBody columns page f.messages f.body (terminal_after columns signs page)
-  pub whole : (columns : ℕ → ℕ) → AllByRecursion (ShowsWhole columns size.0) (lines_of f)
+  pub shows : (columns : ℕ → ℕ) (page : Terminal) → HasSize size page → ShowsBody (prints_whole f.layout) columns page f.messages f.body (terminal_after columns signs page)
+  pub whole : (columns : ℕ → ℕ) → AllByRecursion (ShowsWhole columns size.0) (cut_lines_of f)
+  pub one_row : (columns : ℕ → ℕ) → AllByRecursion (ShowsInOneRow columns size.0) f.messages
 
 -- On success, if the renderer erases rows, every page of the terminal's size shows its frame of an input after what was written, whatever the
 -- page showed before.
@@ -89,8 +110,9 @@ abbrev pub ErasesPagesOf : Renderer → ScreenState → Rendering → ScreenStat
 ErasesPagesOf r s x s' = ErasesPages r x.input s x.result s'
 
 -- what a page shows since it was as given: it is as it was, or it shows these messages and lines
-abbrev pub ShowsSince : (ℕ → ℕ) → Terminal → List Line → List Line → Terminal → Type 0
-ShowsSince columns page messages lines after = ((messages ≡ []) × (lines ≡ []) × (after ≡ page)) ⊎ ShowsErased columns page messages lines after
+abbrev pub ShowsSince : Bool → (ℕ → ℕ) → Terminal → List Line → List Line → Terminal → Type 0
+ShowsSince whole columns page messages lines after =
+    ((messages ≡ []) × (lines ≡ []) × (after ≡ page)) ⊎ ShowsErased whole columns page messages lines after
 
 -- The renderer erases rows; the page is of its terminal's size, which no input changes; and the screen isn't broken afterwards.
 pub record FitsTerminal (r : Renderer) (xs : List Rendering) (broken : Bool) (page : Terminal) : Type 0 where
@@ -101,9 +123,9 @@ pub record FitsTerminal (r : Renderer) (xs : List Rendering) (broken : Bool) (pa
 
 -- What is written is the spelling of the frames' signs, which are proper if the lines' characters are scalar values, so that reading it gives
 -- them. However many columns a terminal gives each character, after each prefix of the frames the page is as it was, if each left it; or it shows
--- the rows above the cursor's as they were, then the messages printed so far, then the lines drawn last, then blank rows.
-pub record ShowsErasing (old new : List ℕ) (frames : List Frame) (page : Terminal) : Type 0 where
+-- the rows above the cursor's as they were, then the messages printed so far, whole or not, then the lines drawn last, then blank rows.
+pub record ShowsErasing (whole : Bool) (old new : List ℕ) (frames : List Frame) (page : Terminal) : Type 0 where
   pub written : new ≡ old ++ spelling (signs_of [] frames)
   pub proper : AllByRecursion HasScalars frames → AreProper (signs_of [] frames)
   pub prefix : (j : ℕ) → (rest : List Sign) × (signs_of [] frames ≡ signs_of [] (take j frames) ++ rest)
-  pub shows : (columns : ℕ → ℕ) (j : ℕ) → ShowsSince columns page (printed_lines (take j frames)) (all_lines_after [] (take j frames)) (terminal_after columns (signs_of [] (take j frames)) page)
+  pub shows : (columns : ℕ → ℕ) (j : ℕ) → ShowsSince whole columns page (printed_lines (take j frames)) (all_lines_after [] (take j frames)) (terminal_after columns (signs_of [] (take j frames)) page)

@@ -4,8 +4,8 @@ use Rattle.prodash_base.specs.Moments.{time_text}
 use Rattle.prodash_base.specs.Rings.{keep_last}
 use Rattle.prodash_base.specs.declared.messages.Message.{Message}
 use Rattle.prodash_line.specs.declared.render.line.draw.input.Options.{Options}
-use Rattle.prodash_line.specs.Lines.{Line, piece, styled, spaces, columns_of}
-use Rattle.prodash_line.specs.DrawnLines.{drawn_chars, as_drawn}
+use Rattle.prodash_line.specs.Lines.{Line, piece, styled, spaces, columns_of, cut, in_color}
+use Rattle.prodash_line.specs.DrawnLines.{drawn_chars, message_limit_of}
 use Rattle.prodash_line.specs.TextStyles.{origin_style, message_style, time_style}
 
 -- the width of an origin
@@ -32,9 +32,9 @@ text_of defensive width m =
 abbrev pub message_line : Options → ℕ → Message → Line
 message_line options width m = spaces 1 ∷ time_of options.timestamp m ++ text_of options.defensive width m
 
--- the line of a message as it is drawn
+-- the line of a message as it is drawn: cut, unless messages are written whole
 abbrev pub drawn_message_line : Options → ℕ → Message → Line
-drawn_message_line options width m = as_drawn options (message_line options width m)
+drawn_message_line options width m = cut (message_limit_of options) (in_color options.colored (message_line options width m))
 
 -- the greatest of some widths, 0 if there are none
 abbrev pub greatest_width : List ℕ → ℕ

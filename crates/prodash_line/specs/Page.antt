@@ -1,7 +1,7 @@
 -- A page: all rows ever, of which the last are the window, and a cursor.
 use Rattle.std.specs.Prelude.{◌≡◌, ◌<◌, Bool, true, false, ◌&&◌, nat_le, ℕ, ◌+◌, ◌-◌, max, List, [], ◌∷◌, ◌++◌, length, take, replicate, slice_index_or, slice_set, nat_lt, if◌then◌else◌}
 use Rattle.prodash_line.specs.declared.render.line.page.sign.Sign.{Sign}
-use Rattle.prodash_line.specs.declared.render.line.page.sign.Sign.TheVariants.{Char, LineFeed, CarriageReturn, Up, EraseLine, EraseBelow, HideCursor, ShowCursor, NoWrap, Wrap, Open, Reset}
+use Rattle.prodash_line.specs.declared.render.line.page.sign.Sign.TheVariants.{Char, LineFeed, CarriageReturn, Up, EraseLine, EraseBelow, HideCursor, ShowCursor, NoWrap, Wrap, BeginUpdate, EndUpdate, Open, Reset}
 
 -- how many columns it has, the height of its window, its rows from the first ever on, the row and column of the cursor, and whether a character
 -- past the last column goes to the next row
@@ -57,7 +57,8 @@ with_blank_from columns row column rows = slice_set rows row (blank_row_from col
 abbrev pub put_past : ℕ → Canvas → Canvas
 put_past c p = put_char c (if p.wraps then next_row p else record p { column = p.columns - 1 })
 
--- The page after one sign: the cursor goes up no further than the window's top. Styles, and whether the cursor is hidden, change no cell.
+-- The page after one sign: the cursor goes up no further than the window's top. Styles, whether the cursor is hidden, and where an update begins
+-- and ends change no cell.
 abbrev pub after_sign : Sign → Canvas → Canvas
 after_sign (Char c) p = if nat_lt p.column p.columns then put_char c p else put_past c p
 after_sign LineFeed p = next_row p
@@ -69,6 +70,8 @@ after_sign HideCursor p = p
 after_sign ShowCursor p = p
 after_sign NoWrap p = record p { wraps = false }
 after_sign Wrap p = record p { wraps = true }
+after_sign BeginUpdate p = p
+after_sign EndUpdate p = p
 after_sign (Open style) p = p
 after_sign Reset p = p
 
@@ -84,6 +87,8 @@ adds_row HideCursor p = false
 adds_row ShowCursor p = false
 adds_row NoWrap p = false
 adds_row Wrap p = false
+adds_row BeginUpdate p = false
+adds_row EndUpdate p = false
 adds_row (Open style) p = false
 adds_row Reset p = false
 

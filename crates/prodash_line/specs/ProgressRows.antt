@@ -157,7 +157,7 @@ with_throughputs (Some tracker) at rows = zip rows (frame_throughputs tracker at
 -- how many of n rows are drawn: all, or in a window of this height two fewer than it has rows, if they don't fit above its last row
 abbrev pub fitting_count : Layout → ℕ → ℕ
 fitting_count Overwriting n = n
-fitting_count (Erasing height) n = if nat_lt n height then n else height - 2
+fitting_count (Erasing height synchronized whole) n = if nat_lt n height then n else height - 2
 
 -- the rows that are drawn
 abbrev pub fitting : Layout → List DrawnRow → List DrawnRow

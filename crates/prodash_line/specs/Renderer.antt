@@ -58,6 +58,8 @@ default_options = record {
   timestamp = false;
   hide_cursor = false;
   defensive = false;
+  synchronized = false;
+  whole_messages = false;
   bar_columns = None;
   ascii = false;
 }

@@ -4,7 +4,7 @@ use Rattle.std.specs.List.{flat_map}
 use Rattle.std.specs.Char.{encode_utf8, IsScalar, is_control}
 use Rattle.std.specs.Fmt.{decimal}
 use Rattle.prodash_line.specs.declared.render.line.page.sign.Sign.{Sign}
-use Rattle.prodash_line.specs.declared.render.line.page.sign.Sign.TheVariants.{Char, LineFeed, CarriageReturn, Up, EraseLine, EraseBelow, HideCursor, ShowCursor, NoWrap, Wrap, Open, Reset}
+use Rattle.prodash_line.specs.declared.render.line.page.sign.Sign.TheVariants.{Char, LineFeed, CarriageReturn, Up, EraseLine, EraseBelow, HideCursor, ShowCursor, NoWrap, Wrap, BeginUpdate, EndUpdate, Open, Reset}
 use Rattle.prodash_line.specs.Styles.{style_codes, style_parameters}
 
 -- a control sequence: ESC, an opening bracket, parameters, and a final byte
@@ -23,6 +23,8 @@ spelling_of HideCursor = sequence (63 ∷ 50 ∷ 53 ∷ []) 108
 spelling_of ShowCursor = sequence (63 ∷ 50 ∷ 53 ∷ []) 104
 spelling_of NoWrap = sequence (63 ∷ 55 ∷ []) 108
 spelling_of Wrap = sequence (63 ∷ 55 ∷ []) 104
+spelling_of BeginUpdate = sequence (63 ∷ 50 ∷ 48 ∷ 50 ∷ 54 ∷ []) 104
+spelling_of EndUpdate = sequence (63 ∷ 50 ∷ 48 ∷ 50 ∷ 54 ∷ []) 108
 spelling_of (Open style) = sequence (style_parameters style) 109
 spelling_of Reset = sequence (48 ∷ []) 109
 
@@ -42,5 +44,7 @@ IsProper HideCursor = ⊤
 IsProper ShowCursor = ⊤
 IsProper NoWrap = ⊤
 IsProper Wrap = ⊤
+IsProper BeginUpdate = ⊤
+IsProper EndUpdate = ⊤
 IsProper (Open style) = style_codes style ≢ []
 IsProper Reset = ⊤

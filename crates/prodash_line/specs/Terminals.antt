@@ -1,7 +1,7 @@
 -- The page of a terminal, for any widths of characters: all rows ever, of which the last are the window, and a cursor.
 use Rattle.std.specs.Prelude.{ℕ, ◌+◌, ◌-◌, min, max, Bool, true, false, ◌&&◌, List, [], ◌∷◌, ◌++◌, length, take, replicate, slice_index_or, slice_set, nat_lt, if◌then◌else◌}
 use Rattle.prodash_line.specs.declared.render.line.page.sign.Sign.{Sign}
-use Rattle.prodash_line.specs.declared.render.line.page.sign.Sign.TheVariants.{Char, LineFeed, CarriageReturn, Up, EraseLine, EraseBelow, HideCursor, ShowCursor, NoWrap, Wrap, Open, Reset}
+use Rattle.prodash_line.specs.declared.render.line.page.sign.Sign.TheVariants.{Char, LineFeed, CarriageReturn, Up, EraseLine, EraseBelow, HideCursor, ShowCursor, NoWrap, Wrap, BeginUpdate, EndUpdate, Open, Reset}
 use Rattle.prodash_line.specs.CellRows.{Cell, CellRow, blank_cells, torn, put}
 
 -- how many columns it has, the height of its window, its rows from the first ever on, the row and column of the cursor, and whether a character
@@ -46,8 +46,8 @@ blank_after width column cells = take column (torn column cells) ++ blank_cells 
 abbrev pub blank_rows_below : Terminal → Terminal
 blank_rows_below t = record t { rows = take (t.row + 1) t.rows ++ replicate (length t.rows - (t.row + 1)) (blank_cells t.width) }
 
--- The page after one sign, on a terminal that gives characters so many columns. The cursor goes up no further than the window's top. Styles, and
--- whether the cursor is hidden, change no cell.
+-- The page after one sign, on a terminal that gives characters so many columns. The cursor goes up no further than the window's top. Styles,
+-- whether the cursor is hidden, and where an update begins and ends change no cell.
 abbrev pub terminal_after_sign : (ℕ → ℕ) → Sign → Terminal → Terminal
 terminal_after_sign columns (Char c) t = put_in (columns c) c (if goes_on (columns c) t then next_line t else t)
 terminal_after_sign columns LineFeed t = next_line t
@@ -60,6 +60,8 @@ terminal_after_sign columns HideCursor t = t
 terminal_after_sign columns ShowCursor t = t
 terminal_after_sign columns NoWrap t = record t { wraps = false }
 terminal_after_sign columns Wrap t = record t { wraps = true }
+terminal_after_sign columns BeginUpdate t = t
+terminal_after_sign columns EndUpdate t = t
 terminal_after_sign columns (Open style) t = t
 terminal_after_sign columns Reset t = t
 

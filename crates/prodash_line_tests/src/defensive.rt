@@ -179,6 +179,40 @@ const SIZES: &[(Ask, (usize, usize))] = &[
     (Quit, (14, 5)),
 ];
 
+/// Frames of synchronized updates, the first of which hides the cursor.
+#[rattlefmt::skip]
+const SYNCHRONIZED: &[Drawing] = &[
+    Drawing((40, 20), &[
+        (Show(&[("a", None)]), Ok("\x1b[?25l\x1b[?2026h\r\x1b[?7l\x1b[2K a\n\x1b[J\x1b[1A\x1b[?7h\x1b[?2026l")),
+        (Show(&[("a", None)]), Ok("")),
+        (Quit, Ok("\x1b[?2026h\r\x1b[?7l\x1b[2K\n\x1b[J\x1b[1A\x1b[?25h\x1b[?7h\x1b[?2026l")),
+    ]),
+    // a frame without rows to draw is none
+    Drawing((40, 20), &[(Hide(&[]), Ok("\x1b[?25l"))]),
+];
+
+/// A message of 20 columns.
+const LONG: (&str, &str) = ("task", "a long message");
+
+/// Frames with whole messages, on ten columns.
+#[rattlefmt::skip]
+const WHOLE: &[Drawing] = &[
+    Drawing((10, 4), &[
+        (Print(&[LONG], &[("a", None)]), Ok("\r\x1b[?7h\x1b[2K\n\x1b[J\x1b[1A task a long message\n\x1b[?7l\x1b[2K a\n\x1b[J\x1b[1A\x1b[?7h")),
+        (Show(&[("a name that is cut", None)]), Ok("\r\x1b[?7l\x1b[2K a name th\n\x1b[J\x1b[1A\x1b[?7h")),
+        (PrintHidden(&[LONG], &[]), Ok("\r\x1b[?7h\x1b[2K\n\x1b[J\x1b[1A task a long message\n\x1b[?7l\x1b[J\x1b[?7h")),
+        (Quit, Ok("\r\x1b[?7l\x1b[J\x1b[?7h")),
+    ]),
+    // in a window of one row there is none below the cursor's
+    Drawing((10, 1), &[(Print(&[LONG], &[("a", None)]), Ok("\r\x1b[?7h\x1b[2K task a long message\n\x1b[?7l\x1b[J\x1b[?7h"))]),
+];
+
+/// Frames that are written over lines, on ten columns.
+const CUT: &[Drawing] = &[Drawing((10, 4), &[(Print(&[LONG], &[]), Ok(" task a lo\n"))])];
+
+/// Frames that are written over lines.
+const NO_UPDATES: &[Drawing] = &[Drawing((40, 20), &[(Show(&[("a", None)]), Ok(" a\n\x1b[1A"))])];
+
 /// Draws a frame, and returns how many bytes it has.
 fn frame_size(rt: &impl Abort, alloc: Global, state: &mut State, ask: Ask) -> usize {
     let mut screen = MemoryScreen::new(alloc, 200).expect(rt, "memory");
@@ -209,6 +243,43 @@ fn defensive_frames_hide_the_cursor(rt: HostRuntime) {
         ..DEFENSIVE
     };
     assert_draws_with(&rt, rt.alloc(), hiding, HIDING)
+}
+
+#[test]
+fn defensive_frames_may_be_updates(rt: HostRuntime) {
+    let synchronized = Options {
+        hide_cursor: true,
+        synchronized: true,
+        ..DEFENSIVE
+    };
+    assert_draws_with(&rt, rt.alloc(), synchronized, SYNCHRONIZED)
+}
+
+#[test]
+fn other_frames_are_no_updates(rt: HostRuntime) {
+    let synchronized = Options {
+        synchronized: true,
+        ..TERMINAL
+    };
+    assert_draws_with(&rt, rt.alloc(), synchronized, NO_UPDATES)
+}
+
+#[test]
+fn defensive_frames_may_have_whole_messages(rt: HostRuntime) {
+    let whole = Options {
+        whole_messages: true,
+        ..DEFENSIVE
+    };
+    assert_draws_with(&rt, rt.alloc(), whole, WHOLE)
+}
+
+#[test]
+fn other_frames_cut_messages(rt: HostRuntime) {
+    let whole = Options {
+        whole_messages: true,
+        ..TERMINAL
+    };
+    assert_draws_with(&rt, rt.alloc(), whole, CUT)
 }
 
 #[test]

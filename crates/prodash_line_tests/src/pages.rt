@@ -112,8 +112,10 @@ fn reads_what_signs_spell(rt: HostRuntime) {
         Sign::LineFeed,
         Sign::NoWrap,
         Sign::Wrap,
+        Sign::BeginUpdate,
+        Sign::EndUpdate,
     ];
-    let text = "a\x1b[2K\x1b[65535Aé\r\x1b[J\n\x1b[?7l\x1b[?7h";
+    let text = "a\x1b[2K\x1b[65535Aé\r\x1b[J\n\x1b[?7l\x1b[?7h\x1b[?2026h\x1b[?2026l";
     assert_spelled(&rt, rt.alloc(), &signs, text);
 }
 
@@ -131,6 +133,7 @@ const FAULTS: &[(&[u8], usize)] = &[
     (b"\x1b[7l", 0),
     (b"\x1b[?7k", 0),
     (b"\x1b[?07h", 0),
+    (b"\x1b[?2025h", 0),
 ];
 
 #[test]
@@ -153,6 +156,8 @@ fn plain_values_differ_by_any_field(rt: HostRuntime) {
         Sign::EraseBelow,
         Sign::NoWrap,
         Sign::Wrap,
+        Sign::BeginUpdate,
+        Sign::EndUpdate,
     ];
     let faults = [Fault::At(0), Fault::At(1), Fault::Memory];
     let answers = [Answer::Drawn, Answer::Ended];

@@ -225,6 +225,8 @@ fn drawn(alloc: Global, options: &ReplayOptions, events: &[Event]) -> Result<Mem
             timestamp: false,
             hide_cursor: false,
             defensive: options.defensive,
+            synchronized: false,
+            whole_messages: false,
             bar_columns: None,
             ascii: false,
         },

@@ -20,6 +20,8 @@ draw_options o = record {
   timestamp = o.timestamp;
   hide_cursor = o.hide_cursor;
   defensive = o.defensive;
+  synchronized = o.synchronized;
+  whole_messages = o.whole_messages;
   bar_columns = o.bar_columns;
   ascii = o.ascii;
 }

@@ -15,14 +15,14 @@ use Rattle.prodash_line.specs.declared.render.line.draw.action.Composed.{Compose
 use Rattle.prodash_line.specs.declared.render.line.draw.layout.Layout.{Layout}
 use Rattle.prodash_line.specs.declared.render.line.draw.layout.Layout.TheVariants.{Overwriting, Erasing}
 use Rattle.prodash_line.specs.declared.render.line.draw.action.Action.TheVariants.{Leave}
-use Rattle.prodash_line.specs.declared.render.line.page.sign.Sign.TheVariants.{CarriageReturn, EraseBelow, NoWrap, Wrap}
+use Rattle.prodash_line.specs.declared.render.line.page.sign.Sign.TheVariants.{EraseBelow}
 use Rattle.prodash_line.specs.declared.render.line.draw.frame.Scene.{Scene}
 use Rattle.prodash_line.specs.declared.render.line.draw.line_writer.LineWriter.{LineWriter}
 use Rattle.prodash_line.specs.declared.render.line.page.sign.Sign.{Sign}
 use Rattle.prodash_line.specs.Signs.{spelling}
 use Rattle.prodash_line.specs.Lines.{Line}
 use Rattle.prodash_line.specs.DrawnLines.{layout_of, as_drawn}
-use Rattle.prodash_line.specs.Frames.{Body, covered, erased_rows, left_over, cursor_up, redraw, body_signs, widths_of, Frame, Closes, frame_signs}
+use Rattle.prodash_line.specs.Frames.{Body, covered, erased_rows, lines_start, message_layout, messages_start, erasing_start, erasing_end, left_over, cursor_up, redraw, body_signs, widths_of, Frame, Closes, frame_signs}
 use Rattle.prodash_line.specs.ProgressRows.{DrawnRow, filtered, fitting_count, fitting, more_line, more_lines, row_lines, greatest_midpoint}
 use Rattle.prodash_line.specs.MessageLines.{message_lines, widths_of_origins}
 use Rattle.prodash_base.specs.declared.refusal.Refusal.TheVariants as refusals
@@ -74,7 +74,7 @@ AppendsOver layout old widths lines new = new.bytes ≡ old.bytes ++ lines_bytes
 -- the lines of messages after origins of these widths, over lines on screen, follow the bytes of old
 abbrev pub WritesMessages : Options → Vec ℕ → List ℕ → List Message → LineWriter → LineWriter → Type 0
 WritesMessages options origin_widths widths messages old new =
-    AppendsOver (layout_of options) old widths (message_lines options origin_widths.items messages) new
+    AppendsOver (message_layout (layout_of options)) old widths (message_lines options origin_widths.items messages) new
 
 -- the widths of their origins follow those of old
 abbrev pub AddsOrigins : Options → List Message → Vec ℕ → Vec ℕ → Type 0
@@ -83,29 +83,35 @@ AddsOrigins options messages old new = new.items ≡ old.items ++ widths_of_orig
 -- what a frame with this action begins with where it is to erase rows
 abbrev pub action_start : Layout → Action → List Sign
 action_start Overwriting action = []
-action_start (Erasing height) Leave = []
-action_start (Erasing height) _ = CarriageReturn ∷ NoWrap ∷ []
+action_start (Erasing height synchronized whole) Leave = []
+action_start (Erasing height synchronized whole) _ = erasing_start synchronized whole
 
 -- and what it ends with there
 abbrev pub action_end : Layout → Action → List Sign
 action_end Overwriting action = []
-action_end (Erasing height) Leave = []
-action_end (Erasing height) _ = Wrap ∷ []
+action_end (Erasing height synchronized whole) Leave = []
+action_end (Erasing height synchronized whole) _ = erasing_end synchronized
 
 -- the buffer holds the beginning of a frame with this action
 abbrev pub BeginsFrame : Renderer → Layout → Action → LineWriter → Type 0
 BeginsFrame r layout action out = out.bytes ≡ spelling (opening_of r ++ action_start layout action)
 
+-- what messages begin with, if there are any, follows the bytes of old
+abbrev pub StartsMessages : Layout → Bool → LineWriter → LineWriter → Type 0
+StartsMessages layout some old new = AppendsSigns old (messages_start layout some) new
+
 -- what follows this many lines in a redraw that erases rows, if this many are on screen
-abbrev pub erasing_end : ℕ → ℕ → ℕ → List Sign
-erasing_end height widths count =
+abbrev pub redraw_end : ℕ → ℕ → ℕ → List Sign
+redraw_end height widths count =
     let rest = left_over height widths count in
     erased_rows rest ++ EraseBelow ∷ cursor_up (count + rest)
 
--- if this many lines, over lines on screen of these widths, end the bytes of old, those of new end with the whole redraw of the lines
+-- if this many lines, over lines on screen of these widths, end the bytes of old after what comes before them, those of new end with the whole
+-- redraw of the lines
 abbrev pub FinishesRedraw : Layout → LineWriter → List ℕ → ℕ → LineWriter → Type 0
 FinishesRedraw layout old widths count new =
-    (before : List ℕ) (lines : List Line) → length lines ≡ count → old.bytes ≡ before ++ lines_bytes layout (covered layout widths) lines
+    (before : List ℕ) (lines : List Line)
+    → length lines ≡ count → old.bytes ≡ before ++ (spelling (lines_start layout) ++ lines_bytes layout (covered layout widths) lines)
     → new.bytes ≡ before ++ spelling (redraw layout widths lines)
 
 -- what a frame leaves: what its body has left, and the tracker that is kept then

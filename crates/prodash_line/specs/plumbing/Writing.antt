@@ -11,7 +11,7 @@ use Rattle.prodash_line.specs.declared.render.line.page.style.Style.{Style}
 use Rattle.prodash_line.specs.Signs.{spelling_of, spelling}
 use Rattle.prodash_line.specs.declared.render.line.draw.input.Options.{Options}
 use Rattle.prodash_line.specs.Lines.{Line, piece, styled, spaces, capped, columns_of, in_color, cut}
-use Rattle.prodash_line.specs.DrawnLines.{drawn_chars, limit_of}
+use Rattle.prodash_line.specs.DrawnLines.{drawn_chars, limit_of, message_limit_of}
 use Rattle.prodash_line.specs.plumbing.Cutting.{room_of, room_after_line, Fits}
 use Rattle.prodash_line.specs.Frames.{line_signs}
 use Rattle.prodash_base.specs.declared.messages.Message.{Message}
@@ -125,7 +125,8 @@ pub record IsOriginOf (options : Options) (m : Message) (origin : DrawnText) : T
 
 -- the line of a message whose origin is right-aligned to this width, as it is drawn, follows the bytes of old
 abbrev pub DrawsMessage : Options → ℕ → Message → LineWriter → LineWriter → Type 0
-DrawsMessage options width m old new = DrawsLine options old (message_line options width m) new
+DrawsMessage options width m old new =
+    Begun (message_limit_of options) old (in_color options.colored (message_line options width m)) new
 
 -- its origin, a space and its text follow
 abbrev pub AppendsOriginAndText : Options → ℕ → Message → LineWriter → LineWriter → Type 0

@@ -186,7 +186,12 @@ impl Page {
             }
             Sign::NoWrap => self.wraps = false,
             Sign::Wrap => self.wraps = true,
-            Sign::HideCursor | Sign::ShowCursor | Sign::Open(_) | Sign::Reset => {}
+            Sign::HideCursor
+            | Sign::ShowCursor
+            | Sign::BeginUpdate
+            | Sign::EndUpdate
+            | Sign::Open(_)
+            | Sign::Reset => {}
         }
         Ok(())
     }

@@ -36,6 +36,13 @@ pub struct Options {
     /// message or a text of a unit, on a terminal or not: of each control character, each
     /// character with Unicode's property Bidi_Control, U+2028, U+2029 and U+FEFF.
     pub defensive: bool,
+    /// Whether each frame that erases rows is a synchronized update: a terminal that has such
+    /// updates shows it only once it is whole.
+    pub synchronized: bool,
+    /// Whether messages are written whole, with wrapping, where frames erase rows. Then a terminal
+    /// copies such a line as one, and lays it out again as its size changes. Otherwise messages are
+    /// cut like all lines.
+    pub whole_messages: bool,
     /// The greatest number of columns of a bar, with the space and the brackets around its cells.
     /// With fewer than four there are no bars. `None` draws each on all columns that are left.
     pub bar_columns: Option<u16>,

@@ -1,7 +1,7 @@
 //! Frames that erase the rows that they write on.
 ghost use Rattle.std.specs.Prelude.{◌≡◌, OnOk};
-ghost use Rattle.prodash_line.specs.Frames.{row_start, left_over, erased_rows};
-ghost use Rattle.prodash_line.specs.plumbing.FrameWriting.{AppendsSigns, action_start, action_end, erasing_end};
+ghost use Rattle.prodash_line.specs.Frames.{row_start, lines_start, left_over, erased_rows};
+ghost use Rattle.prodash_line.specs.plumbing.FrameWriting.{AppendsSigns, StartsMessages, action_start, action_end, redraw_end};
 
 use crate::render::line::draw::action::Action;
 use crate::render::line::draw::frame::push_up;
@@ -10,8 +10,8 @@ use crate::render::line::draw::line_writer::LineWriter;
 use crate::render::line::page::Sign;
 use std::alloc::AllocError;
 
-/// Moves the cursor to the beginning of its row and turns wrapping off, if a frame with this action
-/// erases rows.
+/// Begins an update if frames are synchronized, moves the cursor to the beginning of its row, and
+/// turns wrapping off unless messages are written whole, if a frame with this action erases rows.
 pub(crate) fn start_frame(
     out: &mut LineWriter,
     layout: Layout,
@@ -21,14 +21,67 @@ pub(crate) fn start_frame(
 {
     match (layout, action) {
         (Layout::Overwriting, _) | (_, Action::Leave) => Ok(()),
-        (Layout::Erasing(_), _) => {
+        (
+            Layout::Erasing {
+                synchronized,
+                whole_messages,
+                ..
+            },
+            _,
+        ) => {
+            if synchronized {
+                out.push_sign(Sign::BeginUpdate)?;
+            }
             out.push_sign(Sign::CarriageReturn)?;
-            out.push_sign(Sign::NoWrap)
+            if !whole_messages {
+                out.push_sign(Sign::NoWrap)?;
+            }
+            Ok(())
         }
     }
 }
 
-/// Turns wrapping on again, if a frame with this action erases rows.
+/// Turns wrapping on and blanks the rows that messages may go on in, if there are any messages and
+/// they are written whole. The rows below the cursor's are erased from the next row on, since some
+/// terminals keep what is erased in the window's first row.
+pub(crate) fn start_messages(
+    out: &mut LineWriter,
+    layout: Layout,
+    has_messages: bool,
+) -> Result<(), AllocError>
+    ensures { OnOk result (StartsMessages layout has_messages out.old out.new) }
+{
+    match layout {
+        Layout::Erasing {
+            height,
+            whole_messages,
+            ..
+        } if has_messages && whole_messages => {
+            out.push_sign(Sign::Wrap)?;
+            out.push_sign(Sign::EraseLine)?;
+            if height > 1 {
+                out.push_sign(Sign::LineFeed)?;
+                out.push_sign(Sign::EraseBelow)?;
+                out.push_sign(Sign::Up(1))?;
+            }
+            Ok(())
+        }
+        _ => Ok(()),
+    }
+}
+
+/// Turns wrapping off before drawn lines, if messages are written whole.
+pub(crate) fn start_lines(out: &mut LineWriter, layout: Layout) -> Result<(), AllocError>
+    ensures { OnOk result (AppendsSigns out.old (lines_start layout) out.new) }
+{
+    if layout.prints_whole() {
+        out.push_sign(Sign::NoWrap)?;
+    }
+    Ok(())
+}
+
+/// Turns wrapping on again and ends an update that was begun, if a frame with this action erases
+/// rows.
 pub(crate) fn end_frame(
     out: &mut LineWriter,
     layout: Layout,
@@ -38,7 +91,13 @@ pub(crate) fn end_frame(
 {
     match (layout, action) {
         (Layout::Overwriting, _) | (_, Action::Leave) => Ok(()),
-        (Layout::Erasing(_), _) => out.push_sign(Sign::Wrap),
+        (Layout::Erasing { synchronized, .. }, _) => {
+            out.push_sign(Sign::Wrap)?;
+            if synchronized {
+                out.push_sign(Sign::EndUpdate)?;
+            }
+            Ok(())
+        }
     }
 }
 
@@ -48,7 +107,7 @@ pub(crate) fn start_row(out: &mut LineWriter, layout: Layout) -> Result<(), Allo
 {
     match layout {
         Layout::Overwriting => Ok(()),
-        Layout::Erasing(_) => out.push_sign(Sign::EraseLine),
+        Layout::Erasing { .. } => out.push_sign(Sign::EraseLine),
     }
 }
 
@@ -61,7 +120,7 @@ pub(crate) fn finish_erasing(
     on_screen: usize,
     drawn: usize,
 ) -> Result<(), AllocError>
-    ensures { OnOk result (AppendsSigns out.old (erasing_end height on_screen drawn) out.new) }
+    ensures { OnOk result (AppendsSigns out.old (redraw_end height on_screen drawn) out.new) }
 {
     let rest = left_over(height, on_screen, drawn);
     erase_rows(out, rest)?;

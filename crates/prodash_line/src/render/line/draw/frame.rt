@@ -10,7 +10,9 @@ ghost use Rattle.prodash_line.specs.plumbing.OverwriteBytes.{blank_bytes};
 
 use crate::render::line::draw::action::{Action, Composed, Drawn};
 use crate::render::line::draw::drawn_text::drawn_text;
-use crate::render::line::draw::erasing::{end_frame, finish_erasing, start_frame, start_row};
+use crate::render::line::draw::erasing::{
+    end_frame, finish_erasing, start_frame, start_lines, start_messages, start_row,
+};
 use crate::render::line::draw::input::Options;
 use crate::render::line::draw::layout::Layout;
 use crate::render::line::draw::line_writer::LineWriter;
@@ -61,8 +63,10 @@ pub(crate) fn compose_tick(
     let (_, height) = past.options.terminal_dimensions;
     let layout = past.options.layout();
     let messages = seen.1.as_slice();
-    let action = past.tick_action(show, !messages.is_empty(), &seen.0);
+    let has_messages = !messages.is_empty();
+    let action = past.tick_action(show, has_messages, &seen.0);
     begin_frame(out, past, layout, action)?;
+    start_messages(out, layout, has_messages)?;
     let mut origin_widths = Vec::from_slice(alloc, &past.origin_widths)?;
     write_messages(
         alloc,
@@ -134,7 +138,7 @@ pub(crate) fn compose_resized(
 }
 
 /// Begins a frame with this action: empties the buffer, hides the cursor if this frame is to hide
-/// it, and moves it to the beginning of its row and turns wrapping off if the frame erases rows.
+/// it, and moves it to the beginning of its row if the frame erases rows.
 fn begin_frame(
     out: &mut LineWriter,
     past: &Past,
@@ -202,6 +206,7 @@ fn write_body(
 fn write_no_rows(out: &mut LineWriter, layout: Layout, widths: &[u16]) -> Result<(), AllocError>
     ensures { OnOk result (AppendsSigns out.old (redraw layout widths.now []) out.new) }
 {
+    start_lines(out, layout)?;
     finish_redraw(out, layout, widths, 0)?;
     Ok(())
 }
@@ -252,7 +257,7 @@ fn write_messages(
         (AddsOrigins options.now messages.now origin_widths.old origin_widths.new) }
     ensures reason { IsOkUnless result Refusal.Memory }
 {
-    let layout = options.layout();
+    let layout = options.layout().of_messages();
     let mut replaced_origin = String::new(alloc);
     let mut replaced = String::new(alloc);
     let mut left = widths;
@@ -304,6 +309,7 @@ fn redraw_rows(
         action: Action::Redraw,
     };
     begin_observing(tracker, scene.at);
+    start_lines(out, layout)?;
     write_fitting(alloc, out, tracker, &mut drawn, scene, widths)?;
     finish_redraw(out, layout, widths, drawn.widths.len())?;
     Ok(drawn)
@@ -384,7 +390,7 @@ fn finish_redraw(
 {
     match layout {
         Layout::Overwriting => finish_overwriting(out, widths, drawn)?,
-        Layout::Erasing(height) => finish_erasing(out, height, widths.len(), drawn)?,
+        Layout::Erasing { height, .. } => finish_erasing(out, height, widths.len(), drawn)?,
     }
     Ok(())
 }

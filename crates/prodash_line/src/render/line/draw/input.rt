@@ -1,6 +1,6 @@
 //! Inputs of the renderer, its options, and its answers.
 ghost use Rattle.std.specs.Prelude.{◌≡◌};
-ghost use Rattle.prodash_line.specs.DrawnLines.{limit_of, erases_rows, layout_of};
+ghost use Rattle.prodash_line.specs.DrawnLines.{limit_of, message_limit_of, erases_rows, layout_of};
 ghost use Rattle.prodash_line.specs.Renderer.{default_options};
 
 use crate::render::line::draw::layout::Layout;
@@ -43,6 +43,13 @@ pub struct Options {
     /// message or a text of a unit, on a terminal or not: of each control character, each
     /// character with Unicode's property Bidi_Control, U+2028, U+2029 and U+FEFF.
     pub defensive: bool,
+    /// Whether each frame that erases rows is a synchronized update: a terminal that has such
+    /// updates shows it only once it is whole.
+    pub synchronized: bool,
+    /// Whether messages are written whole, with wrapping, where frames erase rows. Then a terminal
+    /// copies such a line as one, and lays it out again as its size changes. Otherwise messages are
+    /// cut like all lines.
+    pub whole_messages: bool,
     /// The greatest number of columns of a bar, with the space and the brackets around its cells.
     /// With fewer than four there are no bars. `None` draws each on all columns that are left.
     pub bar_columns: Option<u16>,
@@ -53,8 +60,9 @@ pub struct Options {
 
 impl Default for Options {
     /// Returns options for a coloured terminal of 80 columns and 20 rows. Rows of all levels are
-    /// drawn, messages have no timestamps, the cursor stays visible, frames are not defensive, bars
-    /// take all columns that are left, and the renderer keeps running without rows.
+    /// drawn, messages have no timestamps, the cursor stays visible, frames are neither
+    /// defensive nor synchronized, messages are cut, bars take all columns that are left, and the
+    /// renderer keeps running without rows.
     fn default() -> Options
         ensures { result ≡ default_options }
     {
@@ -67,6 +75,8 @@ impl Default for Options {
             timestamp: false,
             hide_cursor: false,
             defensive: false,
+            synchronized: false,
+            whole_messages: false,
             bar_columns: None,
             ascii: false,
         }
@@ -83,6 +93,17 @@ impl Options {
             .then_some(self.terminal_dimensions.0)
     }
 
+    /// Returns the columns to which messages are cut. `None` if they are written whole.
+    pub(crate) fn message_limit(&self) -> Option<u16>
+        ensures { result ≡ message_limit_of self.now }
+    {
+        if self.layout().prints_whole() {
+            None
+        } else {
+            self.width_limit()
+        }
+    }
+
     /// Whether frames erase the rows that they write on.
     pub(crate) fn erases_rows(&self) -> bool
         ensures { result ≡ erases_rows self.now }
@@ -95,7 +116,11 @@ impl Options {
         ensures { result ≡ layout_of self.now }
     {
         if self.erases_rows() {
-            Layout::Erasing(self.terminal_dimensions.1)
+            Layout::Erasing {
+                height: self.terminal_dimensions.1,
+                synchronized: self.synchronized,
+                whole_messages: self.whole_messages,
+            }
         } else {
             Layout::Overwriting
         }

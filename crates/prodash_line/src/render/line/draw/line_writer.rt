@@ -100,7 +100,7 @@ impl LineWriter {
         let count = self.count_printable(u16::from(indent));
         let start = match layout {
             Layout::Overwriting => ERASE_LINE,
-            Layout::Erasing(_) => 0,
+            Layout::Erasing { .. } => 0,
         };
         self.bytes
             .extend_from_slice(&ROW_START[start..ERASE_LINE + usize::from(count)])?;

@@ -28,7 +28,7 @@ pub(crate) fn push_message(
     ensures line { OnOk result (DrawsMessage options.now width message.now out.old out.new) }
     ensures reason { IsOkUnless result Refusal.Memory }
 {
-    out.begin_line(options.width_limit());
+    out.begin_line(options.message_limit());
     out.push_spaces(1)?;
     push_time(alloc, out, options, message)?;
     push_origin_and_text(out, replaced, options, width, origin, message)?;

@@ -30,7 +30,7 @@ pub(crate) fn split_fitting(
 {
     match layout {
         Layout::Overwriting => (rows, &[]),
-        Layout::Erasing(height) => {
+        Layout::Erasing { height, .. } => {
             let height = usize::from(height);
             if count_drawn(levels, rows) < height {
                 (rows, &[])

@@ -91,14 +91,17 @@ fn sign_of(parameters: &[u8], final_byte: u8) -> Option<Sign>
     let is_two = parameters == b"2".as_slice();
     let is_cursor = parameters == b"?25".as_slice();
     let is_wrap = parameters == b"?7".as_slice();
+    let is_update = parameters == b"?2026".as_slice();
     let is_zero = parameters == b"0".as_slice();
     match final_byte {
         b'A' => Some(Sign::Up(number_of(parameters)?)),
         b'K' if is_two => Some(Sign::EraseLine),
         b'l' if is_cursor => Some(Sign::HideCursor),
         b'l' if is_wrap => Some(Sign::NoWrap),
+        b'l' if is_update => Some(Sign::EndUpdate),
         b'h' if is_cursor => Some(Sign::ShowCursor),
         b'h' if is_wrap => Some(Sign::Wrap),
+        b'h' if is_update => Some(Sign::BeginUpdate),
         b'm' if is_zero => Some(Sign::Reset),
         b'm' => Some(Sign::Open(style_of(parameters)?)),
         b'J' if parameters.is_empty() => Some(Sign::EraseBelow),

@@ -23,6 +23,11 @@ pub enum Sign {
     NoWrap,
     /// DECAWM, `CSI ? 7 h`: a character past the last column goes to the next row.
     Wrap,
+    /// `CSI ? 2026 h`: begins a synchronized update. A terminal that has them shows nothing of what
+    /// follows before its end.
+    BeginUpdate,
+    /// `CSI ? 2026 l`: ends a synchronized update.
+    EndUpdate,
     /// SGR, `CSI n ; .. m`: begins a style, which has at least one code.
     Open(Style),
     /// SGR, `CSI 0 m`: ends all styles.

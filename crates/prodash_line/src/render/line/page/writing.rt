@@ -116,6 +116,8 @@ pub(crate) fn push_sign(out: &mut ByteBuffer, sign: Sign) -> Result<(), AllocErr
         Sign::ShowCursor => out.extend_from_slice(b"\x1b[?25h"),
         Sign::NoWrap => out.extend_from_slice(b"\x1b[?7l"),
         Sign::Wrap => out.extend_from_slice(b"\x1b[?7h"),
+        Sign::BeginUpdate => out.extend_from_slice(b"\x1b[?2026h"),
+        Sign::EndUpdate => out.extend_from_slice(b"\x1b[?2026l"),
         Sign::Open(style) => push_open(out, style),
         Sign::Reset => push_reset(out),
     }

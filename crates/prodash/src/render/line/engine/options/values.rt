@@ -28,6 +28,8 @@ impl Options {
             timestamp: self.timestamp,
             hide_cursor: self.hide_cursor,
             defensive: self.defensive,
+            synchronized: self.synchronized,
+            whole_messages: self.whole_messages,
             bar_columns: self.bar_columns,
             ascii: self.ascii,
         }
@@ -37,8 +39,9 @@ impl Options {
 impl Default for Options {
     /// Returns the default options of frames ([`draw::Options::default`]), with six frames a
     /// second, no initial delay and no throughput: a coloured terminal of 80 columns and 20 rows,
-    /// all levels, no timestamps, a visible cursor, frames that aren't defensive, bars on all
-    /// columns that are left, and a renderer that keeps running without rows.
+    /// all levels, no timestamps, a visible cursor, frames that are neither defensive nor
+    /// synchronized, messages that are cut, bars on all columns that are left, and a renderer that
+    /// keeps running without rows.
     fn default() -> Options
         ensures { result ≡ default_options }
     {
@@ -51,6 +54,8 @@ impl Default for Options {
             timestamp,
             hide_cursor,
             defensive,
+            synchronized,
+            whole_messages,
             bar_columns,
             ascii,
         } = draw::Options::default();
@@ -61,6 +66,8 @@ impl Default for Options {
             terminal_dimensions,
             hide_cursor,
             defensive,
+            synchronized,
+            whole_messages,
             bar_columns,
             ascii,
             throughput: false,

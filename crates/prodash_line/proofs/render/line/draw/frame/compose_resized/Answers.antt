@@ -11,7 +11,7 @@ use Rattle.prodash_line.specs.Frames.{body_signs}
 use Rattle.prodash_line.specs.plumbing.FrameWriting.{action_start, action_end, state_by}
 use Rattle.prodash_line.specs.Tracking.{tracked}
 use Rattle.prodash_line.specs.Renderer.{Renderer, Drawing, frame_at, remember, drawing_of, drawing_at, action_at, body_of, ending_of, state_after}
-use Rattle.prodash_line.proofs.OverwriteBytes.{action_starts, action_ends, frame_bytes_of}
+use Rattle.prodash_line.proofs.OverwriteBytes.{begins_without, action_ends, frame_bytes_of}
 use Rattle.prodash_line.proofs.render.line.draw.frame.compose_resized.Goals as goal
 
 abbrev input : goal.In_ok-end_frame → Input
@@ -50,7 +50,7 @@ returns-clause-bytes c =
     frame_bytes_of (frame_at r (input c)) _ _ r.widths left before before c.write_body.new.out.bytes _ 0
     c.in_ok-begin_frame.ensures
     (ap (λ (l : Layout). action_start l c.resize_action-action.result) (c.layout-layout.ensures ∙ ap layout_of (sized_is c))
-    ∙ ap (action_start layout) c.resize_action-action.ensures ∙ action_starts layout action (drawing_at r (input c)) ending)
+    ∙ ap (action_start layout) c.resize_action-action.ensures ∙ begins_without layout action (drawing_at r (input c)) ending)
     (ap (λ (l : Layout). action_end l c.resize_action-action.result) (c.layout-layout.ensures ∙ ap layout_of (sized_is c))
     ∙ ap (action_end layout) c.resize_action-action.ensures ∙ action_ends layout action (drawing_at r (input c)) ending)
     (sym (append-nil before)) (left_is c) refl

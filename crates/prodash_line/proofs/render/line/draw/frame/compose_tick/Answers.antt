@@ -7,13 +7,13 @@ use Rattle.prodash_base.specs.Rows.{rows_of}
 use Rattle.prodash_line.specs.declared.render.line.draw.input.Input.{Input}
 use Rattle.prodash_line.specs.declared.render.line.draw.input.Input.TheVariants.{Tick}
 use Rattle.prodash_line.specs.Signs.{spelling}
-use Rattle.prodash_line.specs.Frames.{covered, body_signs}
+use Rattle.prodash_line.specs.Frames.{covered, message_layout, messages_start, has_lines, frame_start, frame_begin, body_signs}
 use Rattle.prodash_line.specs.plumbing.OverwriteBytes.{lines_bytes}
 use Rattle.prodash_line.specs.plumbing.FrameWriting.{action_start, action_end, state_by}
 use Rattle.prodash_line.specs.Tracking.{tracked}
 use Rattle.prodash_line.specs.MessageLines.{message_lines}
-use Rattle.prodash_line.specs.Renderer.{Renderer, Drawing, frame_at, drawing_of, drawing_at, tick_action, action_at, printed_at, body_of, ending_of, state_after}
-use Rattle.prodash_line.proofs.OverwriteBytes.{action_starts, action_ends, frame_bytes_of, length-message_lines}
+use Rattle.prodash_line.specs.Renderer.{Renderer, Drawing, frame_at, drawing_of, drawing_at, tick_action, action_at, printed_at, body_of, opening_of, ending_of, state_after}
+use Rattle.prodash_line.proofs.OverwriteBytes.{action_starts, action_ends, begun_with, has_by_length, frame_bytes_of, length-message_lines}
 use Rattle.prodash_line.proofs.render.line.draw.frame.compose_tick.Goals as goal
 
 printed : (c : goal.In_ok-end_frame) → length c.as_slice-messages.result.now ≡ length (message_lines c.args.past.now.options c.args.past.now.origin_widths c.args.seen.now.1)
@@ -41,7 +41,7 @@ action_is : (c : goal.In_ok-end_frame) → c.tick_action-action.result ≡ actio
 action_is c =
     c.tick_action-action.ensures
     ∙ ap (λ (empty : Bool). tick_action c.args.past.now c.args.show (not empty) c.args.seen.now.0)
-    (c.is_empty.ensures ∙ ap (λ (messages : List Message). nat_eq (length messages) 0) c.as_slice-messages.ensures)
+    (c.is_empty-has_messages.ensures ∙ ap (λ (messages : List Message). nat_eq (length messages) 0) c.as_slice-messages.ensures)
 
 layout_is : (c : goal.In_ok-end_frame) → c.layout-layout.result ≡ layout_of c.args.past.now.options
 layout_is c = search rules
@@ -53,19 +53,37 @@ covered_is c =
     ∙ ap (covered (layout_of c.args.past.now.options)) (c.deref-2.ensures.value ∙ ap (λ (x : Renderer). x.widths) c.past.view_is)
 
 over : (c : goal.In_ok-end_frame) → c.write_messages.new.out.bytes
-    ≡ c.begin_frame.new.out.bytes ++ lines_bytes (layout_of c.args.past.now.options) (covered (layout_of c.args.past.now.options) c.args.past.now.widths) (printed_at c.args.past.now (input c))
+    ≡ c.start_messages.new.out.bytes ++ lines_bytes (message_layout (layout_of c.args.past.now.options)) (covered (layout_of c.args.past.now.options) c.args.past.now.widths) (printed_at c.args.past.now (input c))
 over c =
     let r = c.args.past.now in
-    let before = c.begin_frame.new.out.bytes in
+    let before = c.start_messages.new.out.bytes in
     let messages = c.as_slice-messages.result.now in
     let origins = c.in_ok-origin_widths.origin_widths.items in
     let widths = covered (layout_of r.options) r.widths in
     let kept : origins ≡ r.origin_widths = c.in_ok-origin_widths.ensures.items ∙ c.deref.ensures.value ∙ ap (λ (x : Renderer). x.origin_widths) c.past.view_is in
     c.in_ok-write_messages.ensures.bytes
-    ∙ ap (λ (x : Renderer). before ++ lines_bytes (layout_of x.options) c.covered_widths.result.now (message_lines x.options origins messages)) c.past.view_is
-    ∙ ap (λ (ws : List ℕ). before ++ lines_bytes (layout_of r.options) ws (message_lines r.options origins messages)) (covered_is c)
-    ∙ ap (λ (os : List ℕ). before ++ lines_bytes (layout_of r.options) widths (message_lines r.options os messages)) kept
-    ∙ ap (λ (ms : List Message). before ++ lines_bytes (layout_of r.options) widths (message_lines r.options r.origin_widths ms)) c.as_slice-messages.ensures
+    ∙ ap (λ (x : Renderer). before ++ lines_bytes (message_layout (layout_of x.options)) c.covered_widths.result.now (message_lines x.options origins messages)) c.past.view_is
+    ∙ ap (λ (ws : List ℕ). before ++ lines_bytes (message_layout (layout_of r.options)) ws (message_lines r.options origins messages)) (covered_is c)
+    ∙ ap (λ (os : List ℕ). before ++ lines_bytes (message_layout (layout_of r.options)) widths (message_lines r.options os messages)) kept
+    ∙ ap (λ (ms : List Message). before ++ lines_bytes (message_layout (layout_of r.options)) widths (message_lines r.options r.origin_widths ms)) c.as_slice-messages.ensures
+
+has_is : (c : goal.In_ok-end_frame) → not c.is_empty-has_messages.result ≡ has_lines (printed_at c.args.past.now (input c))
+has_is c = ap not (c.is_empty-has_messages.ensures ∙ ap (λ (n : ℕ). nat_eq n 0) (printed c)) ∙ has_by_length (printed_at c.args.past.now (input c))
+
+-- what the frame begins with, up to its messages
+begins : (c : goal.In_ok-end_frame) → let r = whole c in
+    let layout = c.layout-layout.result in
+    action_start layout c.tick_action-action.result ++ messages_start layout (not c.is_empty-has_messages.result)
+    ≡ frame_begin (layout_of r.options) (printed_at r (input c)) (body_of (action_at r (input c)) (drawing_at r (input c)) (ending_of r))
+begins c =
+    let r = whole c in
+    let layout = layout_of r.options in
+    let some = not c.is_empty-has_messages.result in
+    let body = body_of (action_at r (input c)) (drawing_at r (input c)) (ending_of r) in
+    ap (λ (l : Layout). action_start l c.tick_action-action.result ++ messages_start l some) (layout_is c)
+    ∙ ap (λ action. action_start layout action ++ messages_start layout some) (action_is c)
+    ∙ ap (λ signs. signs ++ messages_start layout some) (action_starts layout (action_at r (input c)) (drawing_at r (input c)) (ending_of r))
+    ∙ ap (λ b. frame_start layout body ++ messages_start layout b) (has_is c)
 
 pub returns-clause-bytes : goal.returns-clause-bytes
 returns-clause-bytes c =
@@ -74,9 +92,9 @@ returns-clause-bytes c =
     let left = c.widths_below-left.result.now in
     let layout = layout_of r.options in
     let action = action_at r (input c) in
-    frame_bytes_of (frame_at r (input c)) _ _ r.widths left c.begin_frame.new.out.bytes before c.write_body.new.out.bytes _ (length c.as_slice-messages.result.now)
-    c.in_ok-begin_frame.ensures
-    (ap (λ (l : Layout). action_start l c.tick_action-action.result) (layout_is c) ∙ ap (action_start layout) (action_is c) ∙ action_starts layout action (drawing_at r (input c)) (ending_of r))
+    frame_bytes_of (frame_at r (input c)) _ _ r.widths left c.start_messages.new.out.bytes before c.write_body.new.out.bytes _ (length c.as_slice-messages.result.now)
+    (begun_with (opening_of r) _ _ c.begin_frame.new.out.bytes c.start_messages.new.out.bytes c.in_ok-begin_frame.ensures c.in_ok-start_messages.ensures)
+    (begins c)
     (ap (λ (l : Layout). action_end l c.tick_action-action.result) (layout_is c) ∙ ap (action_end layout) (action_is c) ∙ action_ends layout action (drawing_at r (input c)) (ending_of r))
     (over c) (left_is c) (printed c)
     (c.in_ok-drawn.ensures.bytes

@@ -11,4 +11,4 @@ returns-in_ok-finish_overwriting-in-Overwriting c =
 pub returns-in_ok-finish_erasing-in-Erasing : goal.returns-in_ok-finish_erasing-in-Erasing
 returns-in_ok-finish_erasing-in-Erasing c =
     subst (λ (l : Layout). FinishesRedraw l c.args.out.now c.args.widths.now c.args.drawn c.finish_erasing.new.out) (sym c.in-Erasing.is)
-    (λ before lines n e. redrawn_erasing c.in-Erasing.height c.args.widths.now lines c.args.drawn before _ _ n e c.in_ok-finish_erasing-in-Erasing.ensures)
+    (λ before lines n e. redrawn_erasing c.in-Erasing.height c.in-Erasing.synchronized c.in-Erasing.whole_messages c.args.widths.now lines c.args.drawn before _ _ n e c.in_ok-finish_erasing-in-Erasing.ensures)

@@ -1,4 +1,4 @@
-use Rattle.std.proofs.Common.{rules, ◌≡◌, ℕ, ◌-◌, ◌++◌, List, length, ap, subst, ◌∙◌, arith, Option}
+use Rattle.std.proofs.Common.{rules, ◌≡◌, ℕ, ◌-◌, ◌++◌, List, length, ap, subst, ◌∙◌, append_assoc, arith, Option}
 use Rattle.std.proofs.lemmas.List.{length-map}
 use Rattle.std.specs.Option.{option_map}
 use Rattle.prodash_base.specs.Rows.{PathRow, rows_of}
@@ -6,8 +6,9 @@ use Rattle.prodash_base.specs.Trackers.{Tracker, reconcile}
 use Rattle.prodash_line.specs.declared.render.line.draw.action.Action.{Action}
 use Rattle.prodash_line.specs.declared.render.line.draw.layout.Layout.{Layout}
 use Rattle.prodash_line.specs.Lines.{Line, columns_of}
+use Rattle.prodash_line.specs.Signs.{spelling}
 use Rattle.prodash_line.specs.DrawnLines.{layout_of}
-use Rattle.prodash_line.specs.Frames.{covered, widths_of}
+use Rattle.prodash_line.specs.Frames.{covered, lines_start, widths_of}
 use Rattle.prodash_line.specs.ProgressRows.{DrawnRow, filtered, fitting, more_lines, row_lines, greatest_midpoint}
 use Rattle.prodash_line.specs.Renderer.{Renderer, drawn_rows, fitting_rows}
 use Rattle.prodash_line.specs.plumbing.Observing.{shown_by, observe_all, ahead_of, tracker_by}
@@ -51,10 +52,14 @@ pub returns-clause-bytes : goal.returns-clause-bytes
 returns-clause-bytes c =
     let drawn = (drawing_in c.args.scene.now (before c)).lines in
     let layout = layout_of c.args.scene.now.options in
+    let over = lines_bytes layout (covered layout c.args.widths.now) drawn in
     let finishes = subst (λ (l : Layout). FinishesRedraw l c.write_fitting.new.out c.args.widths.now c.len.result c.finish_redraw.new.out) c.layout-layout.ensures c.in_ok-finish_redraw.ensures in
     finishes c.args.out.now.bytes drawn
     (search (rules, ap length (widths_are c), length-map drawn columns_of))
-    (c.in_ok-write_fitting.ensures.bytes ∙ ap (λ (ls : List Line). c.args.out.now.bytes ++ lines_bytes layout (covered layout c.args.widths.now) ls) (lines c))
+    (c.in_ok-write_fitting.ensures.bytes
+    ∙ ap (λ (ls : List Line). c.start_lines.new.out.bytes ++ lines_bytes layout (covered layout c.args.widths.now) ls) (lines c)
+    ∙ ap (λ (t : List ℕ). t ++ over) (c.in_ok-start_lines.ensures ∙ ap (λ (l : Layout). c.args.out.now.bytes ++ spelling (lines_start l)) c.layout-layout.ensures)
+    ∙ append_assoc c.args.out.now.bytes (spelling (lines_start layout)) over)
 
 pub returns-clause-state : goal.returns-clause-state
 returns-clause-state c =

@@ -7,6 +7,6 @@ use Rattle.prodash_line.proofs.render.line.draw.message.push_message.Goals as go
 pub returns-clause-line : goal.returns-clause-line
 returns-clause-line c =
     let o = c.args.options.now in
-    begun_then (begun_then (begun_to _ _ c.width_limit.ensures c.begin_line.ensures) c.in_ok-push_spaces.ensures)
+    begun_then (begun_then (begun_to _ _ c.message_limit.ensures c.begin_line.ensures) c.in_ok-push_spaces.ensures)
     (appends_as (sym (in_color-append o.colored (time_of o.timestamp c.args.message.now) (text_of o.defensive c.args.width c.args.message.now)))
     (appends_then c.in_ok-push_time.ensures.pieces c.in_ok-push_origin_and_text.ensures))

@@ -12,6 +12,8 @@ returns-in_err-number_of-in-65 c = rw c.from_residual.ensures (makes_none c.args
   show = λ e. absurd (omega arith);
   no_wrap = λ e. absurd (omega arith);
   wrap = λ e. absurd (omega arith);
+  begin_update = λ e. absurd (omega arith);
+  end_update = λ e. absurd (omega arith);
   open_style = λ e. absurd (omega arith);
   reset = λ e. absurd (omega arith);
 }))
@@ -25,8 +27,10 @@ returns-in_err-style_of-in-109-2 c = rw c.from_residual-in_err-style_of-in-109-2
   show = λ e. absurd (omega arith);
   no_wrap = λ e. absurd (omega arith);
   wrap = λ e. absurd (omega arith);
+  begin_update = λ e. absurd (omega arith);
+  end_update = λ e. absurd (omega arith);
   open_style = λ e. c.in_err-style_of-in-109-2.ensures;
-  reset = λ e. differs c.eq-is_zero.result c.args.parameters.now c.as_slice-4.result.now (48 ∷ []) c.if-is_zero.false c.eq-is_zero.ensures c.as_slice-4.ensures refl;
+  reset = λ e. differs c.eq-is_zero.result c.args.parameters.now c.as_slice-5.result.now (48 ∷ []) c.if-is_zero.false c.eq-is_zero.ensures c.as_slice-5.ensures refl;
 }))
 
 pub returns-in_default : goal.returns-in_default
@@ -38,6 +42,8 @@ returns-in_default c = makes_none c.args.parameters.now c.args.final_byte (recor
   show = λ e. absurd (omega arith);
   no_wrap = λ e. absurd (omega arith);
   wrap = λ e. absurd (omega arith);
+  begin_update = λ e. absurd (omega arith);
+  end_update = λ e. absurd (omega arith);
   open_style = λ e. absurd (omega arith);
   reset = λ e. absurd (omega arith);
 })
@@ -51,6 +57,8 @@ returns-in_default-2 c = makes_none c.args.parameters.now c.args.final_byte (rec
   show = λ e. absurd (omega arith);
   no_wrap = λ e. differs c.eq-is_wrap.result c.args.parameters.now c.as_slice-3.result.now (63 ∷ 55 ∷ []) c.if-is_wrap.false c.eq-is_wrap.ensures c.as_slice-3.ensures refl;
   wrap = λ e. absurd (omega arith);
+  begin_update = λ e. absurd (omega arith);
+  end_update = λ e. differs c.eq-is_update.result c.args.parameters.now c.as_slice-4.result.now (63 ∷ 50 ∷ 48 ∷ 50 ∷ 54 ∷ []) c.if-is_update.false c.eq-is_update.ensures c.as_slice-4.ensures refl;
   open_style = λ e. absurd (omega arith);
   reset = λ e. absurd (omega arith);
 })
@@ -64,6 +72,8 @@ returns-in_default-3 c = makes_none c.args.parameters.now c.args.final_byte (rec
   show = λ e. differs c.eq-is_cursor.result c.args.parameters.now c.as_slice-2.result.now (63 ∷ 50 ∷ 53 ∷ []) c.if-is_cursor-2.false c.eq-is_cursor.ensures c.as_slice-2.ensures refl;
   no_wrap = λ e. absurd (omega arith);
   wrap = λ e. differs c.eq-is_wrap.result c.args.parameters.now c.as_slice-3.result.now (63 ∷ 55 ∷ []) c.if-is_wrap-2.false c.eq-is_wrap.ensures c.as_slice-3.ensures refl;
+  begin_update = λ e. differs c.eq-is_update.result c.args.parameters.now c.as_slice-4.result.now (63 ∷ 50 ∷ 48 ∷ 50 ∷ 54 ∷ []) c.if-is_update-2.false c.eq-is_update.ensures c.as_slice-4.ensures refl;
+  end_update = λ e. absurd (omega arith);
   open_style = λ e. absurd (omega arith);
   reset = λ e. absurd (omega arith);
 })
@@ -77,6 +87,8 @@ returns-in_default-4 c = makes_none c.args.parameters.now c.args.final_byte (rec
   show = λ e. absurd (omega arith);
   no_wrap = λ e. absurd (omega arith);
   wrap = λ e. absurd (omega arith);
+  begin_update = λ e. absurd (omega arith);
+  end_update = λ e. absurd (omega arith);
   open_style = λ e. absurd (omega arith);
   reset = λ e. absurd (omega arith);
 })
@@ -90,6 +102,8 @@ returns-in_default-5 c = makes_none c.args.parameters.now c.args.final_byte (rec
   show = λ e. absurd (omega arith);
   no_wrap = λ e. absurd (omega arith);
   wrap = λ e. absurd (omega arith);
+  begin_update = λ e. absurd (omega arith);
+  end_update = λ e. absurd (omega arith);
   open_style = λ e. absurd (omega arith);
   reset = λ e. absurd (omega arith);
 })
