@@ -5,7 +5,8 @@ import unicodedata
 # The signs that a renderer writes. docs/FORMATS.md says what each does.
 SIGN = re.compile(
     r"(?P<feed>\n)|(?P<return>\r)|\x1b\[(?:(?P<up>[1-9]\d*)A|(?P<line>2K)|(?P<below>J)"
-    r"|\?25[hl]|\?7(?P<wrap>[hl])|(?P<codes>\d+(?:;\d+)*)m)|(?P<char>[^\x00-\x1f\x7f-\x9f])"
+    r"|\?(?:25|2026)[hl]|\?7(?P<wrap>[hl])|(?P<codes>\d+(?:;\d+)*)m)"
+    r"|(?P<char>[^\x00-\x1f\x7f-\x9f])"
 )
 
 

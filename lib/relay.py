@@ -11,7 +11,8 @@ The program gets no signal of the terminal, so it isn't ended before its input i
   COLUMNS or LINES says the size from the start.
 
 The status is the program's, or 128 and the number of the signal that ended it. After such a signal
-the terminal gets back what a frame switches off until its end: wrapping, and the cursor.
+the terminal gets back what a frame switches off until its end: wrapping, the cursor, and that it
+shows at once what is written.
 """
 import contextlib
 import os
@@ -23,8 +24,8 @@ import termios
 
 # How many bytes are read at a time, as many as a pipe has.
 READ = 65536
-# DECAWM and DECTCEM: lines are wrapped, and the cursor is shown.
-RESTORED = b"\x1b[?7h\x1b[?25h"
+# DECAWM and DECTCEM: lines are wrapped, and the cursor is shown. A synchronized update ends.
+RESTORED = b"\x1b[?7h\x1b[?25h\x1b[?2026l"
 
 
 class Relay:

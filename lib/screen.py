@@ -7,7 +7,7 @@ to the job and to what is typed.
 # What a terminal does: erases below the cursor, or behind it in its row; keeps and restores the
 # cursor's place and its style; makes room below, which scrolls at the last row.
 ERASE_BELOW, ERASE_BEHIND, KEEP, RESTORE, ROOM = b"\x1b[J", b"\x1b[K", b"\x1b7", b"\x1b8", b"\x1bD"
-ERASE_LINE, PLAIN = b"\x1b[2K", b"\x1b[m"
+ERASE_LINE, PLAIN, NO_WRAP = b"\x1b[2K", b"\x1b[m", b"\x1b[?7l"
 # A full screen is drawn on a page of its own.
 FULL, NOT_FULL = b"\x1b[?1049h", b"\x1b[?1049l"
 # How much of a line is kept, more than a terminal has columns.
@@ -23,22 +23,19 @@ def parts(frame):
 
     A carriage return is added to each line feed, for a job that has the terminal add none.
     """
-    begin, _, end = frame.rpartition(ERASE_BELOW)
-    head, erases, body = begin.partition(ERASE_LINE)
-    lines = (erases + body).split(b"\n")[:-1]
-    up, _, after = end[2:].rpartition(b"A")
-    at = len(lines) - int(up or 0)
-    rows = lines[at:]
+    told, _, drawn = frame.replace(b"\n", b"\r\n").partition(NO_WRAP)
+    begin, _, end = drawn.rpartition(ERASE_BELOW)
+    rows = begin.split(b"\r\n")[:-1]
     while rows and rows[-1] == ERASE_LINE:
         # left over from the frame before
         rows.pop()
     count = len(rows)
-    messages = b"".join(it + b"\r\n" for it in lines[:at])
-    drawn = b"".join(it + b"\r\n" for it in rows)
+    lines = b"".join(it + b"\r\n" for it in rows)
     back = b"\x1b[%dA" % count if count else b""
-    modes = after if up else end
-    told = head + messages + modes if messages else b""
-    return told, head + drawn + ERASE_BELOW + back + modes, count
+    modes = end.rpartition(b"A")[2]
+    # without messages it has a carriage return alone
+    messages = told if len(told) > 1 else b""
+    return messages, b"\r" + NO_WRAP + lines + ERASE_BELOW + back + modes, count
 
 
 def is_half(line):

@@ -25,7 +25,7 @@ The same on a terminal, where rows wait for the delay.
   $ burst | as_on_a_terminal | late >output
   $ rm taken
   $ grep -o ' a [0-9][0-9]* of a burst of messages' output | cmp expected -
-  $ grep -c '\[1A' output
+  $ grep -c '\[2K a' output
   0
   [1]
 

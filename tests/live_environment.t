@@ -15,7 +15,7 @@ Terminals
 Frames erase the rows of a terminal, unless `TERM` is not set or is `dumb`. Then messages alone are
 written, as where the output is no terminal. `--terminal always` writes frames all the same.
 
-  $ on_terminal 'NO_COLOR=1 exec prodash-live <said' | grep -c '\[2K task a'
+  $ on_terminal 'NO_COLOR=1 exec prodash-live <said' | grep -c '\[1A task a'
   1
   $ on_terminal 'TERM=dumb exec prodash-live <said'
    task a\r (esc)
@@ -23,7 +23,7 @@ written, as where the output is no terminal. `--terminal always` writes frames a
    \xe2\x9c\x97 task c\r (esc)
   $ on_terminal 'unset TERM; exec prodash-live --terminal auto <said' | head -n 1
    task a\r (esc)
-  $ on_terminal 'TERM=dumb NO_COLOR=1 exec prodash-live --terminal always <said' | grep -c '\[2K task a'
+  $ on_terminal 'TERM=dumb NO_COLOR=1 exec prodash-live --terminal always <said' | grep -c '\[1A task a'
   1
 
 Colours
@@ -42,7 +42,7 @@ disable them whatever these say, and `CLICOLOR=0` unless one of these says other
    task a
   $ CLICOLOR_FORCE=1 prodash-live --stdout --no-color <said | head -n 1
    task a
-  $ on_terminal 'CLICOLOR=0 exec prodash-live <said' | grep -c '\[2K task a'
+  $ on_terminal 'CLICOLOR=0 exec prodash-live <said' | grep -c '\[1A task a'
   1
 
 Characters

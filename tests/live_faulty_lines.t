@@ -156,7 +156,7 @@ The rows are erased.
   $ strict 'add @a 0 a\nset @a 1'
   line 2: the line is cut off: it has no line feed, in: set @a 1
   [2]
-  $ tail -c 12 frames | grep -o '\[J'
+  $ tail -c 20 frames | grep -o '\[J'
   [J
 
 Failures

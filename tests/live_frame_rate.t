@@ -68,5 +68,6 @@ Rows are hidden until the delay has passed; messages are not.
   $ printf 'add 0 a\ninfo 1 0 one\n' \
   >   | until_shown one prodash-live --terminal always --delay 86400000 2>frames
   $ cat frames
-  \r\x1b[?7l\x1b[2K \x1b[2ma\x1b[0m \x1b[1;37mone\x1b[0m (esc)
-  \x1b[J\x1b[?7h\r\x1b[?7l\x1b[J\x1b[?7h (no-eol) (esc)
+  \x1b[?2026h\r\x1b[?7h\x1b[2K (esc)
+  \x1b[J\x1b[1A \x1b[2ma\x1b[0m \x1b[1;37mone\x1b[0m (esc)
+  \x1b[?7l\x1b[J\x1b[?7h\x1b[?2026l\x1b[?2026h\r\x1b[?7l\x1b[J\x1b[?7h\x1b[?2026l (no-eol) (esc)

@@ -57,17 +57,39 @@ Without a faulty line the status is 0.
   $ printf 'add 0 a\ninfo 1 3723000000000 one\n' | prodash-live --timestamps
    01:02:03 a one
 
-Severity
-========
+Whole messages
+==============
 
-Without colours a sign before the origin says that a message is a success or a failure. The row of
-the item has none. `until_shown` keeps the input of a command open until a text is in the file
-`frames`. `last_rows` shows the rows drawn last before the closing frame.
+On a terminal a message isn't cut: it goes on in the next row, which is blank. Rows don't wrap.
+`until_shown` keeps the input of a command open until a text is in the file `frames`.
 
   $ until_shown() {
   >   text=$1; shift
   >   { cat; until grep -qs "$text" frames; do sleep 0.02; done; } | "$@"
   > }
+  $ long_message() {
+  >   printf 'add 0 task\ninfo 1 0 a long message\n' | until_shown message prodash-live \
+  >     --terminal always --no-color --columns 10 --rows "$1" --delay 86400000 2>frames
+  > }
+  $ long_message 4
+  $ cat frames
+  \x1b[?2026h\r\x1b[?7h\x1b[2K (esc)
+  \x1b[J\x1b[1A task a long message (esc)
+  \x1b[?7l\x1b[J\x1b[?7h\x1b[?2026l\x1b[?2026h\r\x1b[?7l\x1b[J\x1b[?7h\x1b[?2026l (no-eol) (esc)
+
+A window of one row has none below the cursor's that could be blanked.
+
+  $ long_message 1
+  $ cat frames
+  \x1b[?2026h\r\x1b[?7h\x1b[2K task a long message (esc)
+  \x1b[?7l\x1b[J\x1b[?7h\x1b[?2026l\x1b[?2026h\r\x1b[?7l\x1b[J\x1b[?7h\x1b[?2026l (no-eol) (esc)
+
+Severity
+========
+
+Without colours a sign before the origin says that a message is a success or a failure. The row of
+the item has none. `last_rows` shows the rows drawn last before the closing frame.
+
   $ last_rows() { tail -n $((2 * $1 + 1)) frames | head -n "$1" | sed 's/.*\[2K//'; }
   $ printf 'add 0 task\ninfo 1 0 a\ndone 1 0 b\nfail 1 0 c\ninit 1 3 -\nset 1 2\n' >said
   $ until_shown 2/3 prodash-live --no-color --columns 30 --terminal always <said 2>frames

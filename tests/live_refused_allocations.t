@@ -10,8 +10,9 @@ The last size comes after the task, and a frame of that size needs more memory t
 If it is refused memory it is drawn later, so that there is always a row of 3000 columns.
 
   $ build-failures .
-  $ without_rows=$(printf '\r\033[?7l\033[J\033[?7h')
-  $ row_erased=$(printf '\r\033[?7l\033[2K\n\033[J\033[1A\033[?7h')
+  $ begin=$(printf '\033[?2026h\r\033[?7l') end=$(printf '\033[?7h\033[?2026l')
+  $ without_rows=$begin$(printf '\033[J')$end
+  $ row_erased=$begin$(printf '\033[2K\n\033[J\033[1A')$end
   $ wide=m$(printf '%02986d' 0 | tr 0 -)$(printf '\033[0m]')
   $ run() {
   >   printf 'add 0 task\ninit 1 10\nsize 3000 20\n' | timeout 60 env REFUSED=$number MARK=9 \

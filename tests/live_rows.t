@@ -18,10 +18,10 @@ A row without progress is drawn once, and the closing frame erases it. An earlie
 been drawn before the task was added, and then it has no rows.
 
   $ echo 'add 0 task' | until_shown task prodash-live --terminal always 2>frames
-  $ sed 's/^\r.\[?7l.\[J.\[?7h//' frames
-  \r\x1b[?7l\x1b[2K \x1b[1;37mtask\x1b[0m (esc)
-  \x1b[J\x1b[1A\x1b[?7h\r\x1b[?7l\x1b[2K (esc)
-  \x1b[J\x1b[1A\x1b[?7h (no-eol) (esc)
+  $ sed 's/^.\[?2026h\r.\[?7l.\[J.\[?7h.\[?2026l//' frames
+  \x1b[?2026h\r\x1b[?7l\x1b[2K \x1b[1;37mtask\x1b[0m (esc)
+  \x1b[J\x1b[1A\x1b[?7h\x1b[?2026l\x1b[?2026h\r\x1b[?7l\x1b[2K (esc)
+  \x1b[J\x1b[1A\x1b[?7h\x1b[?2026l (no-eol) (esc)
 
 By default there are 80 columns, of which a bar takes at most 40, colours, and no rows if the output
 is no terminal.

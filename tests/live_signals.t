@@ -60,7 +60,7 @@ a terminal alone.
   >   python3 -c 'import pty, sys; pty.spawn(["sh", "-c", sys.argv[1]])' "$1" </dev/null
   > }
   $ on_terminal 'relay sh -c "kill -9 \$\$"'
-  \x1b[?7h\x1b[?25h (no-eol) (esc)
+  \x1b[?7h\x1b[?25h\x1b[?2026l (no-eol) (esc)
   $ on_terminal 'relay sh -c "exit 3"'
   $ relay sh -c 'kill -9 $$' 2>&1 </dev/null
   [137]

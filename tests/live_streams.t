@@ -4,7 +4,7 @@ prodash-live: streams
 An empty input gets a frame without rows and the closing frame.
 
   $ prodash-live --terminal always </dev/null
-  \r\x1b[?7l\x1b[J\x1b[?7h\r\x1b[?7l\x1b[J\x1b[?7h (no-eol) (esc)
+  \x1b[?2026h\r\x1b[?7l\x1b[J\x1b[?7h\x1b[?2026l\x1b[?2026h\r\x1b[?7l\x1b[J\x1b[?7h\x1b[?2026l (no-eol) (esc)
 
 An input that can't be read, and an output that can't be written.
 

@@ -53,6 +53,34 @@ A job writes lines, then a line that isn't whole.
   two: 2
   same modes
 
+A message that is wider than the window goes on in the next row.
+
+  $ cat >wide <<'.'
+  > . ./job
+  > echo one; next; say info @a - a message that is wider than the window of fifty columns; next
+  > .
+  $ on-terminal 50 8 <<'.'
+  > run prodash-run --no-color -- sh wide
+  > until 3/10
+  > until one
+  > tell go
+  > until columns
+  > until 3/10
+  > screen
+  > tell go
+  > ended
+  > screen
+  > .
+  one
+   build a message that is wider than the window of
+  fifty columns
+  
+   build 3/10 files [========>---------------------]
+  status 0
+  one
+   build a message that is wider than the window of
+  fifty columns
+
 A line that isn't whole may be a prompt that was answered, if keys can be typed. So a message goes
 in below it. If what is typed is part of the output, or none can be, it goes in above the line.
 

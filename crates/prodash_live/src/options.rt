@@ -88,6 +88,8 @@ impl<'a> Options<'a> {
             bar_columns: Some(self.bar_columns),
             throughput: true,
             defensive: true,
+            synchronized: !self.has_marks,
+            whole_messages: true,
             initial_delay: Some(self.delay.saturating_mul(1_000_000)),
             nanoseconds_per_frame: 1_000_000_000 / self.frames.max(1),
             ..line::Options::default()
