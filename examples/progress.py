@@ -21,6 +21,6 @@ for name in ("readme.txt", "manual.pdf", "disk.img"):
     for done in range(0, size, 100_000):
         write_event("set @file", done)
         time.sleep(0.02)
-    write_event("done @file - downloaded")
+    write_event("done @file downloaded")
     write_event("drop @file")
     write_event("inc @all 1")

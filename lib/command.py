@@ -27,9 +27,11 @@ Lines:
   max @WORD MAX            changes its maximum
   blocked @WORD, halted @WORD, running @WORD
                            sets its state
-  info @WORD - TEXT, done @WORD - TEXT, fail @WORD - TEXT
-                           prints a message above the rows; - is the current moment
-  drop @WORD               removes it
+  info @WORD TEXT, done @WORD TEXT, fail @WORD TEXT
+                           prints a message above the rows; a TEXT that may begin with a
+                           number has a - before it, as info @all - 3 files
+  print TEXT               prints a line above the rows
+  drop @WORD               removes it, and its word is free again
 """
 SHORT = {
     "run": "runs a command with rows below its output, which any of its processes may add",

@@ -29,6 +29,13 @@ The same on a terminal, where rows wait for the delay.
   0
   [1]
 
+So are lines that are printed.
+
+  $ prints() { seq 20000 | sed 's/^/print /; s/$/ of a burst of lines/' && touch taken; }
+  $ prints | timeout 60 prodash-live --stdout --fps 1 | late >output
+  $ rm taken
+  $ seq 20000 | sed 's/^/  /; s/$/ of a burst of lines/' | cmp output -
+
 Faulty lines are messages too. These are so long that few of them fit in the pipe.
 
   $ nothings() { yes "$(printf 'nothing %0200d' 0)" | head -n 20000 && touch taken; }

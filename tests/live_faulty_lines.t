@@ -45,6 +45,8 @@ status of prodash-live is 2.
   > drop @a
   > set 1 +3
   > inc @a 1
+  > info 1 5
+  > print
   > END
   status 2
   line 1: unknown command "foo", in: foo 1
@@ -60,8 +62,8 @@ status of prodash-live is 2.
   line 11: "a" is no item (its number, or @ and its word), in: set a 3
   line 12: "@" is no item (its number, or @ and its word), in: drop @
   line 13: the item is missing (its number, or @ and its word), in: blocked
-  line 14: "now" is no time (nanoseconds, or - for now), in: info 0 now a
-  line 15: the time is missing (nanoseconds, or - for now), in: fail 0
+  line 14: 0 is the root, not an item, in: info 0 now a
+  line 15: the text is missing, in: fail 0
   line 16: "3 4" is no number (0 to 18446744073709551615), in: set 1 3 4
   line 17: "-" is no number (0 to 18446744073709551615), in: inc 1 -
   line 18: "18446744073709551616" is no number (0 to 18446744073709551615), in: set 1 18446744073709551616
@@ -85,6 +87,8 @@ status of prodash-live is 2.
   line 36: no item @a, in: drop @a
   line 37: "+3" is no number (0 to 18446744073709551615), in: set 1 +3
   line 38: no item @a, in: inc @a 1
+  line 39: the text is missing, in: info 1 5
+  line 40: the text is missing, in: print
 
 An item below one at the sixth level would take its parent's place. It isn't added, and gets no
 handle.
@@ -97,7 +101,7 @@ handle.
   > add @e @d e
   > add @f @e f
   > add 6 g
-  > add @f @f g
+  > add @g @f g
   > add @g @e g
   > info @f - one
   > info 7 - two
@@ -105,16 +109,16 @@ handle.
   > END
   status 2
   line 7: no item can be below @f, which is on the last of six levels, in: add 6 g
-  line 8: no item can be below @f, which is on the last of six levels, in: add @f @f g
+  line 8: no item can be below @f, which is on the last of six levels, in: add @g @f g
          f one
          g two
   line 12: no item 99, in: set 99 3
 
-A line that is not UTF-8, one that is too long, and one that is cut off.
+What isn't UTF-8 is U+FFFD in a faulty line, too. A line that is too long, and one that is cut off.
 
-  $ { printf 'add 0 \377\n'; head -c 65537 /dev/zero | tr '\0' a; printf '\nset 1 10'; } | told
+  $ { printf 'set @\377 1\n'; head -c 65537 /dev/zero | tr '\0' a; printf '\nset 1 10'; } | told
   status 2
-  line 1: the line is not UTF-8, in: add 0 \xef\xbf\xbd (esc)
+  line 1: no item @\xef\xbf\xbd, in: set @\xef\xbf\xbd 1 (esc)
   line 2: the line is longer than 65536 bytes, in: aaaaaaaaaaaaaaaaaaaaaaaaaaaaaaaaaaaaaaaaaaaaaaaaaaaaaaaaaaaa
   line 3: the line is cut off: it has no line feed, in: set 1 10
 
@@ -175,14 +179,13 @@ So does a last line without a line feed, which isn't applied.
    \xe2\x9c\x97 input line 2: the line is cut off: it has no line feed, in: info 1 0 b (esc)
   [2]
 
-A line that is not UTF-8 and one that is longer than 65536 bytes don't affect the lines after them.
+A line that is longer than 65536 bytes doesn't affect the lines after it.
 
   $ {
-  >   printf 'add 0 \377\nadd 0 '
+  >   printf 'add 0 '
   >   head -c 65531 /dev/zero | tr '\0' a
   >   printf '\nadd 0 a\ninfo 1 - one\n'
   > } | prodash-live
-   \xe2\x9c\x97 input line 1: the line is not UTF-8, in: add 0 \xef\xbf\xbd (esc)
-   \xe2\x9c\x97 input line 2: the line is longer than 65536 bytes, in: add 0 aaaaaaaaaaaaaaaaaaaaaaaaaaaaaaaaaaaaaaaaaaaaaaaaaaaaaa (esc)
+   \xe2\x9c\x97 input line 1: the line is longer than 65536 bytes, in: add 0 aaaaaaaaaaaaaaaaaaaaaaaaaaaaaaaaaaaaaaaaaaaaaaaaaaaaaa (esc)
          a one
   [2]

@@ -57,6 +57,47 @@ Without a faulty line the status is 0.
   $ printf 'add 0 a\ninfo 1 3723000000000 one\n' | prodash-live --timestamps
    01:02:03 a one
 
+The moment may be left out. A first word that is a number, or `-`, is the moment.
+
+  $ prodash-live --timestamps <<'END' 2>&1 | sed 's/ [0-9][0-9]:[0-9][0-9]:[0-9][0-9] / TIME /'
+  > add @a 0 alpha
+  > info @a one more
+  > done @a - two
+  > info @a 3 files
+  > info @a - 4 files
+  > info @a -5
+  > fail @a 
+  > END
+   TIME alpha one more
+   TIME \xe2\x9c\x93 alpha two (esc)
+   TIME   alpha files
+   TIME   alpha 4 files
+   TIME   alpha -5
+   TIME \xe2\x9c\x97 alpha  (esc)
+
+What isn't UTF-8 is U+FFFD, in a name, a text or a word.
+
+  $ printf 'add @\377 0 caf\351\ninfo @\377 a\377\376b\nset @\377 1\n' | prodash-live
+   caf\xef\xbf\xbd a\xef\xbf\xbd\xef\xbf\xbdb (esc)
+
+A line `print` has its text alone, without a row, an origin or a severity.
+
+  $ prodash-live <<'END'
+  > print 3 files, of no item
+  > add @a 0 alpha
+  > done @a one
+  > print  two
+  > print 
+  > END
+    3 files, of no item
+   \xe2\x9c\x93 alpha one (esc)
+            two
+           
+
+Without the root there is nothing to print above.
+
+  $ printf 'droproot\nprint one\n' | prodash-live --strict
+
 Whole messages
 ==============
 

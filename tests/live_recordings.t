@@ -138,6 +138,33 @@ Dropping the root ends the frames, as in the run.
   $ prodash-replay bytes 40 4 --defensive <recording
   \r\x1b[?7l\x1b[J\x1b[?7h\r\x1b[?7l\x1b[J\x1b[?7h (no-eol) (esc)
 
+Lines that are printed are the messages of an item whose row another has replaced, and which was
+dropped.
+
+  $ printf 'print one\nadd 0 a\nprint two\n' | prodash-live --record recording 2>said
+  $ cat said
+    one
+    two
+  $ events recording | sed 's/ *$//'
+  add 0
+  add 1
+  drop 1
+  add 2
+  drop 2
+  add 3
+  drop 3
+  add 4
+  drop 4
+  add 5
+  drop 5
+  add 6
+  drop 7
+  info 6 NOW one
+  add 0 a
+  info 6 NOW two
+  quit NOW
+  $ prodash-replay page 80 20 <recording | sed '/^$/d' | cmp said -
+
 Ticks
 =====
 

@@ -111,7 +111,7 @@ fn writes_the_lines_that_it_reads(rt: HostRuntime) {
 }
 
 /// Asserts what a line of a script asks for if `a` names the handle 7 and it is 5.
-fn assert_command(rt: &impl Abort, alloc: Global, line: &[u8], want: &str) {
+fn assert_command(rt: &impl Abort, alloc: Global, line: &str, want: &str) {
     let mut names = Names::new(alloc);
     let name = String::from_str(alloc, "a").expect(rt, "memory");
     let before: Result<_, _> = names.insert(name, 7);
@@ -134,6 +134,15 @@ halted @a -> Change(7, Halted)
 running @a -> Change(7, Running)
 info @a - x -> Change(7, Message { at: 5, level: Info, text: "x" })
 done 1 7 x -> Change(1, Message { at: 7, level: Success, text: "x" })
+fail @a x y -> Change(7, Message { at: 5, level: Failure, text: "x y" })
+info @a 7x y -> Change(7, Message { at: 5, level: Info, text: "7x y" })
+info @a -x - -> Change(7, Message { at: 5, level: Info, text: "-x -" })
+info @a  - x -> Change(7, Message { at: 5, level: Info, text: " - x" })
+info @a 3 files -> Change(7, Message { at: 3, level: Info, text: "files" })
+done @a  -> Change(7, Message { at: 5, level: Success, text: "" })
+done @a 7  -> Change(7, Message { at: 7, level: Success, text: "" })
+print 3 files -> Print("3 files")
+print  -> Print("")
 init @a 10 -> Change(7, Init { max: Some(10), unit: None })
 init @a - -> Change(7, Init { max: None, unit: None })
 init @a 10 - -> Change(7, Init { max: Some(10), unit: None })
@@ -155,6 +164,11 @@ add @b -> Fault(Missing(Item))
 add @b x -> Fault(Invalid(Item, "x"))
 add @ 0 x -> Fault(Invalid(Word, ""))
 add 0 -> Fault(Missing(Name))
+info @a -> Fault(Missing(Message))
+info @a - -> Fault(Missing(Message))
+done @a 7 -> Fault(Missing(Message))
+fail a x -> Fault(Invalid(Item, "a"))
+print -> Fault(Missing(Text))
 droproot  -> Fault(Extra(""))
 "#;
 
@@ -162,9 +176,8 @@ droproot  -> Fault(Extra(""))
 fn reads_commands(rt: HostRuntime) {
     for row in COMMANDS.lines() {
         let (line, want) = cells(&rt, row);
-        assert_command(&rt, rt.alloc(), line.as_bytes(), want);
+        assert_command(&rt, rt.alloc(), line, want);
     }
-    assert_command(&rt, rt.alloc(), b"set @a \xff", "Fault(NotUtf8)");
 }
 
 /// Asserts that a stream gives these in turn: of a line its text.

@@ -7,6 +7,7 @@ use prodash::time::Clock;
 use prodash_script::{Change, Command, Labels, Lines, Next, parse_command};
 use std::alloc::Global;
 use std::io::{self, Read, Write};
+use std::str;
 use std::sync::Wait;
 use std::thread::Threads;
 
@@ -72,15 +73,9 @@ impl<'a, R: Wait + Threads + Clone + Drop, W: Write + Drop, K: Clock> Feed<'a, R
                 break;
             }
             let line = without_return(lines.line());
-            if next == Next::Line && self.items.change_step(line)? {
+            let Some(text) = self.serve_bytes(number, next, line)? else {
                 continue;
-            }
-            let fault = match self.serve(next, line) {
-                Ok(()) => continue,
-                Err(Unserved::Fault(fault)) => fault,
-                Err(Unserved::Failure(failure)) => return Err(failure),
             };
-            let text = fault_text(self.alloc, number, &fault, line)?;
             if is_strict {
                 return Ok(Outcome::Stopped(text));
             }
@@ -105,8 +100,42 @@ impl<'a, R: Wait + Threads + Clone + Drop, W: Write + Drop, K: Clock> Feed<'a, R
         Ok(next)
     }
 
+    /// Does what a line asks for, with U+FFFD in place of what isn't UTF-8. Returns what is said of
+    /// the line, if it is faulty.
+    fn serve_bytes(
+        &mut self,
+        number: u64,
+        next: Next,
+        line: &[u8],
+    ) -> Result<Option<String>, Failure> {
+        match str::from_utf8(line) {
+            Ok(line) => self.serve_text(number, next, line),
+            Err(_) => {
+                let line = String::from_utf8_lossy(self.alloc, line)?;
+                self.serve_text(number, next, line.as_str())
+            }
+        }
+    }
+
+    /// Does what a line asks for. Returns what is said of it, if it is faulty.
+    fn serve_text(
+        &mut self,
+        number: u64,
+        next: Next,
+        line: &str,
+    ) -> Result<Option<String>, Failure> {
+        if next == Next::Line && self.items.change_step(line)? {
+            return Ok(None);
+        }
+        match self.serve(next, line) {
+            Ok(()) => Ok(None),
+            Err(Unserved::Fault(fault)) => Ok(Some(fault_text(self.alloc, number, &fault, line)?)),
+            Err(Unserved::Failure(failure)) => Err(failure),
+        }
+    }
+
     /// Does what a line asks for, if it was read whole.
-    fn serve<'l>(&mut self, next: Next, line: &'l [u8]) -> Result<(), Unserved<'l>> {
+    fn serve<'l>(&mut self, next: Next, line: &'l str) -> Result<(), Unserved<'l>> {
         match next {
             Next::Line => self.serve_line(line),
             Next::TooLong => Err(Unserved::Fault(LineFault::TooLong)),
@@ -117,7 +146,7 @@ impl<'a, R: Wait + Threads + Clone + Drop, W: Write + Drop, K: Clock> Feed<'a, R
     }
 
     /// Does what a whole line asks for.
-    fn serve_line<'l>(&mut self, line: &'l [u8]) -> Result<(), Unserved<'l>> {
+    fn serve_line<'l>(&mut self, line: &'l str) -> Result<(), Unserved<'l>> {
         let (alloc, now) = (self.alloc, self.clock.now());
         match parse_command(alloc, self.items.names(), &mut self.labels, now, line)? {
             Command::Comment => Ok(()),
@@ -128,6 +157,10 @@ impl<'a, R: Wait + Threads + Clone + Drop, W: Write + Drop, K: Clock> Feed<'a, R
             Command::Add { word, parent, name } => self.items.add(alloc, word, parent, name),
             Command::Drop(item) => self.items.drop_item(item),
             Command::DropRoot => self.items.drop_root(),
+            Command::Print(text) => {
+                self.make_room();
+                self.items.print(alloc, now, text)
+            }
             Command::Change(item, change) => {
                 if let Change::Message { .. } = &change {
                     self.make_room();

@@ -33,6 +33,8 @@ pub struct Items<R: Wait + Clone + Drop, W: Write + Drop> {
     items: HashMap<Handle, Entry<R>>,
     names: Names,
     made: Handle,
+    /// The item that sends the lines that are printed, once one was. It has no row.
+    printer: Option<RecordedItem<R>>,
     /// The signs that say the severity of a message, as where there are no colours.
     signs: Signs,
     recording: Recording<W>,
@@ -47,6 +49,7 @@ impl<R: Wait + Clone + Drop, W: Write + Drop> Items<R, W> {
             items: HashMap::new(alloc),
             names: Names::new(alloc),
             made: 0,
+            printer: None,
             signs,
             recording,
         }
@@ -92,9 +95,8 @@ impl<R: Wait + Clone + Drop, W: Write + Drop> Items<R, W> {
         let Some(root) = &self.root else {
             return Err(Unserved::Fault(LineFault::NoRoot));
         };
-        let item = root.add_child(alloc, name.as_str())?;
-        let handle = self.recording.append_item(0, name)?;
-        Ok(self.insert(RecordedItem { item, handle }, 1)?)
+        let item = RecordedItem::below_root(alloc, root, name, &mut self.recording)?;
+        Ok(self.insert(item, 1)?)
     }
 
     /// Adds an item below another one, and returns its handle.
@@ -115,9 +117,8 @@ impl<R: Wait + Clone + Drop, W: Write + Drop> Items<R, W> {
             return Err(Unserved::Fault(LineFault::TooDeep(named)));
         }
         let level = entry.level.saturating_add(1);
-        let item = entry.item.item.add_child(alloc, name.as_str())?;
-        let handle = self.recording.append_item(entry.item.handle, name)?;
-        Ok(self.insert(RecordedItem { item, handle }, level)?)
+        let item = entry.item.add_child(alloc, name, &mut self.recording)?;
+        Ok(self.insert(item, level)?)
     }
 
     /// Keeps a new item of a level, and returns its handle.
@@ -159,9 +160,7 @@ impl<R: Wait + Clone + Drop, W: Write + Drop> Items<R, W> {
         let Some(Entry { item, word, .. }) = self.items.remove(&handle) else {
             return Err(Unserved::Fault(LineFault::NoItem(handle)));
         };
-        let event = Event::Drop { item: item.handle };
-        drop(item);
-        self.recording.append_event(&event)?;
+        item.remove(&mut self.recording)?;
         Ok(word)
     }
 
@@ -180,7 +179,7 @@ impl<R: Wait + Clone + Drop, W: Write + Drop> Items<R, W> {
     /// # Errors
     ///
     /// `AllocError`, if there is no memory for the recording.
-    pub fn change_step(&mut self, line: &[u8]) -> Result<bool, AllocError> {
+    pub fn change_step(&mut self, line: &str) -> Result<bool, AllocError> {
         let Some((item, step)) = parse_step(&self.names, line) else {
             return Ok(false);
         };
@@ -204,10 +203,7 @@ impl<R: Wait + Clone + Drop, W: Write + Drop> Items<R, W> {
         let changed = entry
             .item
             .change(alloc, change, self.signs, &mut self.recording);
-        match changed {
-            Ok(()) | Err(Refusal::TooManyMessages) => Ok(()),
-            Err(refusal) => Err(Unserved::from(refusal)),
-        }
+        unless_refused(changed)
     }
 
     /// Sends a failure that belongs to no item.
@@ -216,17 +212,68 @@ impl<R: Wait + Clone + Drop, W: Write + Drop> Items<R, W> {
             return Ok(());
         };
         let name = Text::from_str(alloc, "input")?;
-        let item = root.add_child(alloc, name.as_str())?;
-        let handle = self.recording.append_item(0, name)?;
+        let item = RecordedItem::below_root(alloc, root, name, &mut self.recording)?;
         let message = Change::Message {
             at,
             level: MessageLevel::Failure,
             text: Text::new(text),
         };
-        let item = RecordedItem { item, handle };
         item.change(alloc, message, self.signs, &mut self.recording)?;
-        drop(item);
-        self.recording.append_event(&Event::Drop { item: handle })?;
+        item.remove(&mut self.recording)?;
         Ok(())
+    }
+
+    /// Prints a line that belongs to no item: a message without an origin. Without the root nothing
+    /// is printed.
+    pub fn print(
+        &mut self,
+        alloc: Global,
+        at: Moment,
+        text: Text,
+    ) -> Result<(), Unserved<'static>> {
+        let Some(root) = &self.root else {
+            return Ok(());
+        };
+        let printer = match self.printer.take() {
+            Some(printer) => printer,
+            None => without_row(alloc, root, &mut self.recording)?,
+        };
+        let level = MessageLevel::Info;
+        let message = Change::Message { at, level, text };
+        let sent = printer.change(alloc, message, self.signs, &mut self.recording);
+        self.printer = Some(printer);
+        unless_refused(sent)
+    }
+}
+
+/// Adds an item that has no row, so that its messages have no origin. Below the last level an item
+/// takes the place of the one above it, and when it is dropped, that one has none.
+fn without_row<R: Wait + Clone + Drop, W: Write + Drop>(
+    alloc: Global,
+    root: &Root<R>,
+    recording: &mut Recording<W>,
+) -> Result<RecordedItem<R>, Refusal> {
+    let mut item = RecordedItem::below_root(alloc, root, unnamed(alloc), recording)?;
+    for _ in 1..LAST_LEVEL {
+        let child = item.add_child(alloc, unnamed(alloc), recording)?;
+        item.remove(recording)?;
+        item = child;
+    }
+    let child = item.add_child(alloc, unnamed(alloc), recording)?;
+    child.remove(recording)?;
+    Ok(item)
+}
+
+/// Returns an empty name.
+fn unnamed(alloc: Global) -> Text {
+    Text::new(String::new(alloc))
+}
+
+/// Returns why a change of an item had no effect. A message that the tree has no number for is left
+/// out.
+fn unless_refused(changed: Result<(), Refusal>) -> Result<(), Unserved<'static>> {
+    match changed {
+        Ok(()) | Err(Refusal::TooManyMessages) => Ok(()),
+        Err(refusal) => Err(Unserved::from(refusal)),
     }
 }

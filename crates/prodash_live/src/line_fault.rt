@@ -74,7 +74,6 @@ impl fmt::Display for LineFault<'_> {
 /// Writes what is said of a mistake.
 fn write_mistake<W: Write>(f: &mut fmt::Formatter<W>, mistake: Mistake<'_>) -> fmt::Result {
     match mistake {
-        Mistake::NotUtf8 => f.write_str("the line is not UTF-8"),
         Mistake::UnknownCommand(word) => write!(f, "unknown command \"{}\"", Shown(word)),
         Mistake::DrawsFrame(word) => {
             let word = Shown(word);
@@ -104,7 +103,6 @@ fn name_and_form(argument: Argument) -> (&'static str, &'static str) {
     match argument {
         Argument::Word => ("word", ""),
         Argument::Item => ("item", " (its number, or @ and its word)"),
-        Argument::Moment => ("time", " (nanoseconds, or - for now)"),
         Argument::Number => ("number", " (0 to 18446744073709551615)"),
         Argument::Max => ("maximum", " (a number, or - for none)"),
         Argument::Unit => (
@@ -112,7 +110,7 @@ fn name_and_form(argument: Argument) -> (&'static str, &'static str) {
             " (a name as files, files% or files/s, or - for none)",
         ),
         Argument::Name => ("name", ""),
-        Argument::Text => ("text", ""),
+        Argument::Text | Argument::Message => ("text", ""),
         Argument::Columns => ("number of columns", " (1 to 65535)"),
         Argument::Rows => ("number of rows", " (1 to 65535)"),
     }
@@ -144,8 +142,7 @@ pub fn fault_text(
     alloc: Global,
     number: u64,
     fault: &LineFault<'_>,
-    line: &[u8],
+    line: &str,
 ) -> Result<String, AllocError> {
-    let line = String::from_utf8_lossy(alloc, line)?;
-    format!(in alloc; "line {number}: {fault}, in: {}", Shown(line.as_str()))
+    format!(in alloc; "line {number}: {fault}, in: {}", Shown(line))
 }

@@ -1,7 +1,7 @@
 //! Items whose changes are recorded.
 use crate::recording::Recording;
 use crate::signs::Signs;
-use prodash::tree::{Handle, Item};
+use prodash::tree::{Event, Handle, Item, Root};
 use prodash::{Refusal, Text};
 use prodash_script::{Change, REASON, StepChange};
 use std::alloc::{AllocError, Global};
@@ -18,6 +18,49 @@ pub struct RecordedItem<R: Wait + Clone + Drop> {
 }
 
 impl<R: Wait + Clone + Drop> RecordedItem<R> {
+    /// Adds an item below the root, and records it.
+    ///
+    /// # Errors
+    ///
+    /// `Memory`, if there is no memory for it.
+    pub fn below_root<W: Write + Drop>(
+        alloc: Global,
+        root: &Root<R>,
+        name: Text,
+        recording: &mut Recording<W>,
+    ) -> Result<RecordedItem<R>, Refusal> {
+        let item = root.add_child(alloc, name.as_str())?;
+        let handle = recording.append_item(0, name)?;
+        Ok(RecordedItem { item, handle })
+    }
+
+    /// Adds an item below this one, and records it.
+    ///
+    /// # Errors
+    ///
+    /// `Memory`, if there is no memory for it.
+    pub fn add_child<W: Write + Drop>(
+        &mut self,
+        alloc: Global,
+        name: Text,
+        recording: &mut Recording<W>,
+    ) -> Result<RecordedItem<R>, Refusal> {
+        let item = self.item.add_child(alloc, name.as_str())?;
+        let handle = recording.append_item(self.handle, name)?;
+        Ok(RecordedItem { item, handle })
+    }
+
+    /// Drops the item, and records it.
+    ///
+    /// # Errors
+    ///
+    /// `AllocError`, if there is no memory for its line.
+    pub fn remove<W: Write + Drop>(self, recording: &mut Recording<W>) -> Result<(), AllocError> {
+        let RecordedItem { item, handle } = self;
+        drop(item);
+        recording.append_event(&Event::Drop { item: handle })
+    }
+
     /// Changes the step of the item, and records it.
     ///
     /// # Errors

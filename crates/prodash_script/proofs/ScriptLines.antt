@@ -1,10 +1,9 @@
 -- What lines of scripts ask for.
-use Rattle.std.proofs.Common.{◌≡◌, ◌-◌, ℕ, Bool, true, false, List, length, take, drop, refl, sym, rules, arith}
+use Rattle.std.proofs.Common.{◌≡◌, ◌-◌, ℕ, true, false, List, length, take, drop, sym, rules, arith}
 use Rattle.std.specs.Prelude.{Option, Some, None, MatchOption, option_map}
 use Rattle.std.specs.Borrow.{Bor}
-use Rattle.std.specs.Str.{IsCharBoundary, IsUtf8, is_utf8}
+use Rattle.std.specs.Str.{IsCharBoundary}
 use Rattle.std.specs.Str.Pattern.{FindsTextPrefix, FindsTextSuffix, StripsPrefix, StripsSuffix}
-use Rattle.std.proofs.lemmas.Str.{IsUtf8-from_is_utf8}
 use Rattle.std.proofs.lemmas.Str.Pattern.{ends_text, starts_text}
 use Rattle.prodash_script.specs.Words.{after_prefix, before_suffix}
 
@@ -18,13 +17,6 @@ stripped prefix text (Some rest) strips =
     let all : rest.now ≡ drop (length prefix) text = search rules in
     let test = starts_text true prefix text (strips.0, found, search rules) in
     rw (sym test, all)
-
-is_false : (b : Bool) → ¬ (b ≡ true) → b ≡ false
-is_false true h = absurd (h refl)
-is_false false h = refl
-
-pub not_utf8 : (bytes : List ℕ) → ¬ IsUtf8 bytes → is_utf8 bytes ≡ false
-not_utf8 bytes h = is_false (is_utf8 bytes) (λ is. h (IsUtf8-from_is_utf8 bytes is))
 
 -- the clause of `strip_suffix` at a text
 pub stripped_end : (suffix text : List ℕ) → (r : Option (Bor (List ℕ))) → MatchOption r (FindsTextSuffix suffix text None) (λ x. StripsSuffix (FindsTextSuffix suffix) text x.now) → option_map (λ x. x.now) r ≡ before_suffix suffix text

@@ -3,14 +3,13 @@ use Rattle.std.proofs.Common.{◌≡◌, ℕ, ◌<◌, Bool, true, false, nat_eq
 use Rattle.std.specs.Prelude.{Option, Some, None, String, codes, option_map, option_and_then, unwrap_or, bytes_eq, if◌then◌else◌}
 use Rattle.std.specs.Option.{option_map_or}
 use Rattle.std.specs.HashMap.{HashMap}
-use Rattle.std.specs.Str.{IsUtf8}
-use Rattle.std.proofs.lemmas.Str.{is_utf8-from_IsUtf8}
 use Rattle.std.specs.List.{starts_with, position_or_len, before_first, after_first}
 use Rattle.std.proofs.lemmas.Bool.Decides.{nat_tests}
 use Rattle.std.proofs.lemmas.List.Sums.{split_at_first, passes_at_first}
 use Rattle.std.proofs.lemmas.Bool.{false≢true}
 use Rattle.std.proofs.lemmas.Slice.Eq.{bytes_eq-Decides}
 use Rattle.prodash_base.specs.Rows.{unknown_id}
+use Rattle.prodash_base.specs.declared.messages.MessageLevel.{MessageLevel}
 use Rattle.prodash_base.specs.declared.messages.MessageLevel.TheVariants.{Info, Success, Failure}
 use Rattle.prodash_base.specs.declared.unit.units.Unit.{Unit}
 use Rattle.prodash_core.specs.declared.tree.event.Event.{Event}
@@ -21,13 +20,12 @@ use Rattle.prodash_script.specs.declared.change.StepChange.TheVariants as steps
 use Rattle.prodash_script.specs.declared.command.Command.{Command}
 use Rattle.prodash_script.specs.declared.command.Command.TheVariants as commands
 use Rattle.prodash_script.specs.declared.mistake.Mistake.{Mistake}
-use Rattle.prodash_script.specs.Commands.{accepted, begin_of, command_of, event_command, event_of, handle_in, is_comment, moment_in, named_add_of, size_of}
+use Rattle.prodash_script.specs.Commands.{accepted, begin_of, command_of, event_command, event_of, handle_in, is_comment, moment_in, named_add_of, print_of, send_of, size_of}
 use Rattle.prodash_script.specs.Mistakes.{first_mistake}
 use Rattle.prodash_script.specs.Reading.{all_events, alone, bound_of, cut_at_space, read_by, small_of, text_of, then_read}
 use Rattle.prodash_script.specs.Steps.{step_in}
 use Rattle.prodash_script.specs.Units.{unit_in}
 use Rattle.prodash_script.specs.Words.{Reader, after_prefix, lookup, number_of, ref_to}
-use Rattle.prodash_script.proofs.ScriptLines.{not_utf8}
 use Rattle.prodash_script.proofs.UnitWords.{begins}
 
 -- the change of a step that an event is, if it is one
@@ -52,15 +50,15 @@ inc_changes : (x : Option (ℕ × ℕ)) → option_map (λ a. (a.0, steps.IncBy 
 inc_changes None = refl
 inc_changes (Some a) = refl
 
-set_line : (handle moment : Reader ℕ) → (rest : List ℕ) → change_of steps.Set handle rest ≡ option_and_then step_in (accepted handle moment (codes "set " ++ rest))
+set_line : (handle : Reader ℕ) → (now : ℕ) → (rest : List ℕ) → change_of steps.Set handle rest ≡ option_and_then step_in (accepted handle now (codes "set " ++ rest))
 unfolding cut_at_space
-set_line handle moment rest =
+set_line handle now rest =
     let within : nat_lt 3 (length (codes "set " ++ rest)) ≡ true = grind (arith, nat_tests) in
     rw within (set_changes (then_read handle number_of rest))
 
-inc_line : (handle moment : Reader ℕ) → (rest : List ℕ) → change_of steps.IncBy handle rest ≡ option_and_then step_in (accepted handle moment (codes "inc " ++ rest))
+inc_line : (handle : Reader ℕ) → (now : ℕ) → (rest : List ℕ) → change_of steps.IncBy handle rest ≡ option_and_then step_in (accepted handle now (codes "inc " ++ rest))
 unfolding cut_at_space
-inc_line handle moment rest =
+inc_line handle now rest =
     let within : nat_lt 3 (length (codes "inc " ++ rest)) ≡ true = grind (arith, nat_tests) in
     rw within (inc_changes (then_read handle number_of rest))
 
@@ -160,28 +158,39 @@ size_other : (x : Option (ℕ × ℕ)) → None ≡ option_and_then step_in (opt
 size_other None = refl
 size_other (Some a) = refl
 
-other_command : (handle : Reader ℕ) → (named begin size : Option (List ℕ)) → (event : Option Command) → None ≡ option_and_then step_in event → None ≡ option_and_then step_in (option_map_or (named_add_of handle) named (option_map_or (begin_of handle) begin (option_map_or size_of size event)))
-other_command handle (Some rest) begin size event h = named_other _
-other_command handle None (Some rest) size event h = begin_other _
-other_command handle None None (Some rest) event h = size_other _
-other_command handle None None None event h = h
+send_other : (level : MessageLevel) → (x : Option (ℕ × (ℕ × List ℕ))) → None ≡ option_and_then step_in (option_map (λ a. commands.Change a.0 (changes.Message a.1.0 level a.1.1)) x)
+send_other level None = refl
+send_other level (Some a) = refl
 
-other_line : (handle moment : Reader ℕ) → (line : List ℕ) → starts_with nat_eq line (codes "set ") ≡ false → starts_with nat_eq line (codes "inc ") ≡ false → None ≡ option_and_then step_in (accepted handle moment line)
-other_line handle moment line set inc = other_command handle _ _ _ (event_of handle moment line) (other_cut handle moment line (cut_at_space line) refl set inc)
+-- what a form reads after a prefix, or else another command, if none of them is a change of a step
+other_form : (form : Reader Command) → ((rest : List ℕ) → None ≡ option_and_then step_in (form rest)) → (x : Option (List ℕ)) → (event : Option Command) → None ≡ option_and_then step_in event → None ≡ option_and_then step_in (option_map_or form x event)
+other_form form h None event k = k
+other_form form h (Some rest) event k = h rest
+
+other_line : (handle : Reader ℕ) → (now : ℕ) → (line : List ℕ) → starts_with nat_eq line (codes "set ") ≡ false → starts_with nat_eq line (codes "inc ") ≡ false → None ≡ option_and_then step_in (accepted handle now line)
+other_line handle now line set inc =
+    other_form (named_add_of handle) (λ rest. named_other _) (after_prefix (codes "add @") line) _
+    (other_form (begin_of handle) (λ rest. begin_other _) (after_prefix (codes "init ") line) _
+    (other_form size_of (λ rest. size_other _) (after_prefix (codes "size ") line) _
+    (other_form print_of (λ rest. refl) (after_prefix (codes "print ") line) _
+    (other_form (send_of Info handle now) (λ rest. send_other Info _) (after_prefix (codes "info ") line) _
+    (other_form (send_of Success handle now) (λ rest. send_other Success _) (after_prefix (codes "done ") line) _
+    (other_form (send_of Failure handle now) (λ rest. send_other Failure _) (after_prefix (codes "fail ") line) (event_of handle (moment_in now) line)
+    (other_cut handle (moment_in now) line (cut_at_space line) refl set inc)))))))
 
 -- all lines
 
-by_tests : (handle moment : Reader ℕ) → (line : List ℕ) → (set inc : Bool) → starts_with nat_eq line (codes "set ") ≡ set → starts_with nat_eq line (codes "inc ") ≡ inc → step_line handle line ≡ option_and_then step_in (accepted handle moment line)
-by_tests handle moment line true inc is k =
+by_tests : (handle : Reader ℕ) → (now : ℕ) → (line : List ℕ) → (set inc : Bool) → starts_with nat_eq line (codes "set ") ≡ set → starts_with nat_eq line (codes "inc ") ≡ inc → step_line handle line ≡ option_and_then step_in (accepted handle now line)
+by_tests handle now line true inc is k =
     let whole = begins (codes "set ") line (drop 4 line) true is refl in
-    rw is (set_line handle moment (drop 4 line) ∙ ap (λ l. option_and_then step_in (accepted handle moment l)) (sym whole))
-by_tests handle moment line false true h is =
+    rw is (set_line handle now (drop 4 line) ∙ ap (λ l. option_and_then step_in (accepted handle now l)) (sym whole))
+by_tests handle now line false true h is =
     let whole = begins (codes "inc ") line (drop 4 line) true is refl in
-    rw (h, is) (inc_line handle moment (drop 4 line) ∙ ap (λ l. option_and_then step_in (accepted handle moment l)) (sym whole))
-by_tests handle moment line false false h k = rw (h, k) (other_line handle moment line h k)
+    rw (h, is) (inc_line handle now (drop 4 line) ∙ ap (λ l. option_and_then step_in (accepted handle now l)) (sym whole))
+by_tests handle now line false false h k = rw (h, k) (other_line handle now line h k)
 
-accepted_step : (handle moment : Reader ℕ) → (line : List ℕ) → step_line handle line ≡ option_and_then step_in (accepted handle moment line)
-accepted_step handle moment line = by_tests handle moment line _ _ refl refl
+accepted_step : (handle : Reader ℕ) → (now : ℕ) → (line : List ℕ) → step_line handle line ≡ option_and_then step_in (accepted handle now line)
+accepted_step handle now line = by_tests handle now line _ _ refl refl
 
 or_mistake : (x : Option Command) → (mistake : Mistake) → option_and_then step_in x ≡ step_in (unwrap_or x (commands.Fault mistake))
 or_mistake None mistake = refl
@@ -193,21 +202,10 @@ comment_other handle (c ∷ rest) h =
     let sign : c ≡ 35 = grind (arith, nat_tests) in
     rw sign refl
 
-text_step : {Z S : Type 0} → (names : HashMap (String Z) ℕ S) → (now : ℕ) → (line : List ℕ) → (b : Bool) → is_comment line ≡ b → IsUtf8 line → step_line (handle_in names) line ≡ step_in (command_of names now line)
-text_step names now line true is h = rw is (comment_other (handle_in names) line is)
-text_step names now line false is h =
-    let text = is_utf8-from_IsUtf8 line h in
-    rw (is, text) (accepted_step (handle_in names) (moment_in now) line ∙ or_mistake (accepted (handle_in names) (moment_in now) line) (first_mistake (handle_in names) line))
+text_step : {Z S : Type 0} → (names : HashMap (String Z) ℕ S) → (now : ℕ) → (line : List ℕ) → (b : Bool) → is_comment line ≡ b → step_line (handle_in names) line ≡ step_in (command_of names now line)
+text_step names now line true is = rw is (comment_other (handle_in names) line is)
+text_step names now line false is =
+    rw is (accepted_step (handle_in names) now line ∙ or_mistake (accepted (handle_in names) now line) (first_mistake (handle_in names) line))
 
-pub step_of_line : {Z S : Type 0} → (names : HashMap (String Z) ℕ S) → (now : ℕ) → (line : List ℕ) → IsUtf8 line → step_line (handle_in names) line ≡ step_in (command_of names now line)
-step_of_line names now line h = text_step names now line _ refl h
-
--- bytes that are no text change no step
-other_bytes : {Z S : Type 0} → (names : HashMap (String Z) ℕ S) → (now : ℕ) → (line : List ℕ) → (b : Bool) → is_comment line ≡ b → ¬ IsUtf8 line → None ≡ step_in (command_of names now line)
-other_bytes names now line true is h = rw is refl
-other_bytes names now line false is h =
-    let fault = not_utf8 line h in
-    rw (is, fault) refl
-
-pub no_step : {Z S : Type 0} → (names : HashMap (String Z) ℕ S) → (now : ℕ) → (line : List ℕ) → ¬ IsUtf8 line → None ≡ step_in (command_of names now line)
-no_step names now line h = other_bytes names now line _ refl h
+pub step_of_line : {Z S : Type 0} → (names : HashMap (String Z) ℕ S) → (now : ℕ) → (line : List ℕ) → step_line (handle_in names) line ≡ step_in (command_of names now line)
+step_of_line names now line = text_step names now line _ refl

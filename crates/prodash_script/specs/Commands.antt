@@ -1,8 +1,9 @@
 -- The commands that lines of scripts are.
-use Rattle.std.specs.Prelude.{ℕ, List, [], ◌∷◌, Bool, true, Option, Some, None, String, bytes_eq, codes, unwrap_or, length, nat_eq, nat_lt, option_map, option_and_then, if◌then◌else◌}
+use Rattle.std.specs.Prelude.{ℕ, List, [], ◌∷◌, Bool, true, Option, Some, None, String, bytes_eq, codes, is_some, unwrap_or, length, nat_eq, nat_lt, option_map, option_and_then, if◌then◌else◌}
 use Rattle.std.specs.Option.{option_map_or}
-use Rattle.std.specs.Str.{is_utf8}
 use Rattle.std.specs.HashMap.{HashMap, get_by_text}
+use Rattle.prodash_base.specs.declared.messages.MessageLevel.{MessageLevel}
+use Rattle.prodash_base.specs.declared.messages.MessageLevel.TheVariants.{Failure, Info, Success}
 use Rattle.prodash_base.specs.declared.unit.units.Unit.{Unit}
 use Rattle.prodash_core.specs.declared.tree.event.Event.{Event}
 use Rattle.prodash_core.specs.declared.tree.event.Event.TheVariants as events
@@ -14,7 +15,6 @@ use Rattle.prodash_script.specs.declared.change.Change.{Change}
 use Rattle.prodash_script.specs.declared.change.Change.TheVariants as changes
 use Rattle.prodash_script.specs.declared.command.Command.{Command}
 use Rattle.prodash_script.specs.declared.command.Command.TheVariants as commands
-use Rattle.prodash_script.specs.declared.mistake.Mistake.TheVariants.{NotUtf8}
 
 -- a change, wherever the name of its unit is stored
 abbrev pub plain_change : Change → Change
@@ -68,6 +68,22 @@ begin_of handle =
 abbrev pub size_of : Reader Command
 size_of = as_command (λ a. commands.Size a.0 a.1) (then_read size_number_of size_number_of)
 
+-- `TEXT` as a line that is printed
+abbrev pub print_of : Reader Command
+print_of = as_command commands.Print text_of
+
+-- `AT TEXT`, or `TEXT` that is said now; a moment alone has no text
+abbrev pub said_of : ℕ → Reader (ℕ × List ℕ)
+said_of now words =
+    if is_some (bound_of words) then None
+    else Some (unwrap_or (then_read (moment_in now) text_of words) (now, words))
+
+-- `H AT TEXT` or `H TEXT` as a message of a severity
+abbrev pub send_of : MessageLevel → Reader ℕ → ℕ → Reader Command
+send_of level handle now =
+    as_command (λ a. commands.Change a.0 (changes.Message a.1.0 level a.1.1))
+    (then_read handle (said_of now))
+
 -- the command for an event; none draws a frame
 abbrev pub event_command : Event → Option Command
 event_command (events.AddChild parent name id) = Some (commands.Add None parent name)
@@ -90,12 +106,16 @@ abbrev pub event_of : Reader ℕ → Reader ℕ → Reader Command
 event_of handle moment line = option_and_then event_command (read_line handle moment line)
 
 -- the command of a line, by what it begins with, or else by the event that the line is
-abbrev pub accepted : Reader ℕ → Reader ℕ → Reader Command
-accepted handle moment line =
+abbrev pub accepted : Reader ℕ → ℕ → Reader Command
+accepted handle now line =
     option_map_or (named_add_of handle) (after_prefix (codes "add @") line)
     (option_map_or (begin_of handle) (after_prefix (codes "init ") line)
     (option_map_or size_of (after_prefix (codes "size ") line)
-    (event_of handle moment line)))
+    (option_map_or print_of (after_prefix (codes "print ") line)
+    (option_map_or (send_of Info handle now) (after_prefix (codes "info ") line)
+    (option_map_or (send_of Success handle now) (after_prefix (codes "done ") line)
+    (option_map_or (send_of Failure handle now) (after_prefix (codes "fail ") line)
+    (event_of handle (moment_in now) line)))))))
 
 -- a line that does nothing: it is empty, or begins with a `#`
 abbrev pub is_comment : List ℕ → Bool
@@ -103,13 +123,11 @@ is_comment [] = true
 is_comment (c ∷ rest) = nat_eq c 35
 
 -- the command of a text: that which it is accepted as, or else its first mistake
-abbrev pub text_command : Reader ℕ → Reader ℕ → List ℕ → Command
-text_command handle moment line =
-    unwrap_or (accepted handle moment line) (commands.Fault (first_mistake handle line))
+abbrev pub text_command : Reader ℕ → ℕ → List ℕ → Command
+text_command handle now line =
+    unwrap_or (accepted handle now line) (commands.Fault (first_mistake handle line))
 
 -- the command of a line of a script, given the handles of its items and the moment that is now
 abbrev pub command_of : {Z S : Type 0} → HashMap (String Z) ℕ S → ℕ → List ℕ → Command
 command_of names now line =
-    if is_comment line then commands.Comment
-    else if is_utf8 line then text_command (handle_in names) (moment_in now) line
-    else commands.Fault NotUtf8
+    if is_comment line then commands.Comment else text_command (handle_in names) now line

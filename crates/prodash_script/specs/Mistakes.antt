@@ -1,5 +1,5 @@
 -- The first mistake in a line of a script.
-use Rattle.std.specs.Prelude.{ℕ, List, [], ◌∷◌, Bool, true, length, codes, Option, Some, None, ◌&&◌, is_some, nat_eq, nat_lt, option_map, option_and_then, unwrap_or, if◌then◌else◌}
+use Rattle.std.specs.Prelude.{ℕ, List, [], ◌∷◌, Bool, true, length, codes, Option, Some, None, ◌&&◌, not, is_some, nat_eq, nat_lt, option_map, option_and_then, unwrap_or, if◌then◌else◌}
 use Rattle.std.specs.Option.{option_map_or}
 use Rattle.prodash_script.specs.Reading.{bound_of, cut_at_space, small_of}
 use Rattle.prodash_script.specs.Units.{is_unit_word}
@@ -7,11 +7,10 @@ use Rattle.prodash_script.specs.Words.{Reader, after_prefix, lookup, number_of, 
 use Rattle.prodash_script.specs.declared.mistake.Argument.{Argument}
 use Rattle.prodash_script.specs.declared.mistake.Argument.TheVariants as args
 use Rattle.prodash_script.specs.declared.mistake.Mistake.{Mistake}
-use Rattle.prodash_script.specs.declared.mistake.Mistake.TheVariants.{NotUtf8, UnknownCommand, DrawsFrame, Missing, Invalid, UnknownItem, Extra}
+use Rattle.prodash_script.specs.declared.mistake.Mistake.TheVariants.{UnknownCommand, DrawsFrame, Missing, Invalid, UnknownItem, Extra}
 
 -- a mistake, wherever its word is stored
 abbrev pub plain_mistake : Mistake → Mistake
-plain_mistake NotUtf8 = NotUtf8
 plain_mistake (UnknownCommand word) = UnknownCommand (ref_to word.now)
 plain_mistake (DrawsFrame word) = DrawsFrame (ref_to word.now)
 plain_mistake (Missing argument) = Missing argument
@@ -34,9 +33,10 @@ abbrev pub arguments : List (List ℕ × List Argument)
 arguments =
     (codes "add", args.Item ∷ args.Name ∷ [])
     ∷ (codes "name", args.Item ∷ args.Name ∷ [])
-    ∷ (codes "info", args.Item ∷ args.Moment ∷ args.Text ∷ [])
-    ∷ (codes "done", args.Item ∷ args.Moment ∷ args.Text ∷ [])
-    ∷ (codes "fail", args.Item ∷ args.Moment ∷ args.Text ∷ [])
+    ∷ (codes "info", args.Item ∷ args.Message ∷ [])
+    ∷ (codes "done", args.Item ∷ args.Message ∷ [])
+    ∷ (codes "fail", args.Item ∷ args.Message ∷ [])
+    ∷ (codes "print", args.Text ∷ [])
     ∷ (codes "drop", args.Item ∷ [])
     ∷ (codes "blocked", args.Item ∷ [])
     ∷ (codes "halted", args.Item ∷ [])
@@ -63,16 +63,16 @@ abbrev pub not_command : List ℕ → Mistake
 not_command word =
     if is_some (lookup frames word) then DrawsFrame (ref_to word) else UnknownCommand (ref_to word)
 
--- whether a word is such an argument, where a handle is named by the words of items
+-- whether words are such an argument, with the handles of items; a message is more than its moment
 abbrev pub is_argument : Reader ℕ → Argument → List ℕ → Bool
 is_argument handle args.Word word = nat_lt 0 (length word)
 is_argument handle args.Item word = is_some (handle word)
-is_argument handle args.Moment word = is_some (bound_of word)
 is_argument handle args.Number word = is_some (number_of word)
 is_argument handle args.Max word = is_some (bound_of word)
 is_argument handle args.Unit word = is_unit_word word
 is_argument handle args.Name word = true
 is_argument handle args.Text word = true
+is_argument handle args.Message word = not (is_some (bound_of word))
 is_argument handle args.Columns word = is_some (size_number_of word)
 is_argument handle args.Rows word = is_some (size_number_of word)
 
@@ -80,6 +80,7 @@ is_argument handle args.Rows word = is_some (size_number_of word)
 abbrev pub not_argument : Argument → List ℕ → Mistake
 not_argument args.Item word =
     if is_some (name_in word) then UnknownItem (ref_to word) else Invalid args.Item (ref_to word)
+not_argument args.Message word = Missing args.Message
 not_argument argument word = Invalid argument (ref_to word)
 
 -- the text before the first space, and the text after it if there is a space

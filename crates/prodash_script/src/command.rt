@@ -28,6 +28,8 @@ pub enum Command<'a> {
     Drop(Handle),
     /// The root is dropped.
     DropRoot,
+    /// A line is printed above the rows, which belongs to no item.
+    Print(Text),
     /// The item of this handle changes.
     Change(Handle, Change),
     /// Nothing: the line has a mistake.

@@ -5,8 +5,6 @@ pub enum Argument {
     Word,
     /// An item: a number, or a word after `@`.
     Item,
-    /// A moment: a number, or `-` for now.
-    Moment,
     /// A number of 1 to 20 digits that fits in 64 bits.
     Number,
     /// The step at which an item is done: a number, or `-` for none.
@@ -15,8 +13,10 @@ pub enum Argument {
     Unit,
     /// The name of an item, which may be empty.
     Name,
-    /// The text of a message, which may be empty.
+    /// A text, which may be empty.
     Text,
+    /// The text of a message, which may be empty, with the moment before it or without.
+    Message,
     /// A number of columns, from 1 to 65535.
     Columns,
     /// A number of rows, from 1 to 65535.
@@ -26,8 +26,6 @@ pub enum Argument {
 /// The first mistake in a line of a script.
 #[derive(Clone, Copy, Debug, PartialEq, Eq)]
 pub enum Mistake<'a> {
-    /// The line is not UTF-8.
-    NotUtf8,
     /// No line begins with this word.
     UnknownCommand(&'a str),
     /// A line that begins with this word draws a frame, which no line of a script does.

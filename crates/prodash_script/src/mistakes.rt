@@ -43,7 +43,8 @@ fn arguments(word: &str) -> Option<&'static [Argument]>
 {
     let arguments: &'static [Argument] = match word {
         "add" | "name" => &[Argument::Item, Argument::Name],
-        "info" | "done" | "fail" => &[Argument::Item, Argument::Moment, Argument::Text],
+        "info" | "done" | "fail" => &[Argument::Item, Argument::Message],
+        "print" => &[Argument::Text],
         "drop" | "blocked" | "halted" | "running" => &[Argument::Item],
         "init" => &[Argument::Item, Argument::Max, Argument::Unit],
         "max" => &[Argument::Item, Argument::Max],
@@ -126,7 +127,9 @@ fn is_argument(names: &Names, argument: Argument, word: &str) -> bool
     match argument {
         Argument::Word => !word.is_empty(),
         Argument::Item => handle_of(names, word).is_some(),
-        Argument::Moment | Argument::Max => bound(word).is_some(),
+        Argument::Max => bound(word).is_some(),
+        // a moment alone has no text
+        Argument::Message => bound(word).is_none(),
         Argument::Number => number(word).is_some(),
         Argument::Unit => is_unit(word),
         Argument::Name | Argument::Text => true,
@@ -140,6 +143,9 @@ fn not_argument(argument: Argument, word: &str) -> Mistake<'_>
 {
     if argument == Argument::Item && name_of(word).is_some() {
         return Mistake::UnknownItem(word);
+    }
+    if argument == Argument::Message {
+        return Mistake::Missing(argument);
     }
     Mistake::Invalid(argument, word)
 }

@@ -1,27 +1,27 @@
 //! Lines of scripts, whose items may have words for names.
 ghost use Rattle.std.specs.Prelude.{◌≡◌, ℕ, IfOk, option_map};
-ghost use Rattle.prodash_script.specs.Commands.{begin_of, command_of, handle_in, is_comment, named_add_of, plain_command, size_of};
+ghost use Rattle.prodash_script.specs.Commands.{begin_of, command_of, handle_in, is_comment, named_add_of, plain_command, print_of, said_of, send_of, size_of};
 ghost use Rattle.prodash_script.specs.Mistakes.{name_in, size_number_of};
 ghost use Rattle.prodash_script.specs.Steps.{step_in};
 ghost use Rattle.prodash_script.specs.Words.{after_prefix};
 ghost use Rattle.prodash_script.specs.plumbing.Commands.{ReadsCommand, accepted_in, event_in};
+ghost use Rattle.prodash_script.specs.plumbing.Readers.{plain_rest};
 
 use crate::change::{Change, StepChange};
 use crate::command::Command;
 use crate::event_line::EventLine;
 use crate::labels::Labels;
-use crate::mistake::Mistake;
 use crate::mistakes::first_mistake;
 use crate::reading::{
     bound, cut, handle_and_name, handle_and_number, handle_and_text, parse_line, small,
 };
 use crate::words::{Words, number};
 use prodash_base::Text;
+use prodash_base::messages::MessageLevel;
 use prodash_base::time::Moment;
 use prodash_core::tree::Handle;
 use std::alloc::{AllocError, Global};
 use std::collections::HashMap;
-use std::str;
 
 /// The handle of each word, without its `@`.
 pub type Names = HashMap<String, Handle>;
@@ -75,7 +75,7 @@ pub(crate) fn name_of(word: &str) -> Option<&str>
 /// a unit is kept in `labels`.
 ///
 /// ```rust
-/// let line = b"add @file 0 a file";
+/// let line = "add @file 0 a file";
 /// let command = parse_command(alloc, &names, &mut labels, now, line)?;
 /// assert!(rt; matches!(command, Command::Add { parent: 0, .. }));
 /// ```
@@ -88,7 +88,7 @@ pub fn parse_command<'a>(
     names: &Names,
     labels: &mut Labels,
     now: Moment,
-    line: &'a [u8],
+    line: &'a str,
 ) -> Result<Command<'a>, AllocError>
     ensures { IfOk result (λ command.
         plain_command command ≡ command_of names.now now line.now) }
@@ -96,9 +96,6 @@ pub fn parse_command<'a>(
     if is_comment(line) {
         return Ok(Command::Comment);
     }
-    let Ok(line) = str::from_utf8(line) else {
-        return Ok(Command::Fault(Mistake::NotUtf8));
-    };
     let script = Script { names, now };
     match accepted(alloc, script, labels, line)? {
         Some(command) => Ok(command),
@@ -111,13 +108,12 @@ pub fn parse_command<'a>(
 /// lines too, and takes three times as long for them.
 ///
 /// ```rust
-/// let step = parse_step(&names, b"set 1 3");
+/// let step = parse_step(&names, "set 1 3");
 /// assert!(rt; matches!(step, Some((1, StepChange::Set(3)))));
 /// ```
-pub fn parse_step(names: &Names, line: &[u8]) -> Option<(Handle, StepChange)>
+pub fn parse_step(names: &Names, line: &str) -> Option<(Handle, StepChange)>
     ensures { (now : ℕ) → result ≡ step_in (command_of names.now now line.now) }
 {
-    let line = str::from_utf8(line).ok()?;
     // there is no moment in these lines
     let script = Script { names, now: 0 };
     if let Some(rest) = after(line, "set ") {
@@ -129,10 +125,10 @@ pub fn parse_step(names: &Names, line: &[u8]) -> Option<(Handle, StepChange)>
 }
 
 /// Returns whether a line does nothing: it is empty, or begins with `#`.
-fn is_comment(line: &[u8]) -> bool
+fn is_comment(line: &str) -> bool
     ensures { result ≡ is_comment line.now }
 {
-    match line.first() {
+    match line.as_bytes().first() {
         Some(first) => *first == b'#',
         None => true,
     }
@@ -156,6 +152,18 @@ fn accepted(
     }
     if let Some(rest) = after(line, "size ") {
         return Ok(size(rest));
+    }
+    if let Some(rest) = after(line, "print ") {
+        return print(alloc, rest);
+    }
+    if let Some(rest) = after(line, "info ") {
+        return message(alloc, script, MessageLevel::Info, rest);
+    }
+    if let Some(rest) = after(line, "done ") {
+        return message(alloc, script, MessageLevel::Success, rest);
+    }
+    if let Some(rest) = after(line, "fail ") {
+        return message(alloc, script, MessageLevel::Failure, rest);
     }
     event(alloc, script, labels, line)
 }
@@ -225,6 +233,51 @@ fn size(rest: &str) -> Option<Command<'static>>
         columns: size_number(columns)?,
         rows: size_number(rows)?,
     })
+}
+
+/// Parses the argument `TEXT` of a line that is printed.
+fn print(alloc: Global, text: &str) -> Result<Option<Command<'static>>, AllocError>
+    ensures { ReadsCommand result (print_of text.now) }
+{
+    Ok(Some(Command::Print(Text::from_str(alloc, text)?)))
+}
+
+/// Parses the arguments `H AT TEXT` or `H TEXT`.
+#[tactic(auto, unfolding(crate::specs::Reading::first_of))]
+fn message(
+    alloc: Global,
+    script: Script<'_>,
+    level: MessageLevel,
+    rest: &str,
+) -> Result<Option<Command<'static>>, AllocError>
+    ensures { ReadsCommand result
+        (send_of level (handle_in script.entry.names.now) script.entry.now rest.now) }
+{
+    let Some((item, words)) = handle_and_text(&script, rest) else {
+        return Ok(None);
+    };
+    let Some((at, text)) = said(script, words) else {
+        return Ok(None);
+    };
+    let text = Text::from_str(alloc, text)?;
+    let message = Change::Message { at, level, text };
+    Ok(Some(Command::Change(item, message)))
+}
+
+/// Parses the arguments `AT TEXT`, or `TEXT`, which is said now. A moment alone has no text.
+#[tactic(auto, unfolding(crate::specs::Reading::first_of))]
+fn said<'a>(script: Script<'_>, words: &'a str) -> Option<(Moment, &'a str)>
+    ensures { option_map plain_rest result ≡ said_of script.entry.now words.now }
+{
+    if bound(words).is_some() {
+        return None;
+    }
+    if let Some((word, text)) = cut(words) {
+        if let Some(at) = script.moment(word) {
+            return Some((at, text));
+        }
+    }
+    Some((script.now, words))
 }
 
 /// Parses a number of columns or rows.

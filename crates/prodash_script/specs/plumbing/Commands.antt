@@ -13,7 +13,7 @@ ReadsCommand result command = IfOk result (λ found. option_map plain_command fo
 
 -- the command as which a line is accepted, given the handles of names and the moment that is now
 abbrev pub accepted_in : {Z S : Type 0} → HashMap (String Z) ℕ S → ℕ → Reader Command
-accepted_in names now = accepted (handle_in names) (moment_in now)
+accepted_in names now = accepted (handle_in names) now
 
 -- the command of a line of events, likewise
 abbrev pub event_in : {Z S : Type 0} → HashMap (String Z) ℕ S → ℕ → Reader Command
