@@ -23,7 +23,8 @@ the rest is read; the status is 2 then. The script comes in pieces of five bytes
   > done 1 0 five
   > add 0 zeta
   > END
-  $ { cat script; printf 'info 3 0 si'; } | dd bs=5 2>/dev/null | prodash-live >other
+  $ { cat script; printf 'info 3 0 si'; } | dd bs=5 2>/dev/null |
+  >   prodash-live --replace-words >other
    beta one
    \xe2\x9c\x97 input line 6: unknown command "bad", in: bad (esc)
    \xe2\x9c\x93 alpha two (esc)
@@ -39,7 +40,7 @@ the rest is read; the status is 2 then. The script comes in pieces of five bytes
 
 The same on standard output, without the line that is cut off.
 
-  $ prodash-live --stdout <script 2>other
+  $ prodash-live --replace-words --stdout <script 2>other
    beta one
    \xe2\x9c\x97 input line 6: unknown command "bad", in: bad (esc)
    \xe2\x9c\x93 alpha two (esc)

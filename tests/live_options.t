@@ -39,6 +39,7 @@ The version, the help, and what is refused.
         --throughput            no effect: units that end in /s have their throughput
         --stdout                draw on standard output, not on standard error
         --strict                end at the first line that is faulty
+        --replace-words         a word of one item may be given to another, which drops the first
         --terminal <WHEN>       whether the output is a terminal: auto, always or never
                                 [default: auto]; if not, messages alone are written
         --record <FILE>         record the run, for prodash-replay

@@ -28,7 +28,7 @@ recording without its ticks and the moments of the run.
   > size 60 10
   > drop @a
   > END
-  $ prodash-live --record recording <script 2>said
+  $ prodash-live --replace-words --record recording <script 2>said
   [2]
   $ events recording
   add 0 alpha
@@ -78,7 +78,7 @@ A replay has the messages of the run, and its closing frame erases the rows.
 
 With colours there are no signs, neither in the run nor in the replay.
 
-  $ prodash-live --record recording --terminal always <script 2>frames
+  $ prodash-live --replace-words --record recording --terminal always <script 2>frames
   [2]
   $ grep -c '^name' recording
   1
@@ -102,7 +102,7 @@ a closing frame.
   > }
   $ last_rows() { tail -n $((2 * $1 + 1)) | head -n "$1" | sed 's/.*\[2K//'; }
   $ until_shown last prodash-live --record recording --no-color --columns 40 --terminal always \
-  >   2>frames <<END
+  >   --replace-words 2>frames <<END
   > add @a 0 alpha
   > init @a 10 %files
   > set @a 3

@@ -53,6 +53,7 @@ Options:
       --throughput            no effect: units that end in /s have their throughput
       --stdout                draw on standard output, not on standard error
       --strict                end at the first line that is faulty
+      --replace-words         a word of one item may be given to another, which drops the first
       --terminal <WHEN>       whether the output is a terminal: auto, always or never
                               [default: auto]; if not, messages alone are written
       --record <FILE>         record the run, for prodash-replay
@@ -113,6 +114,7 @@ fn set_flag(options: &mut Options<'_>, flag: &str) -> bool {
         "--throughput" => {}
         "--stdout" => options.to_stdout = true,
         "--strict" => options.is_strict = true,
+        "--replace-words" => options.replaces_words = true,
         "--marks" => options.has_marks = true,
         _ => return false,
     }

@@ -37,13 +37,21 @@ pub struct Items<R: Wait + Clone + Drop, W: Write + Drop> {
     printer: Option<RecordedItem<R>>,
     /// The signs that say the severity of a message, as where there are no colours.
     signs: Signs,
+    /// Whether an item whose word is given to another one is dropped.
+    replaces_words: bool,
     recording: Recording<W>,
 }
 
 impl<R: Wait + Clone + Drop, W: Write + Drop> Items<R, W> {
     /// Returns a tree without items. `signs` stand before the origins of messages, and say
-    /// their severity.
-    pub fn new(alloc: Global, root: Root<R>, signs: Signs, recording: Recording<W>) -> Items<R, W> {
+    /// their severity. If `replaces_words`, an item whose word is given to another one is dropped.
+    pub fn new(
+        alloc: Global,
+        root: Root<R>,
+        signs: Signs,
+        replaces_words: bool,
+        recording: Recording<W>,
+    ) -> Items<R, W> {
         Items {
             root: Some(root),
             items: HashMap::new(alloc),
@@ -51,6 +59,7 @@ impl<R: Wait + Clone + Drop, W: Write + Drop> Items<R, W> {
             made: 0,
             printer: None,
             signs,
+            replaces_words,
             recording,
         }
     }
@@ -70,8 +79,7 @@ impl<R: Wait + Clone + Drop, W: Write + Drop> Items<R, W> {
         self.root.is_some()
     }
 
-    /// Adds an item, which the script names by a word if it has one. An item that had this word is
-    /// dropped.
+    /// Adds an item, which the script names by a word if it has one.
     pub fn add(
         &mut self,
         alloc: Global,
@@ -79,15 +87,27 @@ impl<R: Wait + Clone + Drop, W: Write + Drop> Items<R, W> {
         parent: Handle,
         name: Text,
     ) -> Result<(), Unserved<'static>> {
+        let word = match word {
+            Some(word) => Some(self.free_word(word)?),
+            None => None,
+        };
         let handle = if parent == 0 {
             self.add_to_root(alloc, name)?
         } else {
             self.add_to_item(alloc, parent, name)?
         };
         match word {
-            Some(word) => self.set_word(alloc, word.into_string(), handle),
+            Some(word) => self.set_word(alloc, word, handle),
             None => Ok(()),
         }
+    }
+
+    /// Returns a word that may be given to an item: no other one has it, or it is taken from that.
+    fn free_word(&self, word: Text) -> Result<String, Unserved<'static>> {
+        if !self.replaces_words && self.names.get(word.as_str()).is_some() {
+            return Err(Unserved::Fault(LineFault::WordInUse(word)));
+        }
+        Ok(word.into_string())
     }
 
     /// Adds an item below the root, and returns its handle.

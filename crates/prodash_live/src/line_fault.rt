@@ -1,8 +1,8 @@
 //! What is wrong with a line, and the text that says it.
 use crate::failure::Failure;
-use prodash::Refusal;
 use prodash::render::line::draw::safe_char;
 use prodash::tree::Handle;
+use prodash::{Refusal, Text};
 use prodash_script::{Argument, Mistake};
 use std::alloc::{AllocError, AllocFailed, Global};
 use std::fmt::{self, Write};
@@ -22,6 +22,8 @@ pub enum LineFault<'a> {
     TooDeep(String),
     /// It needs the root, which was dropped.
     NoRoot,
+    /// It gives an item this word, which another one has.
+    WordInUse(Text),
 }
 
 /// Why a line had no effect.
@@ -67,6 +69,13 @@ impl fmt::Display for LineFault<'_> {
                 )
             }
             LineFault::NoRoot => f.write_str("the root was already dropped"),
+            LineFault::WordInUse(word) => {
+                let word = Shown(word.as_str());
+                write!(
+                    f,
+                    "@{word} is the word of another item (drop it, or use --replace-words)"
+                )
+            }
         }
     }
 }

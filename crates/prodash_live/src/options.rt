@@ -37,6 +37,8 @@ pub struct Options<'a> {
     pub to_stdout: bool,
     /// Whether the first faulty line ends the program.
     pub is_strict: bool,
+    /// Whether an item whose word is given to another one is dropped.
+    pub replaces_words: bool,
     /// Whether the output has a mark at its beginning and behind each frame.
     pub has_marks: bool,
     /// Whether the output is a terminal.
@@ -60,6 +62,7 @@ impl<'a> Options<'a> {
             has_timestamps: false,
             to_stdout: false,
             is_strict: false,
+            replaces_words: false,
             has_marks: false,
             terminal: Terminal::Auto,
             shows_frames: env.shows_frames,

@@ -50,7 +50,8 @@ pub fn live<
     let display = show(&rt, alloc, out, &root, &clock, rendering, &output)?;
     let interval = rendering.nanoseconds_per_frame;
     let recording = Recording::new(alloc, recording, clock.now(), interval);
-    let items = Items::new(alloc, root, Signs::for_rendering(&rendering), recording);
+    let signs = Signs::for_rendering(&rendering);
+    let items = Items::new(alloc, root, signs, options.replaces_words, recording);
     let mut feed = Feed::new(&rt, alloc, &*clock, items, display);
     let served = feed.serve_lines(input, options.is_strict);
     let closed = feed.close()?;
