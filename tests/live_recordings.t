@@ -138,6 +138,26 @@ Dropping the root ends the frames, as in the run.
   $ prodash-replay bytes 40 4 --defensive <recording
   \r\x1b[?7l\x1b[J\x1b[?7h\r\x1b[?7l\x1b[J\x1b[?7h (no-eol) (esc)
 
+The unit `steps` is a label in a script. In a recording it has another word, since `steps` is a range
+there, which counts from 1.
+
+  $ printf 'add @a 0 a\ninit @a 10 steps\nadd @b 0 b\ninit @b 10 %%range:steps\nset @b 9\n' |
+  >   until_shown '10 of 10' prodash-live --record recording --no-color --columns 40 \
+  >   --terminal always 2>frames
+  $ last_rows 2 <frames
+   a 0/10 steps [>-----------------------]
+   b [90%] 10 of 10 steps [===========>--]
+  $ events recording
+  add 0 a
+  init 1 10 label:steps
+  add 0 b
+  init 2 10 %steps
+  set 2 9
+  quit NOW
+  $ prodash-replay bytes 40 20 --any-unit --defensive <recording | last_rows 2
+   a 0/10 steps [>-----------------------]
+   b [90%] 10 of 10 steps [===========>--]
+
 Lines that are printed are the messages of an item whose row another has replaced, and which was
 dropped.
 

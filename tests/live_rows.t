@@ -50,6 +50,8 @@ The unit may be left out, and may have any name, with a percentage before or aft
    task [30%] 3/10 flies
   $ in_unit '10 flies%'
    task 3/10 flies [30%]
+  $ in_unit '10 steps'
+   task 3/10 steps
 
 States
 ======

@@ -13,6 +13,9 @@ add 3  a  -> Some(AddChild { parent: 3, name: " a ", id: [0, 0, 0, 0] })
 init 1 - - -> Some(Init { item: 1, max: None, unit: None })
 init 1 10 - -> Some(Init { item: 1, max: Some(10), unit: None })
 init 1 100 -item -> Some(Init { item: 1, max: Some(100), unit: Some(Unit { kind: Label("-item"), mode: None }) })
+init 1 9 steps -> Some(Init { item: 1, max: Some(9), unit: Some(Unit { kind: Range(Range { name: "steps" }), mode: None }) })
+init 1 9 label:steps -> Some(Init { item: 1, max: Some(9), unit: Some(Unit { kind: Label("steps"), mode: None }) })
+init 1 9 range:steps -> Some(Init { item: 1, max: Some(9), unit: Some(Unit { kind: Label("range:steps"), mode: None }) })
 init 1 100 a%b -> None
 init 1 100 -> None
 name 1 a b -> Some(SetName { item: 1, name: "a b" })
@@ -72,6 +75,7 @@ const LINES: &[&str] = &[
     "init 1 10 %items",
     "init 1 - items/s",
     "init 1 - steps",
+    "init 1 10 label:steps%",
     "init 1 - bytes",
     "init 1 - duration",
     "init 1 18446744073709551615 objects",
@@ -146,6 +150,9 @@ print  -> Print("")
 init @a 10 -> Change(7, Init { max: Some(10), unit: None })
 init @a - -> Change(7, Init { max: None, unit: None })
 init @a 10 - -> Change(7, Init { max: Some(10), unit: None })
+init 1 9 steps -> Change(1, Init { max: Some(9), unit: Some(Unit { kind: Label("steps"), mode: None }) })
+init 1 9 label:steps -> Change(1, Init { max: Some(9), unit: Some(Unit { kind: Label("steps"), mode: None }) })
+init 1 9 range:steps -> Change(1, Init { max: Some(9), unit: Some(Unit { kind: Range(Range { name: "steps" }), mode: None }) })
 add 0 @a -> Add { word: None, parent: 0, name: "@a" }
 add @b @a x y -> Add { word: Some("b"), parent: 7, name: "x y" }
 drop @a -> Drop(7)

@@ -9,7 +9,7 @@ use Rattle.prodash_core.specs.declared.tree.event.Event.{Event}
 use Rattle.prodash_core.specs.declared.tree.event.Event.TheVariants as events
 use Rattle.prodash_script.specs.Mistakes.{first_mistake, name_in, plain_mistake, size_number_of}
 use Rattle.prodash_script.specs.Reading.{bound_of, cut_at_space, read_line, text_of, then_read}
-use Rattle.prodash_script.specs.Units.{unit_in}
+use Rattle.prodash_script.specs.Units.{script_unit_in}
 use Rattle.prodash_script.specs.Words.{Reader, after_prefix, number_of, plain_unit}
 use Rattle.prodash_script.specs.declared.change.Change.{Change}
 use Rattle.prodash_script.specs.declared.change.Change.TheVariants as changes
@@ -56,7 +56,8 @@ bound_and_unit text = unwrap_or (cut_at_space text) (text, codes "-")
 -- `MAX` or `MAX UNIT` as a bound and a unit
 abbrev pub progress_of : Reader (Option ℕ × Option Unit)
 progress_of text =
-    option_and_then (λ max. option_map (λ unit. (max, unit)) (unit_in (bound_and_unit text).1))
+    option_and_then
+    (λ max. option_map (λ unit. (max, unit)) (script_unit_in (bound_and_unit text).1))
     (bound_of (bound_and_unit text).0)
 
 -- `H MAX` or `H MAX UNIT` as the begin of an item's progress, in any unit

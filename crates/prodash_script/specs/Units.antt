@@ -38,7 +38,7 @@ abbrev pub is_unit_name : List ℕ → Bool
 is_unit_name name =
     nat_lt 0 (length name) && not (bytes_eq name (codes "-")) && list_all is_name_byte name
 
--- the kinds of unit that have names of their own
+-- the kinds of unit that have names of their own, and a label whose name another kind has
 abbrev pub kinds : List (List ℕ × Kind)
 kinds =
     (codes "steps", Range (record { name = ref_to (codes "steps") }))
@@ -48,7 +48,17 @@ kinds =
       codes "objects",
       Human (record { name = ref_to (codes "objects"); formatter = record { decimals = 2 } }),
     )
+    ∷ (codes "label:steps", Label (ref_to (codes "steps")))
     ∷ []
+
+-- the names that scripts have for kinds of unit whose names in lines of events are others
+abbrev pub script_names : List (List ℕ × List ℕ)
+script_names =
+    (codes "steps", codes "label:steps") ∷ (codes "range:steps", codes "steps") ∷ []
+
+-- the name in lines of events of a kind of unit with this name in scripts
+abbrev pub line_name : List ℕ → List ℕ
+line_name name = unwrap_or (lookup script_names name) name
 
 -- the kind of unit that a name says: a label, unless it is one of those
 abbrev pub kind_in : List ℕ → Kind
@@ -58,18 +68,29 @@ kind_in name = unwrap_or (lookup kinds name) (Label (ref_to name))
 abbrev pub is_unit_word : List ℕ → Bool
 is_unit_word word = bytes_eq word (codes "-") || is_unit_name (name_and_mode word).0
 
--- the unit that a word says: none for `-`
-abbrev pub unit_in : Reader (Option Unit)
-unit_in word =
+-- the unit that a word says, if names stand for these kinds: none for `-`
+abbrev pub unit_by : (List ℕ → Kind) → Reader (Option Unit)
+unit_by kind word =
     let parts = name_and_mode word in
     if bytes_eq word (codes "-") then Some None
-    else if is_unit_name parts.0
-    then Some (Some (record { kind = kind_in parts.0; mode = parts.1 }))
+    else if is_unit_name parts.0 then Some (Some (record { kind = kind parts.0; mode = parts.1 }))
     else None
+
+-- the unit that a word of a line of events says
+abbrev pub unit_in : Reader (Option Unit)
+unit_in = unit_by kind_in
+
+-- the unit that a word of a script says
+abbrev pub script_unit_in : Reader (Option Unit)
+script_unit_in = unit_by (λ name. kind_in (line_name name))
+
+-- the name of a label, which is another if the label's own is the name of a range
+abbrev pub label_name : List ℕ → List ℕ
+label_name name = if bytes_eq name (codes "steps") then codes "label:steps" else name
 
 -- the name of a kind of unit
 abbrev pub name_in : Kind → List ℕ
-name_in (Label name) = name.now
+name_in (Label name) = label_name name.now
 name_in (Human human) = human.name.now
 name_in (Range range) = range.name.now
 name_in (Bytes bytes) = codes "bytes"
@@ -95,10 +116,10 @@ names_with names (Duration duration) = names
 names_with names (Human human) = names
 names_with names (Range range) = names
 
--- the names that are kept once the word of a unit was parsed, or another word
-abbrev pub names_after : List (List ℕ) → List ℕ → List (List ℕ)
-names_after names word =
+-- the names that are kept once a unit was parsed, or none, or what is no unit
+abbrev pub names_after : List (List ℕ) → Option (Option Unit) → List (List ℕ)
+names_after names parsed =
     option_map_or
     (λ unit. option_map_or (λ it. names_with names it.kind) unit names)
-    (unit_in word)
+    parsed
     names

@@ -1,7 +1,7 @@
 //! The words of units, whose names are arbitrary.
 ghost use Rattle.std.specs.Prelude.{◌≡◌, ℕ, IfOk, List, [], OnErr, map, option_map};
 ghost use Rattle.std.specs.List.{list_all};
-ghost use Rattle.prodash_script.specs.Units.{is_name_byte, is_unit_name, is_unit_word, kind_in, name_and_mode, names_after, names_with, stripped_by, unit_in, with_name};
+ghost use Rattle.prodash_script.specs.Units.{is_name_byte, is_unit_name, is_unit_word, kind_in, line_name, name_and_mode, names_after, names_with, script_unit_in, stripped_by, unit_in, with_name};
 ghost use Rattle.prodash_script.specs.Words.{after_prefix, before_suffix, plain_kind, plain_unit};
 ghost use Rattle.prodash_script.specs.plumbing.Names.{FindsName};
 
@@ -43,7 +43,7 @@ impl Labels {
     pub fn unit_of(&mut self, alloc: Global, word: &str) -> Result<Option<Option<Unit>>, AllocError>
         ensures ok { IfOk result (λ found.
             option_map (option_map plain_unit) found ≡ unit_in word.now) }
-        ensures names { IfOk result (λ _. self.new ≡ names_after self.old word.now) }
+        ensures names { IfOk result (λ _. self.new ≡ names_after self.old (unit_in word.now)) }
         ensures err { OnErr result (self.new ≡ self.old) }
     {
         if word == "-" {
@@ -54,10 +54,35 @@ impl Labels {
             return Ok(None);
         }
         let kind = self.kind_of(alloc, name)?;
-        Ok(Some(Some(match mode {
-            Some(mode) => dynamic_and_mode(kind, mode),
-            None => dynamic(kind),
-        })))
+        Ok(Some(Some(shown_by(kind, mode))))
+    }
+
+    /// Parses the word of a unit in a script, where `steps` is a label, and `range:steps` the range
+    /// that lines of events call `steps`. `-` is no unit. Returns `None` if it is not such a word.
+    ///
+    /// # Errors
+    ///
+    /// `AllocError`, if there is no memory for the name of the unit.
+    pub fn script_unit_of(
+        &mut self,
+        alloc: Global,
+        word: &str,
+    ) -> Result<Option<Option<Unit>>, AllocError>
+        ensures ok { IfOk result (λ found.
+            option_map (option_map plain_unit) found ≡ script_unit_in word.now) }
+        ensures names { IfOk result (λ _.
+            self.new ≡ names_after self.old (script_unit_in word.now)) }
+        ensures err { OnErr result (self.new ≡ self.old) }
+    {
+        if word == "-" {
+            return Ok(Some(None));
+        }
+        let (name, mode) = name_and_mode(word);
+        if !is_unit_name(name) {
+            return Ok(None);
+        }
+        let kind = self.kind_of(alloc, line_name(name))?;
+        Ok(Some(Some(shown_by(kind, mode))))
     }
 
     /// Returns the kind of unit that a name says.
@@ -71,6 +96,7 @@ impl Labels {
             "bytes" => Kind::Bytes(Bytes),
             "duration" => Kind::Duration(Duration),
             "objects" => Kind::Human(Human::new(Formatter::default(), "objects")),
+            "label:steps" => Kind::Label(self.keep(alloc, "steps")?),
             _ => Kind::Label(self.keep(alloc, name)?),
         })
     }
@@ -87,6 +113,27 @@ impl Labels {
         let kept = leak(alloc, name)?;
         self.names.push(kept)?;
         Ok(kept)
+    }
+}
+
+/// Returns a unit of a kind and a mode.
+fn shown_by(kind: Kind, mode: Option<Mode>) -> Unit
+    ensures { result ≡ record { kind = kind; mode = mode } }
+{
+    match mode {
+        Some(mode) => dynamic_and_mode(kind, mode),
+        None => dynamic(kind),
+    }
+}
+
+/// Returns the name in lines of events of a kind of unit with this name in scripts.
+fn line_name(name: &str) -> &str
+    ensures { result.now ≡ line_name name.now }
+{
+    match name {
+        "steps" => "label:steps",
+        "range:steps" => "steps",
+        _ => name,
     }
 }
 

@@ -217,7 +217,7 @@ fn init(
     let Some(max) = bound(max) else {
         return Ok(None);
     };
-    match labels.unit_of(alloc, unit)? {
+    match labels.script_unit_of(alloc, unit)? {
         Some(unit) => Ok(Some(Command::Change(item, Change::Init { max, unit }))),
         None => Ok(None),
     }

@@ -1,6 +1,6 @@
 ghost use Rattle.std.specs.Prelude.{◌≡◌, ◌↔◌, IsTrue, IfOk, MatchOption, Some};
 ghost use Rattle.prodash_script.specs.Lines.{GivesLine};
-ghost use Rattle.prodash_script.specs.Units.{NamesUnit, name_in};
+ghost use Rattle.prodash_script.specs.Units.{NamesUnit, label_name, name_in};
 ghost use Rattle.prodash_script.specs.plumbing.Lines.{FindsWordWith};
 ghost use Rattle.prodash_script.specs.plumbing.Readers.{IsKindNamed};
 
@@ -53,11 +53,21 @@ fn name_of(kind: &Kind) -> &'static str
     ensures { result.now ≡ name_in kind.now }
 {
     match kind {
-        Kind::Label(name) => name,
+        Kind::Label(name) => label_name(name),
         Kind::Human(human) => human.name,
         Kind::Range(range) => range.name,
         Kind::Bytes(_) => "bytes",
         Kind::Duration(_) => "duration",
+    }
+}
+
+/// Returns the name of a label, which is another if the label's own is the name of a range.
+fn label_name(name: &'static str) -> &'static str
+    ensures { result.now ≡ label_name name.now }
+{
+    match name {
+        "steps" => "label:steps",
+        _ => name,
     }
 }
 
@@ -88,6 +98,7 @@ fn kind_named(name: &str, kind: Kind) -> Option<Kind>
         "bytes" => Kind::Bytes(Bytes),
         "duration" => Kind::Duration(Duration),
         "objects" => Kind::Human(Human::new(Formatter::default(), "objects")),
+        "label:steps" => Kind::Label("steps"),
         _ => match kind {
             Kind::Label(label) if label == name => kind,
             _ => return None,
