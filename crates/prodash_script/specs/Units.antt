@@ -102,7 +102,7 @@ NamesUnit unit word = unit_in word ≡ Some (option_map plain_unit unit)
 
 -- whether a text is one of some names
 abbrev pub is_among : List ℕ → List (List ℕ) → Bool
-is_among text names = list_any (λ name. bytes_eq name text) names
+is_among text names = list_any (λ name. bytes_eq text name) names
 
 -- the names that are kept once a further one is: each once, in the order in which they came
 abbrev pub with_name : List ℕ → List (List ℕ) → List (List ℕ)

@@ -3,9 +3,10 @@ ghost use Rattle.std.specs.Prelude.{◌≡◌, ℕ, IfOk, List, [], OnErr, map, 
 ghost use Rattle.std.specs.List.{list_all};
 ghost use Rattle.prodash_script.specs.Units.{is_name_byte, is_unit_name, is_unit_word, kind_in, line_name, name_and_mode, names_after, names_with, script_unit_in, stripped_by, unit_in, with_name};
 ghost use Rattle.prodash_script.specs.Words.{after_prefix, before_suffix, plain_kind, plain_unit};
-ghost use Rattle.prodash_script.specs.plumbing.Names.{FindsName};
+ghost use Rattle.prodash_script.specs.plumbing.Names.{FindsName, KeepsName};
 
 use crate::script::after;
+use indexmap::IndexSet;
 use prodash_base::unit::display::Mode;
 use prodash_base::unit::human::Formatter;
 use prodash_base::unit::{Bytes, Duration, Human, Kind, Range, Unit, dynamic, dynamic_and_mode};
@@ -16,13 +17,13 @@ use std::str;
 /// The names of units that were kept, each once. They are kept until the program ends.
 #[derive(Drop)]
 pub struct Labels {
-    names: Vec<&'static str>,
+    names: IndexSet<&'static str>,
 }
 
 impl Model for Labels {
     ghost Value = { List (List ℕ) };
 
-    ghost view = { λ labels. map (λ name. name.now) labels.names.items };
+    ghost view = { λ labels. map (λ name. name.now) labels.names.keys };
 }
 
 impl Labels {
@@ -31,7 +32,7 @@ impl Labels {
         ensures { result ≡ [] }
     {
         Labels {
-            names: Vec::new(alloc),
+            names: IndexSet::new(alloc),
         }
     }
 
@@ -111,7 +112,7 @@ impl Labels {
             return Ok(kept);
         }
         let kept = leak(alloc, name)?;
-        self.names.push(kept)?;
+        insert(&mut self.names, kept)?;
         Ok(kept)
     }
 }
@@ -138,15 +139,19 @@ fn line_name(name: &str) -> &str
 }
 
 /// Returns the name that is equal to a text, if there is one.
-fn find(names: &[&'static str], text: &str) -> Option<&'static str>
-    ensures { FindsName names.now text.now result }
+fn find(names: &IndexSet<&'static str>, text: &str) -> Option<&'static str>
+    ensures { FindsName names.now.keys text.now result }
 {
-    for name in names {
-        if *name == text {
-            return Some(name);
-        }
-    }
-    None
+    names.get(text).copied()
+}
+
+/// Adds a name, unless an equal one is there.
+fn insert(names: &mut IndexSet<&'static str>, name: &'static str) -> Result<(), AllocError>
+    ensures ok { IfOk result (λ _. KeepsName names.old.keys name.now names.new.keys) }
+    ensures err { OnErr result (names.new.keys ≡ names.old.keys) }
+{
+    names.insert(name)?;
+    Ok(())
 }
 
 /// Returns a copy of a text that is never freed.
