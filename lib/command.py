@@ -32,6 +32,11 @@ Lines:
                            number has a - before it, as info @all - 3 files
   print TEXT               prints a line above the rows
   drop @WORD               removes it, and its word is free again
+
+Libraries that write them, and do nothing where nobody shows them:
+  . "$(prodash --lib sh)"  prodash_task, prodash_step and others, for sh
+  PYTHONPATH=$(prodash --lib python)
+                           the module prodash with track and Task, for Python
 """
 SHORT = {
     "run": "runs a command with rows below its output, which any of its processes may add",
@@ -39,6 +44,8 @@ SHORT = {
     "replay": "writes the frames of a recording, or the page that they leave",
     "picture": "makes an animated picture of a recording",
 }
+# What a script loads, below the folder of the libraries.
+LIBRARIES = {"sh": "/prodash.sh", "python": ""}
 
 
 def text(scripts):
@@ -46,10 +53,20 @@ def text(scripts):
     return HELP.format(commands="\n".join(f"  {it:8} {SHORT[it]}" for it in ("run", *scripts)))
 
 
-def main(words, program, scripts):
+def say_library(words, folder):
+    """Prints where the library for a language is, and returns the exit status."""
+    if len(words) == 1 and words[0] in LIBRARIES:
+        os.write(1, f"{os.path.realpath(folder)}{LIBRARIES[words[0]]}\n".encode())
+        return 0
+    what = f"library for {' '.join(words)}" if words else "language"
+    os.write(2, f"prodash --lib: no {what}: {' or '.join(LIBRARIES)}\n".encode())
+    return 2
+
+
+def main(words, program, scripts, libraries):
     """Runs a command. `program` returns the path of prodash-live, or None if there is none.
 
-    The other commands are the scripts at these paths.
+    The other commands are the scripts at these paths. The libraries for scripts are in a folder.
     """
     name, *rest = words or ["help"]
     if name == "run":
@@ -62,6 +79,8 @@ def main(words, program, scripts):
         os.execv(scripts[name], [scripts[name], *rest])
     if name in ("--version", "-V"):
         os.execv(scripts["live"], [scripts["live"], name])
+    if name == "--lib":
+        return say_library(rest, libraries)
     if name in ("help", "--help", "-h"):
         os.write(1, text(scripts).encode())
         return 0

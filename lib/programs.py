@@ -6,6 +6,9 @@ import sys
 
 from crates import TOP, with_below
 
+# What is installed is made of these.
+SOURCES = ("bin", "crates", "lib", "share")
+
 
 def proved(name):
     """Returns the path of the proved program of a crate."""
@@ -42,6 +45,18 @@ def is_built(name):
 
 def is_current(program, name, parts):
     return os.access(program, os.X_OK) and os.path.getmtime(program) >= newest(name, parts)
+
+
+def origin(name, program):
+    """Returns which commit a program is built from, whether files have changed since, and how."""
+    git = ["git", "-C", TOP]
+    how = {"capture_output": True, "text": True}
+    commit = subprocess.run([*git, "rev-parse", "HEAD"], **how)
+    changed = subprocess.run([*git, "status", "--porcelain", "--", *SOURCES], **how)
+    source = "no commit" if commit.returncode else f"commit {commit.stdout.strip()}"
+    parts = [source, *["with changes"] * bool(changed.stdout)]
+    parts.append("proved" if program == proved(name) else "without proofs")
+    return f"built from {', '.join(parts)}"
 
 
 def say(text, stderr_is_output):

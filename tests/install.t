@@ -1,10 +1,12 @@
 bin/install: installed programs
 ===============================
 
-Here bin/install is `install-prodash`. What it installs runs from a folder that was moved, with only
-Python on the path.
+Here bin/install is `install-prodash`, and `$HOW` says whether it proves. What it installs runs from a
+folder that was moved, with only Python on the path.
 
-  $ install-prodash $HOW prefix
+  $ install-prodash $HOW prefix 2>&1 | sed -E 's/[0-9.]+ s/N s/; s/: .*bin/: ..bin/'
+  install: installed below prefix in N s
+  install: ..bin isn't on the PATH
   $ find prefix -type f -not -name '*.pyc' | sort
   prefix/bin/prodash
   prefix/bin/prodash-live
@@ -19,6 +21,8 @@ Python on the path.
   prefix/lib/prodash/run.py
   prefix/lib/prodash/screen.py
   prefix/lib/prodash/session.py
+  prefix/share/prodash/prodash.py
+  prefix/share/prodash/prodash.sh
   $ mv prefix moved
   $ alone() { env -i PATH="$(dirname "$(command -v python3)"):/usr/bin:/bin" "$@"; }
   $ printf 'add @a 0 alpha\ninfo @a 0 one\n' | alone moved/bin/prodash-live --stdout
@@ -26,7 +30,12 @@ Python on the path.
   $ printf 'add 0 task\ninit 1 10 -\nset 1 3\ntick 0\n' | alone moved/bin/prodash-replay page 40 2
    task 3/10 [=======>-------------------]
   
-  $ alone moved/bin/prodash-live --version | sed -E 's/[0-9a-f]{40}.*/../'
+  $ [ "$HOW" ] && how=proved || how='without proofs'
+  $ for it in prodash-live prodash; do
+  >     alone moved/bin/$it --version | sed -E "s/[0-9a-f]{40}(, with changes)?, $how/../"
+  > done
+  prodash-live 0.1.0 (port of prodash 31.0.1)
+  built from commit ..
   prodash-live 0.1.0 (port of prodash 31.0.1)
   built from commit ..
 
@@ -40,6 +49,24 @@ Python on the path.
   prodash: no command picture: run, live, replay or help
   [2]
 
+A script finds the libraries.
+
+  $ cat >job.sh <<'.'
+  > . "$(prodash --lib sh)"
+  > task=$(prodash_task shell)
+  > PYTHONPATH=$(prodash --lib python) python3 -B -c 'import prodash; prodash.say("one")'
+  > prodash_done "$task" two
+  > .
+  $ alone sh -c 'PATH=$PWD/moved/bin:$PATH; prodash run sh job.sh'
+   -c one
+   \xe2\x9c\x93 shell two (esc)
+  $ alone moved/bin/prodash --lib
+  prodash --lib: no language: sh or python
+  [2]
+  $ alone moved/bin/prodash --lib ruby
+  prodash --lib: no library for ruby: sh or python
+  [2]
+
 A program is replaced while it is running.
 
   $ mkfifo lines
@@ -47,7 +74,7 @@ A program is replaced while it is running.
   $ exec 3>lines
   $ printf 'add @a 0 alpha\ninfo @a 0 one\n' >&3
   $ until grep -qs one output; do sleep 0.01; done
-  $ install-prodash $HOW moved
+  $ install-prodash $HOW moved 2>said
   $ exec 3>&-
   $ wait $!
   $ cat output
