@@ -37,6 +37,8 @@ Libraries that write them, and do nothing where nobody shows them:
   . "$(prodash --lib sh)"  prodash_task, prodash_step and others, for sh
   PYTHONPATH=$(prodash --lib python)
                            the module prodash with track and Task, for Python
+
+The manual says all of it: man prodash
 """
 SHORT = {
     "run": "runs a command with rows below its output, which any of its processes may add",

@@ -15,3 +15,17 @@ The programs have the version of the file VERSION.
   $ said="$(cat "$top/VERSION") (port of prodash 31.0.1)"
   $ [ "$(prodash-live --version)" = "prodash-live $said" ]
   $ [ "$(prodash-replay --version)" = "prodash-replay $said" ]
+
+The manual has each command that is installed, each line and each option of the helps.
+
+  $ prodash help | sed -n '/^Commands:/,/^$/s/^  \([a-z]*\) .*/\1/p' >words
+  $ prodash help | grep -oE '(^  |, )[a-z]+ @WORD' | sed 's/ @.*//; s/.* //' >>words
+  $ manual="$top/share/man/man1/prodash.1"
+  $ while read -r it; do grep -qE "^\.It .*(Cm|Li) $it( |$)" "$manual" || echo "$it"; done <words
+  picture
+  $ grep -x drop words
+  drop
+  $ { prodash run --help; prodash live --help; prodash-replay --help; } >helps
+  $ grep -oE '^ +(-., )?--[a-z-]+' helps | sed 's/.* --//' | while read -r it; do
+  >     grep -qE "Fl -$it( |$)" "$manual" || echo "$it"
+  > done

@@ -21,8 +21,13 @@ folder that was moved, with only Python on the path.
   prefix/lib/prodash/run.py
   prefix/lib/prodash/screen.py
   prefix/lib/prodash/session.py
+  prefix/share/bash-completion/completions/prodash
+  prefix/share/bash-completion/completions/prodash-live
+  prefix/share/fish/vendor_completions.d/prodash.fish
+  prefix/share/man/man1/prodash.1
   prefix/share/prodash/prodash.py
   prefix/share/prodash/prodash.sh
+  prefix/share/zsh/site-functions/_prodash
   $ mv prefix moved
   $ alone() { env -i PATH="$(dirname "$(command -v python3)"):/usr/bin:/bin" "$@"; }
   $ printf 'add @a 0 alpha\ninfo @a 0 one\n' | alone moved/bin/prodash-live --stdout
@@ -49,7 +54,7 @@ folder that was moved, with only Python on the path.
   prodash: no command picture: run, live, replay or help
   [2]
 
-A script finds the libraries.
+A script finds the libraries, and the shells their completions.
 
   $ cat >job.sh <<'.'
   > . "$(prodash --lib sh)"
@@ -66,6 +71,30 @@ A script finds the libraries.
   $ alone moved/bin/prodash --lib ruby
   prodash --lib: no library for ruby: sh or python
   [2]
+  $ cat >complete.bash <<'.'
+  > . moved/share/bash-completion/completions/prodash
+  > compopt() { COMPREPLY=("by $*"); }
+  > for words in "prodash r" "prodash run --pt" "prodash run --pty -- seq" "prodash run seq" \
+  >     "prodash live --term" "prodash live --terminal n" "prodash live --terminal = n" \
+  >     "prodash live --record x" "prodash replay p" "prodash replay page 80 24 --d" \
+  >     "prodash --lib p" "prodash-live --marks --str"; do
+  >     COMP_WORDS=($words) COMP_CWORD=$(wc -w <<<"$words") && ((COMP_CWORD--))
+  >     _prodash "${COMP_WORDS[0]}" && echo "$words: $(printf '%s\n' "${COMPREPLY[@]}" | sort -u | xargs)"
+  > done
+  > .
+  $ alone bash -c 'PATH=$PWD/moved/bin:$PATH; . ./complete.bash'
+  prodash r: replay run
+  prodash run --pt: --pty
+  prodash run --pty -- seq: seq
+  prodash run seq: seq
+  prodash live --term: --terminal
+  prodash live --terminal n: never
+  prodash live --terminal = n: never
+  prodash live --record x: by -o default
+  prodash replay p: page
+  prodash replay page 80 24 --d: --defensive
+  prodash --lib p: python
+  prodash-live --marks --str: --strict
 
 A program is replaced while it is running.
 
