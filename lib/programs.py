@@ -47,14 +47,21 @@ def is_current(program, name, parts):
     return os.access(program, os.X_OK) and os.path.getmtime(program) >= newest(name, parts)
 
 
+def git(*words):
+    """Returns what git says of this repository, or nothing if it can't."""
+    how = {"stdout": subprocess.PIPE, "stderr": subprocess.DEVNULL, "text": True}
+    try:
+        return subprocess.run(["git", "-C", TOP, *words], **how).stdout.strip()
+    except OSError:
+        return ""
+
+
 def origin(name, program):
     """Returns which commit a program is built from, whether files have changed since, and how."""
-    git = ["git", "-C", TOP]
-    how = {"capture_output": True, "text": True}
-    commit = subprocess.run([*git, "rev-parse", "HEAD"], **how)
-    changed = subprocess.run([*git, "status", "--porcelain", "--", *SOURCES], **how)
-    source = "no commit" if commit.returncode else f"commit {commit.stdout.strip()}"
-    parts = [source, *["with changes"] * bool(changed.stdout)]
+    commit = git("rev-parse", "--verify", "--quiet", "HEAD")
+    parts = [f"commit {commit}" if commit else "no commit"]
+    if git("status", "--porcelain", "--", *SOURCES):
+        parts.append("with changes")
     parts.append("proved" if program == proved(name) else "without proofs")
     return f"built from {', '.join(parts)}"
 

@@ -40,35 +40,41 @@ class _Lines:
         except ValueError:
             self.fd = None
 
-    def is_read(self):
-        """Returns whether the descriptor is open on the file that PRODASH_FD_ID names, if any."""
-        if self.fd is None:
-            return False
+    def open_fd(self):
+        """Returns the descriptor, or None unless it is open on the file of PRODASH_FD_ID.
+
+        Without that it may be open on any file.
+        """
+        fd = self.fd
+        if fd is None:
+            return None
         try:
-            found = os.fstat(self.fd)
+            found = os.fstat(fd)
         except (OSError, OverflowError):
-            return False
-        return self.identity in (None, "", f"{found.st_dev}:{found.st_ino}")
+            return None
+        return fd if self.identity in (None, "", f"{found.st_dev}:{found.st_ino}") else None
 
     def write(self, *lines):
         """Writes each line at once, unless nobody reads them any more."""
         for it in lines:
-            if self.is_read():
-                text = str(it)[:_MOST].translate(_CONTROLS)
-                self._write(f"{text}\n".encode(errors="replace"))
-
-    def _write(self, left):
-        while left:
+            fd = self.open_fd()
+            text = str(it)[:_MOST].translate(_CONTROLS)
             try:
-                left = left[os.write(self.fd, left) :]
-            except BlockingIOError:
-                # another process has set this for all
-                poll = select.poll()
-                poll.register(self.fd, select.POLLOUT)
-                poll.poll()
+                if fd is not None:
+                    _write(fd, f"{text}\n".encode(errors="replace"))
             except OSError:
                 self.fd = None
-                return
+
+
+def _write(fd, left):
+    """Writes bytes, also where another process of the job has set that writes don't block."""
+    while left:
+        try:
+            left = left[os.write(fd, left) :]
+        except BlockingIOError:
+            poll = select.poll()
+            poll.register(fd, select.POLLOUT)
+            poll.poll()
 
 
 _LINES = _Lines(os.environ)
@@ -93,7 +99,7 @@ class Task:
         """
         # stands for it in event lines
         self.word, self._has_ended = _new_word(), False
-        lines = [f"add {self.word} {parent.word if parent else 0} {name}"]
+        lines = [f"add {self.word} {0 if parent is None else parent.word} {name}"]
         if total is not None or unit is not None:
             lines.append(f"init {self.word} {'-' if total is None else total} {unit or '-'}")
         _LINES.write(*lines)
@@ -102,10 +108,10 @@ class Task:
         return self
 
     def __exit__(self, kind, error, _):
-        if error is None or not isinstance(error, Exception):
-            self.done()
-        else:
+        if isinstance(error, Exception):
             self.fail(str(error) or kind.__name__)
+        else:
+            self.done()
 
     def child(self, name, total=None, unit=None):
         """Adds a task below this one."""
@@ -166,4 +172,5 @@ def pass_fds():
 
     subprocess.run(words, pass_fds=prodash.pass_fds())
     """
-    return (_LINES.fd,) if _LINES.is_read() else ()
+    fd = _LINES.open_fd()
+    return () if fd is None else (fd,)
