@@ -74,17 +74,20 @@ A script finds the libraries, and the shells their completions.
   $ cat >complete.bash <<'.'
   > . moved/share/bash-completion/completions/prodash
   > compopt() { COMPREPLY=("by $*"); }
-  > for words in "prodash r" "prodash run --pt" "prodash run --pty -- seq" "prodash run seq" \
+  > for words in "prodash r" "prodash run --pt" "prodash run --strict --term" \
+  >     "prodash run --pty -- seq" "prodash run seq" \
   >     "prodash live --term" "prodash live --terminal n" "prodash live --terminal = n" \
   >     "prodash live --record x" "prodash replay p" "prodash replay page 80 24 --d" \
   >     "prodash --lib p" "prodash-live --marks --str"; do
   >     COMP_WORDS=($words) COMP_CWORD=$(wc -w <<<"$words") && ((COMP_CWORD--))
-  >     _prodash "${COMP_WORDS[0]}" && echo "$words: $(printf '%s\n' "${COMPREPLY[@]}" | sort -u | xargs)"
+  >     _prodash "${COMP_WORDS[0]}"
+  >     echo "$words: $(printf '%s\n' "${COMPREPLY[@]}" | sort -u | xargs)"
   > done
   > .
   $ alone bash -c 'PATH=$PWD/moved/bin:$PATH; . ./complete.bash'
   prodash r: replay run
   prodash run --pt: --pty
+  prodash run --strict --term: --terminal
   prodash run --pty -- seq: seq
   prodash run seq: seq
   prodash live --term: --terminal

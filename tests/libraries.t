@@ -19,6 +19,7 @@ A shell script.
   $ cat >job.sh <<'.'
   > set -eu
   > . "$(prodash --lib sh)"
+  > IFS=,
   > all=$(prodash_task compress 3 files)
   > prodash_step "$all"
   > prodash_step "$all" 2
@@ -53,7 +54,7 @@ A shell script.
 
 It writes the same in each shell.
 
-  $ for shell in dash bash 'bash --posix' busybox mksh ksh yash; do
+  $ for shell in dash bash 'bash --posix' 'busybox sh' mksh ksh yash; do
   >     ! command -v ${shell%% *} >/dev/null || lines $shell job.sh | cksum
   > done | sort -u | wc -l
   1
@@ -128,7 +129,7 @@ characters.
   $ cat >names.sh <<'.'
   > . "$(prodash --lib sh)"
   > prodash_task "$(printf 'a\nb\tc\033[2J\r')" >/dev/null
-  > prodash_task "$(printf '%0975d\303\251 more' 0)" >/dev/null
+  > prodash_task "$(printf '%0975d\303\251 more\n%01000d' 0 0)" >/dev/null
   > .
   $ cat >names.py <<'.'
   > from prodash import Task
@@ -155,7 +156,7 @@ Nothing is written, said or raised without a descriptor, or with one that is clo
   >     PRODASH_FD= $job; echo $?
   >     PRODASH_FD=x $job; echo $?
   >     PRODASH_FD=3 $job; echo $?
-  >     PRODASH_FD=3 PRODASH_FD_ID=1:1 $job 3>stale; echo $?
+  >     PRODASH_FD=3 PRODASH_FD_ID=1:1 $job 3>>stale; echo $?
   >     PRODASH_FD=3 $job 3>/dev/full; echo $?
   > done | sort -u
   0
@@ -195,29 +196,30 @@ more.
 A pipe that is full and doesn't block, since another process of the job has set that.
 
   $ cat >full.py <<'.'
-  > import os, threading
+  > import os, select, threading
   > reads, writes = os.pipe()
   > os.set_blocking(writes, False)
   > os.environ["PRODASH_FD"] = str(writes)
   > from prodash import Task
+  > task = Task("many")
   > def read():
   >     with open(reads) as it:
-  >         print(sum(line == "inc " + line[4:21] + " 1\n" for line in it))
+  >         print([line[21:] for line in it if line.startswith("inc")])
   > reader = threading.Thread(target=read)
-  > task = Task("many")
-  > count = 0
+  > def waits(poll=select.poll):
+  >     reader.start()
+  >     return poll()
+  > select.poll = waits
   > try:
   >     while True:
-  >         count += os.write(writes, b"# full\n") > 0
+  >         os.write(writes, b"# full\n")
   > except BlockingIOError:
-  >     reader.start()
-  > for _ in range(10000):
-  >     task.step()
+  >     task.step(2)
   > os.close(writes)
   > reader.join()
   > .
   $ python3 full.py
-  10000
+  [' 2\n']
 
 Four processes of one script, and eight threads of one: each line is whole, and each word is of one
 task.

@@ -21,10 +21,10 @@
 # This file needs no other one, and may be copied. It uses names that begin with prodash_ or
 # _prodash_, and works in any POSIX shell.
 
-# Succeeds if PRODASH_FD is open on the file that PRODASH_FD_ID names, or on any file without that.
+# Succeeds if PRODASH_FD is one digit, and open on the file that PRODASH_FD_ID names, if any.
 _prodash_is_read() {
     case ${PRODASH_FD-} in
-        [3-9]) { true >&"$PRODASH_FD"; } 2>/dev/null || return 1 ;;
+        [3-9]) ;;
         *) return 1 ;;
     esac
     [ -n "${PRODASH_FD_ID-}" ] || return 0
@@ -62,12 +62,10 @@ if _prodash_is_read; then
     }
 
     # Prints at most 1000 bytes of a line, without a character of which the end is missing.
-    _prodash_cut() (
-        LC_ALL=C
-        export LC_ALL
-        last=$(printf 's/[\300-\377][\200-\277]*$//')
-        printf '%s\n' "$1" | tr '[:cntrl:]' ' ' | cut -b 1-1000 | sed "$last"
-    )
+    _prodash_cut() {
+        printf '%s\n' "$1" | LC_ALL=C tr '[:cntrl:]' ' ' | LC_ALL=C cut -b 1-1000 |
+            iconv -c -f UTF-8 -t UTF-8 2>/dev/null || :
+    }
 else
     _prodash_word() { echo @none; }
     _prodash_write() { :; }
