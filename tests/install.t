@@ -24,6 +24,8 @@ folder that was moved, with only Python on the path.
   prefix/share/bash-completion/completions/prodash
   prefix/share/bash-completion/completions/prodash-live
   prefix/share/fish/vendor_completions.d/prodash.fish
+  prefix/share/man/man1/prodash-live.1
+  prefix/share/man/man1/prodash-replay.1
   prefix/share/man/man1/prodash.1
   prefix/share/prodash/prodash.py
   prefix/share/prodash/prodash.sh
