@@ -58,10 +58,11 @@ class _Lines:
         """Writes each line at once, unless nobody reads them any more."""
         for it in lines:
             fd = self.open_fd()
+            if fd is None:
+                return
             text = str(it)[:_MOST].translate(_CONTROLS)
             try:
-                if fd is not None:
-                    _write(fd, f"{text}\n".encode(errors="replace"))
+                _write(fd, f"{text}\n".encode(errors="replace"))
             except OSError:
                 self.fd = None
 
