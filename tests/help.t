@@ -23,6 +23,7 @@ The manual has each command that is installed, each line and each option of the 
   $ manual="$top/share/man/man1/prodash.1"
   $ while read -r it; do grep -qE "^\.It .*(Cm|Li) $it( |$)" "$manual" || echo "$it"; done <words
   picture
+  $ ! command -v mandoc >/dev/null || mandoc -Tlint "$manual"
   $ grep -x drop words
   drop
   $ { prodash run --help; prodash live --help; prodash-replay --help; } >helps

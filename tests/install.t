@@ -23,6 +23,7 @@ folder that was moved, with only Python on the path.
   prefix/lib/prodash/session.py
   prefix/share/bash-completion/completions/prodash
   prefix/share/bash-completion/completions/prodash-live
+  prefix/share/bash-completion/completions/prodash-replay
   prefix/share/fish/vendor_completions.d/prodash.fish
   prefix/share/man/man1/prodash-live.1
   prefix/share/man/man1/prodash-replay.1
@@ -80,7 +81,8 @@ A script finds the libraries, and the shells their completions.
   >     "prodash run --pty -- seq" "prodash run seq" \
   >     "prodash live --term" "prodash live --terminal n" "prodash live --terminal = n" \
   >     "prodash live --record x" "prodash replay p" "prodash replay page 80 24 --d" \
-  >     "prodash --lib p" "prodash-live --marks --str"; do
+  >     "prodash --lib p" "prodash-live --marks --str" "prodash-replay p" \
+  >     "prodash-replay page 80 24 --d"; do
   >     COMP_WORDS=($words) COMP_CWORD=$(wc -w <<<"$words") && ((COMP_CWORD--))
   >     _prodash "${COMP_WORDS[0]}"
   >     echo "$words: $(printf '%s\n' "${COMPREPLY[@]}" | sort -u | xargs)"
@@ -100,6 +102,27 @@ A script finds the libraries, and the shells their completions.
   prodash replay page 80 24 --d: --defensive
   prodash --lib p: python
   prodash-live --marks --str: --strict
+  prodash-replay p: page
+  prodash-replay page 80 24 --d: --defensive
+  $ cat >complete.fish <<'.'
+  > source moved/share/fish/vendor_completions.d/prodash.fish
+  > for words in "prodash r" "prodash run --pt" "prodash run --pty -- seq" "prodash run seq" \
+  >     "prodash live --terminal n" "prodash replay p" "prodash --lib p" "prodash-live --str"
+  >     echo $words: (complete -C $words | string replace -r '\t.*' '' | sort -u)
+  > end
+  > .
+  $ cat >wanted <<'.'
+  > prodash r: replay run
+  > prodash run --pt: --pty
+  > prodash run --pty -- seq: seq
+  > prodash run seq: seq
+  > prodash live --terminal n: never
+  > prodash replay p: page
+  > prodash --lib p: python
+  > prodash-live --str: --strict
+  > .
+  $ complete_fish() { alone sh -c 'PATH=$PWD/moved/bin:$PATH HOME=$PWD fish complete.fish'; }
+  $ ! command -v fish >/dev/null || complete_fish | diff wanted -
 
 A program is replaced while it is running.
 

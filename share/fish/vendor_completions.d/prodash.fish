@@ -1,4 +1,4 @@
-# Completes the words of prodash and prodash-live in fish, from the help that they print.
+# Completes the words of prodash, prodash-live and prodash-replay in fish, from their help.
 
 # Adds the options that these lines of a help list, to a program in some condition.
 function __prodash_add --argument-names program condition
@@ -63,3 +63,5 @@ complete -c prodash -n "__fish_seen_subcommand_from live" -f
 complete -c prodash -n "__fish_seen_subcommand_from replay" -xa "bytes page"
 __prodash_add prodash-live true (prodash-live --help)
 complete -c prodash-live -f
+__prodash_add prodash-replay true (prodash-replay --help)
+complete -c prodash-replay -xa "bytes page"
