@@ -1,8 +1,8 @@
 bin/install: installed programs
 ===============================
 
-Here bin/install is `install-prodash`, and `$HOW` says whether it proves. What it installs runs from a
-folder that was moved, with only Python on the path.
+Here bin/install is `install-prodash`, and `$HOW` says whether it proves. What it installs runs from
+a folder that was moved, with only Python on the path.
 
   $ install-prodash $HOW prefix 2>&1 | sed -E 's/[0-9.]+ s/N s/; s/: .*bin/: ..bin/'
   install: installed below prefix in N s

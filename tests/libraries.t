@@ -163,8 +163,8 @@ Nothing is written, said or raised without a descriptor, or with one that is clo
   $ wc -c <stale
   0
 
-Nor if the descriptor is closed later, and is then that of another file, or if nobody reads there any
-more.
+Nor if the descriptor is closed later, and is then that of another file, or if nobody reads there
+any more.
 
   $ cat >late.py <<'.'
   > import os
@@ -221,8 +221,8 @@ A pipe that is full and doesn't block, since another process of the job has set 
   $ python3 full.py
   [' 2\n']
 
-Four processes of one script, and eight threads of one: each line is whole, and each word is of one
-task.
+Four processes of one script, and eight threads of one: each line is whole, and each word is of
+one task.
 
   $ cat >many.sh <<'.'
   > . "$(prodash --lib sh)"
@@ -252,7 +252,7 @@ task.
   $ for job in 'sh many.sh' 'python3 many.py'; do
   >     PRODASH_FD=3 $job 3>>many
   >     cut -d ' ' -f 2 many | sort -u | wc -l
-  >     sed -E 's/@[0-9a-f]{16}/@/' many | sed 's/job [1-4]/job/; s/[0-9]* is/N is/' | sort | uniq -c
+  >     sed -E 's/@[0-9a-f]{16}/@/; s/job [1-4]/job/; s/[0-9]+ is/N is/' many | sort | uniq -c
   >     rm many
   > done | sed 's/^ *//'
   100

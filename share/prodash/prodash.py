@@ -12,8 +12,8 @@
                     part.step(len(block))
             task.step()
 
-`PYTHONPATH=$(prodash --lib python) prodash run python3 script.py` finds this file. It needs no other
-one, and may be copied. It works with Python 3.9 or later.
+`PYTHONPATH=$(prodash --lib python) prodash run python3 script.py` finds this file. It needs no
+other one, and may be copied. It works with Python 3.9 or later.
 
 All calls may be made from any thread and process of the job. None raises an exception because
 nobody shows the rows.
