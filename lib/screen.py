@@ -108,13 +108,18 @@ class Screen:
         parts = self.line.split(b"\r")
         return all(len(it) + 7 * it.count(b"\t") < self.columns for it in parts)
 
+    def back(self):
+        """Returns what moves the cursor back to the rows from behind what was typed, as ^C."""
+        return b"" if self.line or self.has_gap else b"\r"
+
     def erase(self):
         """Returns what erases the rows, if they stand."""
         if not self.is_drawn:
             return b""
         self.is_drawn = False
         # the line may have text behind the cursor
-        return KEEP + b"\r\n" + ERASE_BELOW + RESTORE if self.moves else ERASE_BELOW
+        erases = KEEP + b"\r\n" + ERASE_BELOW + RESTORE if self.moves else ERASE_BELOW
+        return self.back() + erases
 
     def draw(self):
         """Returns what draws the rows, on those that stand."""
@@ -124,9 +129,9 @@ class Screen:
         if not can_draw or not self.count:
             return self.erase()
         self.is_drawn = True
-        behind = b"" if self.moves else ERASE_BEHIND
-        back = b"\x1b[%dA" % room
-        return behind + ROOM * room + back + KEEP + PLAIN + b"\r\n" * gap + self.frame + RESTORE
+        begin = self.back() + (b"" if self.moves else ERASE_BEHIND)
+        up = b"\x1b[%dA" % room
+        return begin + ROOM * room + up + KEEP + PLAIN + b"\r\n" * gap + self.frame + RESTORE
 
     def tell(self):
         """Returns what prints the messages that wait above the job's line."""

@@ -434,6 +434,29 @@ Nothing is left of rows that what is typed has moved below.
    build 4/10 files [=======>------------]
   status 0
 
+Nor of rows on which a key was echoed, as ^C, where standard input is not the terminal.
+
+  $ cat >pressed <<'.'
+  > . ./job
+  > trap '' INT; echo one; next; say set @a 4; next
+  > .
+  $ { echo 'run prodash-run --no-color -- sh pressed </dev/null'; cat <<'.'; } | on-terminal 40 8
+  > until one
+  > until 3/10
+  > keys \x03
+  > until ^C
+  > tell go
+  > until 4/10
+  > screen
+  > tell go
+  > ended
+  > screen
+  > .
+  one
+   build 4/10 files [=======>------------]
+  status 0
+  one
+
 A message has the terminal's own style.
 
   $ cat >told <<'.'
