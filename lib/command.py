@@ -42,6 +42,7 @@ The manual says all of it: man prodash
 """
 SHORT = {
     "run": "runs a command with rows below its output, which any of its processes may add",
+    "each": "runs a command for each line of its input, with rows for those that run",
     "live": "shows the event lines of standard input",
     "replay": "writes the frames of a recording, or the page that they leave",
     "picture": "makes an animated picture of a recording",
@@ -52,7 +53,8 @@ LIBRARIES = {"sh": "/prodash.sh", "python": ""}
 
 def text(scripts):
     """Returns the help, with the commands that there are."""
-    return HELP.format(commands="\n".join(f"  {it:8} {SHORT[it]}" for it in ("run", *scripts)))
+    names = ("run", "each", *scripts)
+    return HELP.format(commands="\n".join(f"  {it:8} {SHORT[it]}" for it in names))
 
 
 def say_library(words, folder):
@@ -77,6 +79,10 @@ def main(words, program, scripts, libraries):
 
         found = program()
         return 1 if found is None else run.main(found, rest)
+    if name == "each":
+        import each
+
+        return each.main(program, rest)
     if name in scripts:
         os.execv(scripts[name], [scripts[name], *rest])
     if name in ("--version", "-V"):
@@ -86,6 +92,6 @@ def main(words, program, scripts, libraries):
     if name in ("help", "--help", "-h"):
         os.write(1, text(scripts).encode())
         return 0
-    said = f"prodash: no command {name}: run, {', '.join(scripts)} or help\n"
+    said = f"prodash: no command {name}: run, each, {', '.join(scripts)} or help\n"
     os.write(2, said.encode())
     return 2

@@ -23,15 +23,17 @@ OWN = 256
 NOT_FOUND, NOT_RUN = 127, 126
 
 
+def is_free(fd):
+    """Returns whether no program that this one starts has the descriptor."""
+    try:
+        return not os.get_inheritable(fd)
+    except OSError:
+        return True
+
+
 def free_digit():
     """Returns the highest free descriptor of one digit, or None."""
-    for it in DIGITS:
-        try:
-            if not os.get_inheritable(it):
-                return it
-        except OSError:
-            return it
-    return None
+    return next(filter(is_free, DIGITS), None)
 
 
 def identity(fd):
@@ -88,6 +90,12 @@ def set_size(terminal, columns, rows):
 def handled():
     """Returns the signals to pass on: those that aren't ignored from the start."""
     return [it for it in PASSED if signals.getsignal(it) != signals.SIG_IGN]
+
+
+def end_at_interrupt():
+    """Has SIGINT end this process without a word, unless it is ignored."""
+    if signals.getsignal(signals.SIGINT) == signals.default_int_handler:
+        signals.signal(signals.SIGINT, signals.SIG_DFL)
 
 
 def fork(does, *words):

@@ -603,9 +603,8 @@ def wrap(program, options, command):
 
 def main(program, words):
     """Runs the command of these words, with the program at this path as display."""
-    if signals.getsignal(signals.SIGINT) == signals.default_int_handler:
-        # before there is a job, Ctrl-C ends this without a word
-        signals.signal(signals.SIGINT, signals.SIG_DFL)
+    # before there is a job
+    job.end_at_interrupt()
     if words and words[0] in ("-h", "--help"):
         os.write(1, HELP.encode())
         return 0

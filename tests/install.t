@@ -13,6 +13,7 @@ a folder that was moved, with only Python on the path.
   prefix/bin/prodash-replay
   prefix/lib/prodash/command.py
   prefix/lib/prodash/display.py
+  prefix/lib/prodash/each.py
   prefix/lib/prodash/job.py
   prefix/lib/prodash/keys.py
   prefix/lib/prodash/live.py
@@ -49,12 +50,14 @@ a folder that was moved, with only Python on the path.
 
   $ alone moved/bin/prodash run -- sh -c 'echo add 0 alpha >&$PRODASH_FD; echo info 1 - one >&$PRODASH_FD'
    alpha one
+  $ echo one | alone moved/bin/prodash each echo got
+  got one
   $ printf 'add @a 0 alpha\ninfo @a 0 two\n' | alone moved/bin/prodash live --stdout
    alpha two
   $ alone moved/bin/prodash help | head -n 1
   Progress on the terminal, for a job, a script or a recording
   $ alone moved/bin/prodash picture
-  prodash: no command picture: run, live, replay or help
+  prodash: no command picture: run, each, live, replay or help
   [2]
 
 A script finds the libraries, and the shells their completions.
