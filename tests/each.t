@@ -67,6 +67,15 @@ ended, or that exits with 255, is the last.
   prodash each: /dev/null: Permission denied
   [126]
 
+Without free descriptors for the event lines there are no messages.
+
+  $ echo a | prodash each sh -c 'echo "$1"; exit 3' x 3>&1 4>&1 5>&1 6>&1 7>&1
+  a
+  [123]
+  $ echo a | prodash each sh -c 'echo "$1"; exit 3' x 3>&1 4>&1 5>&1 6>&1 7>&1 8>&1
+  a
+  [123]
+
 In a message, and in the name of a row, is what a line may have.
 
   $ printf 'a\nb\0\377\0c\r\033[31m\0' | prodash each -0 -n 'x
@@ -211,6 +220,22 @@ Below `prodash run` the rows are its own, until all commands have ended.
   
    job
   status 0
+
+A signal for `prodash each` alone ends xargs. The commands that run go on, as those of xargs.
+
+  $ printf 'a\nb\n' >two
+  $ on-terminal 60 8 <<'.'
+  > run prodash each --no-color -- sh reads <two
+  > until sh 0/2
+  > until   a
+  > one TERM
+  > ended
+  > screen
+  > tell a
+  > until a is read
+  > .
+  signal SIGTERM
+  
 
 Ctrl-C ends the commands, and leaves no row.
 
