@@ -33,8 +33,8 @@ names a shell can't have.
   out of a
   $ cat told
   err of a
-  $ echo x=1 | env 'a.b=c d' prodash each env | grep -e ^a.b -e ^x=
-  a.b=c d
+  $ echo x=1 | env 'a.b={} d' prodash each env | grep -e ^a.b -e ^x=
+  a.b={} d
   x=1
 
 How a command fails is a message, and the status is that of xargs. A command that a signal has
