@@ -1,11 +1,10 @@
-//! The table beside a slow one, whose entries are hashed, and sorted at each snapshot.
+//! The table beside the hashed one that it replaced.
 use crate::fixtures::assert_same;
-use prodash_base::Text;
+use crate::hashed_table::HashedTable;
 use prodash_base::progress::key::next_id;
-use prodash_base::progress::{Key, Row, Rows, State, Step, UNKNOWN, Value};
+use prodash_base::progress::{Key, Step, UNKNOWN};
 use prodash_core::tree::{Counted, Counters, TreeCore};
-use std::alloc::{AllocError, Global};
-use std::collections::HashMap;
+use std::alloc::Global;
 use std::process::Abort;
 
 /// Counters that are their own numbers.
@@ -20,78 +19,11 @@ impl Counters<u64> for OwnNumbers {
     }
 }
 
-/// The slow table.
-#[derive(Drop)]
-struct Hashed {
-    rows: HashMap<Key, Row>,
-}
-
-impl Hashed {
-    fn insert(&mut self, alloc: Global, key: Key, name: &str) -> Result<(), AllocError> {
-        let name = Text::from_str(alloc, name)?;
-        let (id, progress) = (UNKNOWN, None);
-        self.rows.insert(
-            key,
-            Row {
-                key,
-                name,
-                id,
-                progress,
-            },
-        )?;
-        Ok(())
-    }
-
-    fn init(&mut self, key: Key, step: Option<Step>) -> bool {
-        let Some(row) = self.rows.get_mut(&key) else {
-            return false;
-        };
-        row.progress = match step {
-            None => None,
-            Some(step) => Some(Value {
-                step,
-                done_at: Some(step),
-                unit: None,
-                state: State::Running,
-            }),
-        };
-        true
-    }
-
-    fn set_max(&mut self, key: Key, max: Option<Step>) -> Option<Step> {
-        let row = self.rows.get_mut(&key)?;
-        let value = row.progress.as_mut()?;
-        let before = value.done_at;
-        value.done_at = max;
-        before
-    }
-
-    fn rows(&self, rt: &impl Abort, alloc: Global) -> Rows {
-        let mut rows = Vec::new(alloc);
-        for key in self.keys(rt, alloc) {
-            let row = self.rows.get(&key).expect(rt, "a row");
-            rows.push(row.clone().expect(rt, "memory"))
-                .expect(rt, "memory");
-        }
-        Rows::new(rows)
-    }
-
-    /// Returns the keys, in ascending order.
-    fn keys(&self, rt: &impl Abort, alloc: Global) -> Vec<Key> {
-        let mut keys = Vec::new(alloc);
-        for key in self.rows.keys() {
-            keys.push(*key).expect(rt, "memory");
-        }
-        keys.sort().expect(rt, "memory");
-        keys
-    }
-}
-
 /// Both tables, and the keys of the latest insertions.
 #[derive(Drop)]
 struct Both {
     ordered: TreeCore<u64>,
-    hashed: Hashed,
+    hashed: HashedTable,
     latest: Vec<Key>,
     /// The number of the next child.
     number: u32,
@@ -124,7 +56,8 @@ impl Both {
         };
         let ordered = self.ordered.insert(alloc, key, name, UNKNOWN);
         ordered.expect(rt, "no refusal");
-        self.hashed.insert(alloc, key, name).expect(rt, "memory");
+        let hashed = self.hashed.insert(alloc, key, name, UNKNOWN);
+        hashed.expect(rt, "no refusal");
         if self.latest.len() as u64 == LATEST {
             self.latest.swap_remove((word / 1024 % LATEST) as usize);
         }
@@ -146,7 +79,7 @@ impl Both {
             }
             _ => {
                 let got = self.ordered.remove(key);
-                assert_same(rt, got, self.hashed.rows.remove(&key).is_some(), word);
+                assert_same(rt, got, self.hashed.remove(key), word);
             }
         }
     }
@@ -155,13 +88,14 @@ impl Both {
     fn init(&mut self, rt: &impl Abort, key: Key, step: Option<Step>) {
         let counted = Counted::begin(step.unwrap_or(0), step, None);
         let got = self.ordered.init(key, counted);
-        assert_same(rt, got, self.hashed.init(key, step), step);
+        assert_same(rt, got, self.hashed.init(key, counted), step);
     }
 
     /// Asserts that both list the same rows.
     fn assert_listed(&self, rt: &impl Abort, alloc: Global) {
         let got = self.ordered.rows(alloc, &OwnNumbers).expect(rt, "memory");
-        assert_same(rt, got, self.hashed.rows(rt, alloc), "rows");
+        let want = self.hashed.rows(alloc, &OwnNumbers).expect(rt, "memory");
+        assert_same(rt, got, want, "rows");
     }
 }
 
@@ -175,9 +109,7 @@ fn both_tables_have_the_same_rows_after_70000_calls(rt: HostRuntime) {
     let alloc = rt.alloc();
     let mut both = Both {
         ordered: TreeCore::new(alloc),
-        hashed: Hashed {
-            rows: HashMap::new(alloc),
-        },
+        hashed: HashedTable::new(alloc),
         latest: Vec::new(alloc),
         number: FIRST,
     };

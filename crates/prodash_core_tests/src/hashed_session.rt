@@ -1,15 +1,15 @@
-//! A session beside a slow one, whose tasks are hashed, and sorted at each snapshot.
+//! A session beside a slow one over the hashed table that the ordered one replaced.
 use crate::fixtures::assert_same;
+use crate::hashed_table::HashedTable;
 use crate::transcripts::{apply_event, new_session, options};
 use prodash_base::messages::{Message, MessageCopyState, MessageLevel, Messages};
 use prodash_base::progress::key::next_id;
-use prodash_base::progress::{Id, Key, Row, Rows, State, Step, UNKNOWN, Value};
+use prodash_base::progress::{Id, Key, State, Step, UNKNOWN};
 use prodash_base::unit::{Unit, label};
 use prodash_base::{Refusal, Text};
-use prodash_core::tree::{Event, Handle, Reply, Session};
+use prodash_core::tree::{Counted, Counters, Event, Handle, Reply, Session};
 use prodash_line::render::line::draw::MemoryScreen;
-use std::alloc::{AllocError, Global};
-use std::collections::HashMap;
+use std::alloc::Global;
 use std::process::Abort;
 
 /// How many messages are kept.
@@ -25,29 +25,29 @@ struct Place {
     lives: bool,
 }
 
-/// The progress of a task: the handle whose counter it shows, its bound, its unit and its state.
-#[derive(Clone, Copy)]
-struct Begun {
-    item: Handle,
-    max: Option<Step>,
-    unit: Option<Unit>,
-    state: State,
-}
-
-/// A task of the slow session.
+/// The places of the root and all items by their handles.
 #[derive(Drop)]
-struct Task {
-    name: Text,
-    id: Id,
-    begun: Option<Begun>,
+struct Places {
+    places: Vec<Place>,
 }
 
-/// The slow session: the places of the root and all items by their handles, the tasks by their
-/// keys, the messages that are kept, and how many were sent.
+impl Counters<Handle> for Places {
+    ghost shows = { λ _ counter n. Unit {0} };
+
+    fn number(&self, counter: Handle) -> Step {
+        match self.places.get(counter as usize) {
+            None => 0,
+            Some(place) => place.counter,
+        }
+    }
+}
+
+/// The slow session: the places of its handles, its tasks, the messages that are kept, and how many
+/// were sent.
 #[derive(Drop)]
 struct Slow {
-    places: Vec<Place>,
-    tasks: HashMap<Key, Task>,
+    places: Places,
+    tasks: HashedTable,
     messages: Vec<Message>,
     sent: u64,
 }
@@ -55,8 +55,10 @@ struct Slow {
 impl Slow {
     fn new(rt: &impl Abort, alloc: Global) -> Slow {
         let mut slow = Slow {
-            places: Vec::new(alloc),
-            tasks: HashMap::new(alloc),
+            places: Places {
+                places: Vec::new(alloc),
+            },
+            tasks: HashedTable::new(alloc),
             messages: Vec::new(alloc),
             sent: 0,
         };
@@ -71,14 +73,13 @@ impl Slow {
             number: 0,
             lives: true,
         };
-        self.places.push(place).expect(rt, "memory");
+        self.places.places.push(place).expect(rt, "memory");
     }
 
     /// Returns the place of a root or an item that lives.
     fn place(&mut self, handle: Handle) -> Option<&mut Place> {
-        self.places
-            .get_mut(handle as usize)
-            .filter(|place| place.lives)
+        let place = self.places.places.get_mut(handle as usize);
+        place.filter(|place| place.lives)
     }
 
     /// Returns the place of an item that lives.
@@ -89,16 +90,6 @@ impl Slow {
         self.place(handle).map(|place| *place)
     }
 
-    /// Returns the progress of the task of a place.
-    fn begun(&mut self, place: Place) -> Option<&mut Begun> {
-        self.tasks.get_mut(&place.key)?.begun.as_mut()
-    }
-
-    fn insert(&mut self, key: Key, task: Task) -> Result<(), AllocError> {
-        self.tasks.insert(key, task)?;
-        Ok(())
-    }
-
     fn add_child(
         &mut self,
         rt: &impl Abort,
@@ -107,16 +98,14 @@ impl Slow {
         name: &Text,
         id: Id,
     ) -> Reply {
-        let made = self.places.len() as Handle;
+        let made = self.places.places.len() as Handle;
         let Some(place) = self.place(parent) else {
             return Reply::Refused(Refusal::Gone);
         };
         let key = place.key.add_child(place.number);
         place.number = next_id(place.number);
-        let name = Text::from_str(alloc, name.as_str()).expect(rt, "memory");
-        let begun = None;
-        self.insert(key, Task { name, id, begun })
-            .expect(rt, "memory");
+        let inserted = self.tasks.insert(alloc, key, name.as_str(), id);
+        inserted.expect(rt, "memory");
         self.push_place(rt, key);
         Reply::Made(made)
     }
@@ -129,21 +118,12 @@ impl Slow {
     }
 
     fn drop_item(&mut self, item: Handle, place: Place) -> Reply {
-        self.tasks.remove(&place.key);
+        self.tasks.remove(place.key);
         self.drop_place(item)
     }
 
     fn init(&mut self, item: Handle, place: Place, max: Option<Step>, unit: Option<Unit>) -> Reply {
-        if let Some(task) = self.tasks.get_mut(&place.key) {
-            let state = State::Running;
-            let begun = Begun {
-                item,
-                max,
-                unit,
-                state,
-            };
-            let has_progress = max.is_some() || unit.is_some();
-            task.begun = if has_progress { Some(begun) } else { None };
+        if self.tasks.init(place.key, Counted::begin(item, max, unit)) {
             self.set(item, 0);
         }
         Reply::Done
@@ -157,25 +137,13 @@ impl Slow {
     }
 
     fn set_name(&mut self, rt: &impl Abort, alloc: Global, place: Place, name: &Text) -> Reply {
-        if let Some(task) = self.tasks.get_mut(&place.key) {
-            task.name = Text::from_str(alloc, name.as_str()).expect(rt, "memory");
-        }
+        let set = self.tasks.set_name(alloc, place.key, name.as_str());
+        set.expect(rt, "memory");
         Reply::Done
     }
 
-    fn set_max(&mut self, place: Place, max: Option<Step>) -> Reply {
-        let Some(begun) = self.begun(place) else {
-            return Reply::Bound(None);
-        };
-        let before = begun.max;
-        begun.max = max;
-        Reply::Bound(before)
-    }
-
     fn set_state(&mut self, place: Place, state: State) -> Reply {
-        if let Some(begun) = self.begun(place) {
-            begun.state = state;
-        }
+        self.tasks.set_state(place.key, state);
         Reply::Done
     }
 
@@ -188,8 +156,8 @@ impl Slow {
         level: MessageLevel,
         text: &Text,
     ) -> Reply {
-        let origin = match self.tasks.get(&place.key) {
-            Some(task) => Text::from_str(alloc, task.name.as_str()),
+        let origin = match self.tasks.name(place.key) {
+            Some(name) => Text::from_str(alloc, name),
             None => Text::from_str(alloc, ""),
         };
         let message = Message {
@@ -229,50 +197,14 @@ impl Slow {
     }
 
     fn name(&self, rt: &impl Abort, alloc: Global, place: Place) -> Reply {
-        Reply::Name(match self.tasks.get(&place.key) {
-            Some(task) => Some(Text::from_str(alloc, task.name.as_str()).expect(rt, "memory")),
+        Reply::Name(match self.tasks.name(place.key) {
+            Some(name) => Some(Text::from_str(alloc, name).expect(rt, "memory")),
             None => None,
         })
     }
 
-    fn id(&self, place: Place) -> Reply {
-        Reply::Id(self.tasks.get(&place.key).map_or(UNKNOWN, |task| task.id))
-    }
-
-    /// Returns the keys, in ascending order.
-    fn keys(&self, rt: &impl Abort, alloc: Global) -> Vec<Key> {
-        let mut keys = Vec::new(alloc);
-        for key in self.tasks.keys() {
-            keys.push(*key).expect(rt, "memory");
-        }
-        keys.sort().expect(rt, "memory");
-        keys
-    }
-
-    /// Returns what a row shows of a progress.
-    fn value_of(&self, begun: &Begun) -> Value {
-        let counter = self.places.get(begun.item as usize).map(|it| it.counter);
-        Value {
-            step: counter.unwrap_or(0),
-            done_at: begun.max,
-            unit: begun.unit,
-            state: begun.state,
-        }
-    }
-
     fn rows(&self, rt: &impl Abort, alloc: Global) -> Reply {
-        let mut rows = Vec::new(alloc);
-        for key in self.keys(rt, alloc) {
-            let task = self.tasks.get(&key).expect(rt, "a task");
-            let row = Row {
-                key,
-                name: Text::from_str(alloc, task.name.as_str()).expect(rt, "memory"),
-                id: task.id,
-                progress: task.begun.as_ref().map(|begun| self.value_of(begun)),
-            };
-            rows.push(row).expect(rt, "memory");
-        }
-        Reply::Rows(Rows::new(rows))
+        Reply::Rows(self.tasks.rows(alloc, &self.places).expect(rt, "memory"))
     }
 
     /// Applies an event of the root.
@@ -303,7 +235,7 @@ impl Slow {
         match event {
             Event::Init { max, unit, .. } => self.init(item, place, *max, *unit),
             Event::SetName { name, .. } => self.set_name(rt, alloc, place, name),
-            Event::SetMax { max, .. } => self.set_max(place, *max),
+            Event::SetMax { max, .. } => Reply::Bound(self.tasks.set_max(place.key, *max)),
             Event::Set { step, .. } => self.set(item, *step),
             Event::IncBy { step, .. } => self.set(item, place.counter.wrapping_add(*step)),
             Event::Blocked { reason, eta, .. } => {
@@ -318,10 +250,10 @@ impl Slow {
                 ..
             } => self.send(rt, alloc, place, *at, *level, text),
             Event::Name { .. } => self.name(rt, alloc, place),
-            Event::Id { .. } => self.id(place),
+            Event::Id { .. } => Reply::Id(self.tasks.id(place.key)),
             Event::Step { .. } => Reply::Step(place.counter),
-            Event::Max { .. } => Reply::Bound(self.begun(place).and_then(|begun| begun.max)),
-            Event::Unit { .. } => Reply::Unit(self.begun(place).and_then(|begun| begun.unit)),
+            Event::Max { .. } => Reply::Bound(self.tasks.max(place.key)),
+            Event::Unit { .. } => Reply::Unit(self.tasks.unit(place.key)),
             _ => self.drop_item(item, place),
         }
     }

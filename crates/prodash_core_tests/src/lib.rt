@@ -20,6 +20,8 @@ mod hashed;
 #[cfg(test)]
 mod hashed_session;
 #[cfg(test)]
+mod hashed_table;
+#[cfg(test)]
 mod options;
 #[cfg(test)]
 mod runs;
