@@ -2,24 +2,28 @@
 import os
 import select
 
+import job
+
 # How many bytes are read at a time, as many as a pipe has.
 READ = 65536
 MARK = b"\0"
+# A line of more bytes is faulty, whatever they are.
+LONGEST = 65536 + len("\r\n")
 
 
 class Display:
     """The program that draws. Whatever becomes of it, its lines are taken."""
 
-    def __init__(self, program, words, reset):
-        """Starts the program in a process group of its own, with these signals as by default."""
+    def __init__(self, program, words):
+        """Starts the program in a process group of its own, with signals as by default."""
         lines, self.to = os.pipe()
         self.frames, writes = os.pipe()
         moves = [(os.POSIX_SPAWN_DUP2, fd, at) for fd, at in ((lines, 0), (writes, 1), (writes, 2))]
-        how = {"file_actions": moves, "setpgroup": 0, "setsigmask": (), "setsigdef": reset}
-        # lines that it has not taken, parts of its next frame, and how it ended, or why
-        self.lines, self.parts, self.status, self.reason = bytearray(), [], None, ""
-        # a size that waits for the end of a line
-        self.size, self.is_within_line = b"", False
+        how = {"file_actions": moves, "setpgroup": 0, "setsigmask": (), "setsigdef": job.defaults()}
+        # lines that it has not taken, the beginning of a line, and parts of its next frame
+        self.lines, self.rest, self.parts = bytearray(), b"", []
+        # how it ended, why it was given up, and what it said at its end
+        self.status, self.reason, self.said = None, "", ""
         try:
             self.pid = os.posix_spawnp(program, ["prodash-live", *words], os.environ, **how)
         except OSError as error:
@@ -48,22 +52,28 @@ class Display:
         return [] if self.status is None or os.WIFSIGNALED(self.status) else None
 
     def send(self, lines):
-        """Takes lines, and leaves them out if there is no program any more."""
-        if not self.is_alive():
-            return
-        whole, feed, rest = lines.rpartition(b"\n")
-        self.lines += whole + feed + self.size * bool(feed) + rest
-        if feed:
-            self.size = b""
-        self.is_within_line = bool(rest) or self.is_within_line and not feed
+        """Takes lines, and leaves them out if there is no program any more.
+
+        The last may be the beginning of a line, which waits for its end.
+        """
+        if self.is_alive():
+            whole, feed, rest = (self.rest + lines).rpartition(b"\n")
+            self.lines += whole + feed
+            self.rest = rest[:LONGEST]
 
     def resize(self, columns, rows):
         """Takes a size, between two lines."""
-        size = b"size %d %d\n" % (columns, rows)
-        if self.is_within_line:
-            self.size = size
-        else:
-            self.send(size)
+        if self.is_alive():
+            self.lines += b"size %d %d\n" % (columns, rows)
+
+    def drop_rest(self):
+        """Leaves out a line that isn't whole."""
+        self.rest = b""
+
+    def finish(self):
+        """Takes the rest as the last line. The program says that it is cut off."""
+        self.lines += self.rest
+        self.rest = b""
 
     def write(self):
         """Writes as many lines as the program takes."""
@@ -106,11 +116,12 @@ class Display:
         self.close()
         os.close(self.frames)
         self.lines.clear()
+        self.drop_rest()
         if not self.pid:
             return
         self.status = os.waitpid(self.pid, 0)[1]
         self.pid = None
-        said = b"".join(self.parts).decode(errors="replace").strip()
-        if os.WIFSIGNALED(self.status):
-            said = f"the display was ended by signal {os.WTERMSIG(self.status)}"
-        self.reason = self.reason or said
+        if not os.WIFSIGNALED(self.status):
+            self.said = b"".join(self.parts).decode(errors="replace").strip()
+        elif not self.reason:
+            self.reason = f"the display was ended by signal {os.WTERMSIG(self.status)}"

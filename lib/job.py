@@ -98,6 +98,14 @@ def end_at_interrupt():
         signals.signal(signals.SIGINT, signals.SIG_DFL)
 
 
+def defaults():
+    """Returns the signals that other programs get with their default action.
+
+    Python ignores the first two.
+    """
+    return [signals.SIGPIPE, signals.SIGXFSZ, *handled()]
+
+
 def fork(does, *words):
     """Begins a process that does this and ends. Returns its number.
 
@@ -106,6 +114,8 @@ def fork(does, *words):
     pid = os.fork()
     if not pid:
         try:
+            # its signals don't wake this process
+            signals.set_wakeup_fd(-1)
             does(*words)
         finally:
             os._exit(1)
@@ -119,7 +129,7 @@ class Command:
         # descriptors that take the place of others
         self.words, self.moves = words, []
         # signals that are blocked, and those that have their default action
-        self.mask, self.reset = (), [signals.SIGPIPE, signals.SIGXFSZ, *handled()]
+        self.mask, self.reset = (), defaults()
 
     def keep(self):
         """Keeps descriptors that are in their place already."""
@@ -168,13 +178,22 @@ class Command:
         return NOT_FOUND if isinstance(error, FileNotFoundError) else NOT_RUN
 
 
-def watch(ends, tells, others):
+def keep_only(*kept):
+    """Closes all descriptors but the streams and these.
+
+    Who else has an end of a pipe must be the only one that does.
+    """
+    low = 3
+    for it in (*sorted(kept), OWN):
+        os.closerange(low, it)
+        low = it + 1
+
+
+def watch(ends, tells):
     """Tells the numbers of signals, and answers by a 0 once all are told, until the end."""
-    for it in others:
-        if it is not None:
-            os.close(it)
     # the handlers do nothing but this
     signals.set_wakeup_fd(tells)
+    keep_only(ends, tells)
     signals.pthread_sigmask(signals.SIG_UNBLOCK, PASSED)
     while os.read(ends, 1):
         os.write(tells, b"\0")
@@ -183,15 +202,15 @@ def watch(ends, tells, others):
 class Sentinel:
     """A process of the same group, which says which signals the whole group gets."""
 
-    def __init__(self, others):
-        """Starts the process, without the other descriptors."""
+    def __init__(self):
+        """Starts the process."""
         ends, self.alive = os.pipe()
         self.told, tells = os.pipe()
         # how often it was asked, and has answered
         self.asked = self.answers = 0
         os.set_blocking(tells, False)
         mask = signals.pthread_sigmask(signals.SIG_BLOCK, PASSED)
-        self.pid = fork(watch, ends, tells, (self.alive, *others))
+        self.pid = fork(watch, ends, tells)
         signals.pthread_sigmask(signals.SIG_SETMASK, mask)
         os.close(ends)
         os.close(tells)

@@ -1,37 +1,193 @@
-"""Runs prodash-live with the size of the terminal, behind the relay."""
+"""prodash-live behind the relay: the lines come on standard input.
+
+A signal ends no display that has drawn before its rows are erased:
+
+- SIGINT and SIGQUIT are left to the script that writes the lines. If standard input is a terminal,
+  they end the input.
+- SIGTERM and SIGHUP end the input, after the lines that are there already. A line that isn't whole
+  is left out. A second one ends the display at once.
+- SIGTSTP stops this process without rows, which come back when it goes on.
+
+If the display or its output fails, the rest of the lines is read and left out, so that the script
+goes on. If the window is closed, SIGHUP ends no input.
+"""
+import _signal as signals
 import os
+import select
 
+import job
 import relay
+from display import MARK, READ
+from relay import STUCK, Relay, Terminal
+from screen import Messages, Screen
+
+# Signals that the terminal sends to the script as well, and those that end the input.
+KEYS, ENDS = (signals.SIGINT, signals.SIGQUIT), (signals.SIGTERM, signals.SIGHUP)
+# How prodash-live ends at a faulty line, with --strict before the end of the input.
+FAULTY = 2
 
 
-def set_size(stream):
-    """Puts the size of a stream's terminal in COLUMNS and LINES, unless they are set.
+class Marked(Messages):
+    """Frames with their marks, for a program that passes them on."""
 
-    The program can't ask the system for it.
-    """
+    def take(self, frame):
+        return frame + MARK
+
+
+class Live(Relay):
+    """The lines of standard input, and their display."""
+
+    def __init__(self, *words):
+        super().__init__(*words)
+        # whether a signal has ended the input, and why it can't be read, if it can't
+        self.events, self.is_ended, self.reason = 0, False, ""
+
+    def read_events(self):
+        """Passes on the lines that have come."""
+        try:
+            super().read_events()
+        except OSError as error:
+            self.events = None
+            if not self.terminal.is_gone():
+                self.reason = why_unread(error)
+
+    def hear(self, numbers):
+        """Handles signals."""
+        if signals.SIGWINCH in numbers:
+            self.resize()
+        if signals.SIGTSTP in numbers:
+            self.stop()
+        for it in numbers:
+            if it in KEYS:
+                self.go_below()
+            if it in ENDS or it in KEYS and os.isatty(0):
+                self.hear_end(it)
+
+    def go_below(self):
+        """Goes below the ^C that the terminal has shown."""
+        if isinstance(self.screen, Screen):
+            self.paint(self.screen.put(b"\r\n"))
+
+    def hear_end(self, number):
+        """Ends the input, unless the window was closed: who writes there may not care."""
+        if number == signals.SIGHUP and self.terminal.is_gone():
+            self.terminal.give_up("the terminal is gone")
+        else:
+            self.end_input()
+
+    def end_input(self):
+        """Takes the lines that are there already, and no more. The second time nothing is."""
+        if self.is_ended:
+            self.is_hurried = True
+        elif self.events is not None and select.select([self.events], [], [], 0)[0]:
+            self.read_events()
+        self.display.drop_rest()
+        self.events, self.is_ended = None, True
+
+    def is_over(self):
+        """Returns whether all lines are read, or no more are to be."""
+        return self.events is None or self.is_faulty()
+
+    def is_faulty(self):
+        """Returns whether the display has ended at a faulty line."""
+        status = self.display.status
+        return status is not None and os.WIFEXITED(status) and os.WEXITSTATUS(status) == FAULTY
+
+    def status(self):
+        """Says what has failed, and returns the status."""
+        display, status = self.display, self.display.status
+        for reason in (self.reason, self.terminal.reason, display.said):
+            if reason:
+                relay.say(2, reason)
+        if display.reason and not self.is_hurried:
+            relay.say(2, f"prodash live: {display.reason}")
+        if status is None:
+            return 1
+        if os.WIFSIGNALED(status):
+            return 128 + os.WTERMSIG(status)
+        return os.WEXITSTATUS(status) or int(bool(self.reason or self.terminal.reason))
+
+
+def stream_of(words):
+    """Returns the stream that is drawn on."""
+    return 1 if "--stdout" in words else 2
+
+
+def closed_input():
+    """Returns why standard input can't be read, if it is closed."""
     try:
-        size = os.get_terminal_size(stream)
+        os.fstat(0)
+        return ""
+    except OSError as error:
+        return why_unread(error)
+
+
+def why_unread(error):
+    return f"cannot read standard input: {relay.text_of(error)}"
+
+
+def begin(program, words):
+    """Starts the display."""
+    stream = stream_of(words)
+    terminal, draws = Terminal(stream), relay.draws_on(stream, words)
+    columns, rows = terminal.size() or (80, 24)
+    if draws and terminal.is_terminal:
+        screen = Screen(columns, rows, True)
+    else:
+        screen = (Marked if "--marks" in words else Messages)(columns, rows)
+    return relay.begin(Live, program, words, terminal, screen, draws)
+
+
+def read_on():
+    """Reads standard input to its end, so that who writes there goes on. Keys are left."""
+    for it in job.handled():
+        # what the terminal sends is for who writes there
+        signals.signal(it, signals.SIG_IGN if it in KEYS else signals.SIG_DFL)
+    signals.pthread_sigmask(signals.SIG_UNBLOCK, job.PASSED)
+    try:
+        while not os.isatty(0) and os.read(0, READ):
+            pass
     except OSError:
-        return
-    for name, number in (("COLUMNS", size.columns), ("LINES", size.lines)):
-        if number:
-            os.environ.setdefault(name, str(number))
+        pass
 
 
-def draws_on_stdout(words):
-    """Returns whether the program is asked to draw on standard output."""
-    return "--stdout" in words
+def follow(live, frames):
+    """Passes lines and frames on to their end, and returns the status."""
+    handled = [it for it in (*KEYS, *ENDS, signals.SIGTSTP) if it in job.handled()]
+    live.handle([*handled, signals.SIGWINCH])
+    if isinstance(live.screen, Marked):
+        live.paint(MARK)
+    live.take(frames)
+    signals.pthread_sigmask(signals.SIG_UNBLOCK, job.PASSED)
+    live.go_on()
+    live.finish()
+    return live.status()
 
 
-def says_size(words):
-    """Returns whether an option or the environment says the size of the terminal."""
-    options = any(it.partition("=")[0] in ("--columns", "--rows") for it in words)
-    return options or relay.has_size()
+def try_to_run(program, words):
+    """Runs the program. Returns the status, and whether no line is to be read any more."""
+    reason = closed_input()
+    job.open_streams()
+    try:
+        live = begin(program, words)
+        frames = live.display.awaits(STUCK)
+        if frames is None:
+            status = relay.tell(live.display)
+            return status, status == 0
+        if reason:
+            live.reason, live.events = reason, None
+        return follow(live, frames), True
+    except Exception as error:
+        relay.say(2, f"prodash live: {getattr(error, 'strerror', None) or error}")
+        return 1, False
 
 
 def run(program, words):
-    """Runs the program at this path with these words, and returns its status."""
-    terminal = 1 if draws_on_stdout(words) else 2
-    follows_size = not says_size(words)
-    set_size(terminal)
-    return relay.run(program, ["prodash-live", *words], terminal, follows_size)
+    """Runs the program at this path with these words, and returns the status."""
+    signals.pthread_sigmask(signals.SIG_BLOCK, job.PASSED)
+    status, is_read = try_to_run(program, words)
+    if not is_read:
+        read_on()
+    # what comes now is too late to change the status
+    signals.pthread_sigmask(signals.SIG_BLOCK, job.PASSED)
+    return status

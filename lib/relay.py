@@ -1,180 +1,365 @@
-#!/usr/bin/env python3
-"""Runs a program, and passes on to it the lines that come on standard input.
+"""Lines on their way to a display, and its frames on their way to a terminal.
 
-The program gets no signal of the terminal, so it isn't ended before its input is:
-
-- SIGINT is left to the script that writes the lines. If standard input is a terminal, it ends the
-  input. The terminal doesn't echo `^C`, which would move what is drawn.
-- SIGTERM and SIGHUP end the input, after the lines that are there already. A line that isn't whole
-  is left out. A second one kills the program.
-- After SIGWINCH the program gets a line `size COLUMNS ROWS`, with the size of its terminal, unless
-  COLUMNS or LINES says the size from the start.
-
-The status is the program's, or 128 and the number of the signal that ended it. After such a signal
-the terminal gets back what a frame switches off until its end: wrapping, the cursor, and that it
-shows at once what is written.
+This process is the only writer of the terminal: prodash-live draws on a pipe. Whatever becomes of
+the display or of the terminal, lines are read on, so that who writes them goes on.
 """
-import contextlib
+import _signal as signals
 import os
 import select
-import signal
-import subprocess
-import sys
-import termios
+import stat
+import time
 
-# How many bytes are read at a time, as many as a pipe has.
-READ = 65536
-# DECAWM and DECTCEM: lines are wrapped, and the cursor is shown. A synchronized update ends.
-RESTORED = b"\x1b[?7h\x1b[?25h\x1b[?2026l"
+from display import READ, Display
+from screen import Messages
+
+# How many seconds: until the display has begun or ended, or is given up if it takes nothing;
+# for what is written before a stop; between two looks at whether this is in the foreground.
+STUCK, SHORT, LOOK = 2, 0.05, 0.2
+# The options that say the size of the terminal, and the variables.
+SIZES = (("--columns", "COLUMNS"), ("--rows", "LINES"))
+
+
+class Terminal:
+    """The terminal, or what is in its place, as what only this process writes."""
+
+    def __init__(self, stream):
+        # why nothing can be written there, if it can't
+        self.stream, self.left, self.reason = stream, b"", ""
+        self.is_terminal = os.isatty(stream)
+        try:
+            # opened anew, since the job and the shell have the stream's flags too
+            flags = os.O_WRONLY | os.O_NOCTTY | os.O_NONBLOCK
+            self.fd, self.most = os.open(os.ttyname(stream), flags), READ
+        except OSError:
+            is_file = stat.S_ISREG(os.fstat(stream).st_mode)
+            self.fd, self.most = stream, READ if is_file else select.PIPE_BUF
+
+    def write(self, output):
+        """Takes output, and writes what there is room for, if that doesn't block."""
+        if not self.reason:
+            self.left += output
+            if self.most == READ:
+                self.flush()
+
+    def flush(self):
+        """Writes what there is room for."""
+        try:
+            self.left = self.left[os.write(self.fd, self.left[: self.most]) :]
+        except BlockingIOError:
+            pass
+        except OSError as error:
+            name = "output" if self.stream == 1 else "error"
+            self.give_up(f"cannot write to standard {name}: {text_of(error)}")
+
+    def give_up(self, reason):
+        """Leaves out whatever would be written."""
+        self.left, self.reason = b"", reason
+
+    def finish(self, seconds):
+        """Writes what is left, as long as there is room within some seconds."""
+        poll = select.poll()
+        poll.register(self.fd, select.POLLOUT)
+        while self.left and poll.poll(seconds * 1000):
+            self.flush()
+
+    def size(self):
+        """Returns the columns and the rows, or None if they aren't known."""
+        try:
+            size = os.get_terminal_size(self.stream)
+        except OSError:
+            return None
+        return (size.columns, size.lines) if size.columns and size.lines else None
+
+    def is_foreground(self):
+        """Returns whether rows may be drawn: not behind a job of the shell."""
+        try:
+            return os.tcgetpgrp(self.stream) == os.getpgrp()
+        except OSError:
+            return True
+
+    def is_gone(self):
+        """Returns whether the window was closed."""
+        return self.is_terminal and not os.isatty(self.stream)
 
 
 class Relay:
-    """Lines on their way from standard input to a program."""
+    """A display, what has its lines, and the terminal for its frames."""
 
-    def __init__(self, to, terminal):
-        self.to, self.terminal = to, terminal
-        # What can be written, and the beginning of a line.
-        self.lines, self.rest = memoryview(b""), b""
-        self.is_over = self.is_within_line = False
+    def __init__(self, terminal, display, screen, follows_size):
+        self.terminal, self.display, self.screen = terminal, display, screen
+        self.follows_size = follows_size
+        # what has the lines; None once nobody writes there
+        self.events = None
+        self.woken, self.wakes = os.pipe()
+        os.set_blocking(self.wakes, False)
+        # whether nothing is awaited any more
+        self.is_hurried = False
+        # how long this or the terminal was stopped, which counts nowhere
+        self.stopped = 0
+        # when the display has taken lines, and after how long it is stuck
+        self.taken, self.stuck = time.monotonic(), STUCK
+        # until when the display is awaited at the end
+        self.until = None
 
-    def read(self):
-        """Reads what is there, or notes that there is no more."""
-        try:
-            more = os.read(0, READ)
-        except OSError:
-            # as when the terminal is gone
-            more = b""
-        whole, feed, rest = (self.rest + more).rpartition(b"\n")
-        if not more:
-            # the program says that its last line is cut off
-            whole, feed, rest, self.is_over = self.rest, b"", b"", True
-        elif len(rest) > READ:
-            # no line is as long as this
-            whole, feed, rest = whole + feed + rest, b"", b""
-        self.lines, self.rest = memoryview(bytes(self.lines) + whole + feed), rest
-        if whole or feed:
-            self.is_within_line = not feed
+    def handle(self, numbers):
+        """Has signals wake this process."""
+        for it in numbers:
+            signals.signal(it, lambda *_: None)
+        signals.set_wakeup_fd(self.wakes, warn_on_full_buffer=False)
 
-    def end(self):
-        """Reads the lines that are there already, and no more."""
-        if select.select([0], [], [], 0)[0]:
-            self.read()
-        self.is_over = True
+    def paint(self, written):
+        self.terminal.write(written)
+
+    def clock(self):
+        """Returns the moment on a clock that stands still while this or the terminal is stopped."""
+        return time.monotonic() - self.stopped
+
+    def look(self):
+        """Notes whether rows may be drawn now, and draws them if they may again."""
+        is_shown, was_shown = self.terminal.is_foreground(), self.screen.is_shown
+        self.screen.is_shown = is_shown
+        if is_shown and not was_shown:
+            self.paint(self.screen.draw())
+
+    def read_events(self):
+        """Passes on lines to the display. Returns how many bytes they have, 0 at their end."""
+        lines = os.read(self.events, READ)
+        if not self.display.lines:
+            self.taken = self.clock()
+        self.display.send(lines)
+        if not lines:
+            os.close(self.events)
+            self.events = None
+        return len(lines)
+
+    def read_frames(self):
+        """Draws the frames that are there, or erases the rows of a display that has ended."""
+        self.take(self.display.read())
+        if not self.display.is_alive():
+            self.paint(self.screen.clear())
+
+    def take(self, frames):
+        """Draws frames."""
+        for it in frames:
+            if it:
+                self.paint(self.screen.take(it))
+
+    def write_lines(self):
+        self.display.write()
+        self.taken = self.clock()
+
+    def reads(self):
+        """Returns the descriptors to read of, and None for each that isn't there."""
+        display = self.display
+        frames = display.frames if display.is_alive() and not self.terminal.left else None
+        return [frames, self.events if len(display.lines) < READ else None]
+
+    def writes(self):
+        """Returns the descriptors to write to, and None for each that isn't there."""
+        terminal = self.terminal.fd if self.terminal.left else None
+        return [terminal, self.display.to if self.display.lines else None]
+
+    def wait(self):
+        """Waits until something can be done, and returns the descriptors with which it can."""
+        wanted = {self.woken: select.POLLIN}
+        for found, event in ((self.reads(), select.POLLIN), (self.writes(), select.POLLOUT)):
+            for it in found:
+                if it is not None:
+                    wanted[it] = wanted.get(it, 0) | event
+        poll = select.poll()
+        for it, event in wanted.items():
+            poll.register(it, event)
+        times, begun = self.times(), time.monotonic()
+        ready = dict(poll.poll(max(min(times) + 0.001, 0) * 1000 if times else None))
+        if self.terminal.left:
+            self.stopped += time.monotonic() - begun
+        return ready
+
+    def times(self):
+        """Returns after how many seconds each thing has to be done that nothing else tells."""
+        times = [] if self.screen.is_shown else [LOOK]
+        if not self.terminal.left:
+            if self.display.lines:
+                times.append(self.taken + self.stuck - self.clock())
+            if self.until:
+                times.append(self.until - self.clock())
+        return times
+
+    def step(self):
+        """Does what can be done. Returns what was ready."""
+        ready = self.wait()
+        self.hear_all(ready)
+        self.look()
+        self.flush(ready)
+        self.pass_lines(ready)
+        return ready
+
+    def hear_all(self, ready):
+        """Handles the signals that have come."""
+        if self.woken in ready:
+            self.hear(os.read(self.woken, READ))
+
+    def flush(self, ready):
+        """Writes what is left of frames, if there is room."""
+        if self.terminal.left and self.terminal.fd in ready:
+            self.terminal.flush()
+
+    def pass_lines(self, ready):
+        """Passes on lines and frames."""
+        if self.display.to in ready:
+            self.write_lines()
+        if self.events in ready:
+            self.read_events()
+        if self.display.is_alive():
+            if self.display.frames in ready:
+                self.read_frames()
+            elif self.display.lines and not self.terminal.left:
+                self.watch()
+
+    def watch(self):
+        """Gives the display up if it has taken nothing for too long."""
+        if self.clock() > self.taken + self.stuck:
+            self.display.give_up("the display was stuck", signals.SIGKILL)
+            self.paint(self.screen.clear())
+
+    def hear(self, numbers):
+        """Handles signals."""
+
+    def stop(self):
+        """Stops without rows, and goes on with them."""
+        self.paint(self.screen.erase())
+        self.terminal.finish(SHORT)
+        before, begun = signals.signal(signals.SIGTSTP, signals.SIG_DFL), time.monotonic()
+        self.suspend()
+        signals.signal(signals.SIGTSTP, before)
+        self.stopped += time.monotonic() - begun
+        self.screen.is_shown = self.terminal.is_foreground()
+        self.resize()
+        self.paint(self.screen.draw())
+
+    def suspend(self):
+        """Stops this process. The others of the group were sent the signal as well."""
+        os.kill(os.getpid(), signals.SIGTSTP)
 
     def resize(self):
-        """Adds a line with the size of the terminal, if it has one, behind the lines so far."""
-        with contextlib.suppress(OSError):
-            size = os.get_terminal_size(self.terminal)
-            if size.columns and size.lines and not self.is_within_line:
-                line = f"size {size.columns} {size.lines}\n".encode()
-                self.lines = memoryview(bytes(self.lines) + line)
+        """Tells the screen and the display a new size, and returns it, or None."""
+        size = self.terminal.size()
+        if size is None or size == (self.screen.columns, self.screen.height):
+            return None
+        self.paint(self.screen.resize(*size))
+        if self.follows_size:
+            self.display.resize(*size_to_draw_on(*size))
+        self.paint(self.screen.draw())
+        return size
 
-    def write(self):
-        """Writes as much as a pipe that has room takes without a wait."""
-        self.lines = self.lines[os.write(self.to, self.lines[: select.PIPE_BUF]) :]
+    def go_on(self):
+        """Does what can be done until it is over."""
+        while not self.is_over():
+            try:
+                self.step()
+            except Exception as error:
+                # whatever it is, the lines and the job's output are passed on
+                self.fail(f"{type(error).__name__}: {error}")
 
-    def run(self, woken):
-        """Passes lines on until there are no more, the program reads no more, or it is woken."""
-        while self.lines or not self.is_over:
-            poll = select.poll()
-            poll.register(woken, select.POLLIN)
-            poll.register(self.to, select.POLLOUT if self.lines else 0)
-            if not self.lines:
-                poll.register(0, select.POLLIN)
-            ready = dict(poll.poll())
-            if ready.get(self.to, 0) & select.POLLERR:
-                break
-            if woken in ready:
-                signals = set(os.read(woken, READ))
-                if signal.SIGWINCH in signals:
-                    self.resize()
-                if signals - {signal.SIGWINCH}:
-                    self.end()
-            elif self.to in ready:
-                self.write()
-            elif 0 in ready:
-                self.read()
+    def fail(self, reason):
+        """Goes on without a display, once."""
+        if isinstance(self.screen, Messages):
+            raise
+        erased, self.screen = self.screen.erase(), Messages(self.screen.columns, self.screen.height)
+        self.paint(erased)
+        if self.display.is_alive():
+            self.display.give_up(reason, signals.SIGKILL)
+
+    def finish(self):
+        """Ends the display, and leaves nothing of it on the terminal."""
+        self.finish_display()
+        self.paint(self.screen.clear())
+        while self.terminal.left and not self.is_hurried:
+            self.step()
+
+    def finish_display(self):
+        """Reads the last frames of the display, unless it is stuck."""
+        self.until = self.clock() + STUCK
+        self.display.finish()
+        while self.display.is_alive() and not self.is_hurried:
+            if not self.display.lines:
+                self.display.close()
+            if self.clock() > self.until and not self.terminal.left:
+                self.display.give_up("the display was stuck", signals.SIGKILL)
+            else:
+                self.step()
+        if self.display.is_alive():
+            self.display.give_up("the display was not awaited", signals.SIGKILL)
 
 
-def can_be_read():
-    """Returns whether standard input can be read at all."""
+def text_of(error):
+    """Returns what an error of the system says, as prodash-live says it."""
+    return f"{error.strerror} (os error {error.errno})"
+
+
+def say(stream, text):
+    """Writes a line to a stream, and returns whether that could be written."""
     try:
-        os.read(0, 0)
+        os.write(stream, f"{text}\n".encode())
         return True
     except OSError:
+        # as where the terminal is gone
         return False
 
 
-@contextlib.contextmanager
-def no_carets(stream):
-    """Has a stream's terminal echo control characters as they are, and not as `^C`.
+def tell(display):
+    """Writes what a display has said that has ended with a status, and returns that.
 
-    That is left out in the background, where it would stop this process.
+    It is the help, or what is wrong with the options.
     """
-    before = None
-    with contextlib.suppress(OSError, termios.error):
-        if os.tcgetpgrp(stream) == os.getpgrp():
-            before = termios.tcgetattr(stream)
-            flags = before[3] & ~termios.ECHOCTL
-            termios.tcsetattr(stream, termios.TCSANOW, [*before[:3], flags, *before[4:]])
-    try:
-        yield
-    finally:
-        if before:
-            with contextlib.suppress(OSError, termios.error):
-                termios.tcsetattr(stream, termios.TCSANOW, before)
+    status = os.WEXITSTATUS(display.status)
+    return status if say(2 if status else 1, display.said) else 1
 
 
-def restore(stream):
-    """Gives a stream's terminal back what a program that died may have switched off."""
-    with contextlib.suppress(OSError):
-        if os.isatty(stream):
-            os.write(stream, RESTORED)
+def value_of(options, name):
+    """Returns the last value of an option, or None."""
+    value = None
+    for at, it in enumerate(options):
+        if it.startswith(f"{name}="):
+            value = it[len(name) + 1 :]
+        elif it == name:
+            value = "".join(options[at + 1 : at + 2])
+    return value
 
 
-def has_size():
-    """Returns whether the environment says a size of the terminal."""
-    return "COLUMNS" in os.environ or "LINES" in os.environ
+def draws_on(stream, options):
+    """Returns whether there are rows on a stream."""
+    when = value_of(options, "--terminal")
+    is_dumb = os.environ.get("TERM", "") in ("", "dumb")
+    return when == "always" or when != "never" and os.isatty(stream) and not is_dumb
 
 
-def run(program, words, terminal=2, follows_size=None):
-    """Runs a program with these words, the first of which is its name. Returns the status.
+def size_to_draw_on(columns, rows):
+    """Returns the size of what prodash-live draws on, without rows for two lines of others."""
+    return columns, max(rows - 2, 1)
 
-    `terminal` is the stream that it draws on. Its size is followed, unless the environment has one.
+
+def size_options(options, size):
+    """Returns the options of a size, and whether the terminal's is followed: if none was said.
+
+    Rows that wouldn't fit are none, so no more are drawn than there are, whatever was said.
     """
-    if follows_size is None:
-        follows_size = not has_size()
-    if not can_be_read():
-        # it says so
-        os.execvp(program, words)
-    ends = [signal.SIGTERM, signal.SIGHUP] + [signal.SIGINT] * os.isatty(0)
-    for it in (signal.SIGINT, signal.SIGTERM, signal.SIGHUP):
-        signal.signal(it, signal.SIG_IGN)
-    how = {"executable": program, "stdin": subprocess.PIPE, "restore_signals": False}
-    with no_carets(2), subprocess.Popen(words, **how) as child:
-        woken, wakes = os.pipe()
-        signals = []
-
-        def end(number, _):
-            signals.append(number)
-            if len(signals) > 1:
-                child.kill()
-
-        os.set_blocking(wakes, False)
-        signal.set_wakeup_fd(wakes)
-        for it in ends:
-            signal.signal(it, end)
-        if follows_size:
-            signal.signal(signal.SIGWINCH, lambda *_: None)
-        Relay(child.stdin.fileno(), terminal).run(woken)
-        child.stdin.close()
-        status = child.wait()
-    if status < 0:
-        restore(terminal)
-    return status if status >= 0 else 128 - status
+    said = [value_of(options, name) or os.environ.get(other, "") for name, other in SIZES]
+    if size is None:
+        return [], False
+    columns, rows = size_to_draw_on(*size)
+    found = [] if said[0] else [f"--columns={columns}"]
+    if not said[1] or said[1].isdecimal() and int(said[1]) > rows:
+        found.append(f"--rows={rows}")
+    return found, not any(said)
 
 
-if __name__ == "__main__":
-    if len(sys.argv) < 2:
-        sys.exit("relay.py PROGRAM [WORD ..]")
-    sys.exit(run(sys.argv[1], sys.argv[1:]))
+def begin(make, program, options, terminal, screen, draws):
+    """Starts the display, with rows or without. Returns the relay to it."""
+    sizes, follows_size = size_options(options, terminal.size() if draws else None)
+    words = ["--marks", *options, *sizes, "--terminal", "always" if draws else "never"]
+    relay = make(terminal, Display(program, words), screen, follows_size)
+    # its first rows may be late
+    delay = value_of(options, "--delay") or ""
+    relay.stuck += int(delay) / 1000 if delay.isdecimal() else 0
+    return relay

@@ -1,8 +1,7 @@
 """prodash run: a job with rows below its output, which any of its processes may add.
 
-This process is the only writer of the terminal. The job writes to a terminal or a pipe of which
-this process reads, and prodash-live draws on a pipe. Whatever becomes of the display, the job's
-output is passed on, its lines are read, and it ends as without it.
+The job writes to a terminal or a pipe of which this process reads. Whatever becomes of the display,
+the job's output is passed on, its lines are read, and it ends as without it.
 """
 import _signal as signals
 import errno
@@ -12,8 +11,9 @@ import termios
 import time
 
 import job
-from display import READ, Display
+import relay
 from keys import Keys
+from relay import LOOK, READ, SHORT, STUCK, Relay, Terminal
 from screen import Messages, Screen
 
 HELP = """\
@@ -31,64 +31,11 @@ Options:
   -h, --help     print help
   and those of prodash-live: prodash live --help
 """
-# How many seconds: until the display has begun or ended, or is given up if it takes nothing;
-# until a signal was for this process alone; between two looks at whether it is in the foreground;
-# without anything of a job that has ended, until what others still write is left.
-STUCK, ALONE, LOOK, QUIET = 2, 0.05, 0.2, 0.2
-SIZES = ("--columns", "--rows")
+# How many seconds: until a signal was for this process alone; without anything of a job that has
+# ended, until what others still write is left.
+ALONE, QUIET = 0.05, 0.2
 # What the job's output is: a terminal, that of a session of its own, or a pipe.
 TERMINAL, SESSION, PIPE = KINDS = ("", "--pty", "--no-pty")
-
-
-class Terminal:
-    """The terminal, or what is in its place, as what only this process writes."""
-
-    def __init__(self, stream):
-        self.stream, self.left, self.is_broken = stream, b"", False
-        try:
-            # opened anew, since the job and the shell have the stream's flags too
-            flags = os.O_WRONLY | os.O_NOCTTY | os.O_NONBLOCK
-            self.fd, self.most = os.open(os.ttyname(stream), flags), READ
-        except OSError:
-            self.fd, self.most = stream, select.PIPE_BUF
-
-    def write(self, output):
-        """Takes output, and writes what there is room for, if that doesn't block."""
-        if not self.is_broken:
-            self.left += output
-            if self.most == READ:
-                self.flush()
-
-    def flush(self):
-        """Writes what there is room for."""
-        try:
-            self.left = self.left[os.write(self.fd, self.left[: self.most]) :]
-        except BlockingIOError:
-            pass
-        except OSError:
-            self.left, self.is_broken = b"", True
-
-    def finish(self, seconds):
-        """Writes what is left, as long as there is room within some seconds."""
-        poll = select.poll()
-        poll.register(self.fd, select.POLLOUT)
-        while self.left and poll.poll(seconds * 1000):
-            self.flush()
-
-    def size(self):
-        """Returns the columns and the rows, or None if they aren't known."""
-        try:
-            size = os.get_terminal_size(self.stream)
-        except OSError:
-            return None
-        return (size.columns, size.lines) if size.columns and size.lines else None
-
-    def is_foreground(self):
-        """Returns whether rows may be drawn: not behind a job of the shell."""
-        try:
-            return os.tcgetpgrp(self.stream) == os.getpgrp()
-        except OSError:
-            return True
 
 
 class Rest:
@@ -109,47 +56,42 @@ class Rest:
         return self.size >= READ or is_taken and now > self.heard + QUIET
 
 
-class Run:
+class Signal:
+    """A signal that this process got, which may be one for the whole group."""
+
+    def __init__(self, number, now):
+        self.number, self.came = number, now
+        # until when the sentinel is awaited, and which answer of it says that it has told all
+        self.until, self.answer = now + ALONE, None
+
+    def asked(self, answer, now):
+        """Notes that the sentinel is asked, which tells what it got ahead of the answer."""
+        self.until, self.answer = now + STUCK, answer
+
+
+class Run(Relay):
     """A job, its display, and all that is read and written between them."""
 
     # whether a signal that ends the job is one of the terminal for the whole group
     ends_group = False
 
-    def __init__(self, terminal, display, screen, follows_size):
-        self.terminal, self.display, self.screen = terminal, display, screen
-        self.follows_size = follows_size
-        # what the job writes, and its lines; None once nobody writes there
-        self.output = self.events = self.sentinel = None
+    def __init__(self, *words):
+        super().__init__(*words)
+        # what the job writes; None once nobody writes there
+        self.output = self.sentinel = None
         # the keys of the terminal, and the modes of the job's output if nobody reads keys there
         self.keys = self.modes = None
         self.pid = self.status = None
-        self.woken, self.wakes = os.pipe()
-        os.set_blocking(self.wakes, False)
-        # signals that this process got, with the moment at which the sentinel is asked or not
-        # awaited any more, and the answer; and those that it got, until when they count
-        self.own, self.shared, self.is_hurried = [], [], False
-        # how long the terminal was stopped, which counts nowhere
-        self.stopped = 0
-        # when the job has ended, and when the display has taken lines
-        self.ended = self.taken = time.monotonic()
+        # signals that this process got, and when the sentinel told each number
+        self.own, self.told = [], {}
+        # when the job has ended
+        self.ended = time.monotonic()
         self.output_rest, self.events_rest = Rest(), Rest()
-        # until when the display is awaited at the end, and after how long it is stuck
-        self.until, self.stuck = None, STUCK
-
-    def paint(self, written):
-        self.terminal.write(written)
-
-    def clock(self):
-        """Returns the moment on a clock that stands still while the terminal is stopped."""
-        return time.monotonic() - self.stopped
 
     def look(self):
-        """Notes whether rows may be drawn now, and draws them if they may again."""
-        is_shown, was_shown = self.terminal.is_foreground(), self.screen.is_shown
-        self.screen.is_shown = is_shown
-        if is_shown and not was_shown:
-            self.paint(self.screen.draw())
-        if self.keys and self.keys.is_held() != (is_shown and self.wants_keys()):
+        """Has the keys that are the job's, while rows may be drawn."""
+        super().look()
+        if self.keys and self.keys.is_held() != (self.screen.is_shown and self.wants_keys()):
             if self.keys.is_held():
                 self.keys.give_back()
             else:
@@ -158,6 +100,11 @@ class Run:
     def wants_keys(self):
         """Returns whether the job reads keys from its output, as less does: it has set modes."""
         return self.output is not None and termios.tcgetattr(self.output) != self.modes
+
+    def keys_back(self):
+        """Gives the terminal back its modes."""
+        if self.keys:
+            self.keys.give_back()
 
     def read_output(self):
         """Passes on what the job has written."""
@@ -179,31 +126,9 @@ class Run:
 
     def read_events(self):
         """Passes on lines to the display."""
-        lines = os.read(self.events, READ)
-        if lines:
-            self.events_rest.add(len(lines), self.clock(), self.status is not None)
-            if not self.display.lines:
-                self.taken = self.clock()
-            self.display.send(lines)
-        else:
-            os.close(self.events)
-            self.events = None
-
-    def read_frames(self):
-        """Draws the frames that are there, or erases the rows of a display that has ended."""
-        self.take(self.display.read())
-        if not self.display.is_alive():
-            self.paint(self.screen.clear())
-
-    def take(self, frames):
-        """Draws frames."""
-        for it in frames:
-            if it:
-                self.paint(self.screen.take(it))
-
-    def write_lines(self):
-        self.display.write()
-        self.taken = self.clock()
+        size = super().read_events()
+        if size:
+            self.events_rest.add(size, self.clock(), self.status is not None)
 
     def open_output(self, streams, kind):
         """Opens what the job writes to in place of these streams, and returns the job's end."""
@@ -219,80 +144,45 @@ class Run:
         os.set_blocking(self.output, False)
         return theirs
 
-    def start(self, command, others, theirs, writes):
-        """Starts the job. The sentinel has no descriptors of it."""
-        self.sentinel = job.Sentinel([*others, theirs, writes])
+    def start(self, command, _):
+        """Starts the job."""
+        self.sentinel = job.Sentinel()
         self.pid, self.status = command.start()
 
     def reads(self):
-        """Returns the descriptors to read of, and None for each that isn't there."""
-        display, found = self.display, [self.sentinel.told if self.sentinel else None]
+        found = [*super().reads(), self.sentinel.told if self.sentinel else None]
         if self.keys and self.keys.is_held() and not self.keys.left:
             found.append(self.keys.stream)
         if len(self.terminal.left) < READ:
             found.append(self.output)
-        if not self.terminal.left:
-            found.append(display.frames if display.is_alive() else None)
-        return [*found, self.events if len(display.lines) < READ else None]
+        return found
 
     def writes(self):
-        """Returns the descriptors to write to, and None for each that isn't there."""
-        terminal = self.terminal.fd if self.terminal.left else None
         keys = self.output if self.keys and self.keys.left else None
-        return [terminal, self.display.to if self.display.lines else None, keys]
+        return [*super().writes(), keys]
 
-    def wait(self):
-        """Waits until something can be done, and returns the descriptors with which it can."""
-        wanted = {self.woken: select.POLLIN}
-        for found, event in ((self.reads(), select.POLLIN), (self.writes(), select.POLLOUT)):
-            for it in found:
-                if it is not None:
-                    wanted[it] = wanted.get(it, 0) | event
-        poll = select.poll()
-        for it, event in wanted.items():
-            poll.register(it, event)
-        timeout, begun = self.timeout(), time.monotonic()
-        ready = dict(poll.poll(timeout and max(timeout, 0) * 1000))
-        if self.terminal.left:
-            self.stopped += time.monotonic() - begun
-        return ready
-
-    def timeout(self):
-        """Returns after how many seconds something has to be done, or None."""
-        now = time.monotonic()
-        times = [at - now for at, _, _ in self.own]
-        if not self.screen.is_shown or self.keys and self.keys.is_held():
+    def times(self):
+        now, times = time.monotonic(), super().times()
+        times += [it.until - now for it in self.own]
+        if self.keys and self.keys.is_held():
             times.append(LOOK)
-        if not self.terminal.left:
-            if self.display.lines:
-                times.append(self.taken + self.stuck - self.clock())
-            if self.status is not None:
-                times.append(self.until - self.clock() if self.until else QUIET)
-        return min(times) + 0.001 if times else None
+        if self.status is not None and not self.terminal.left and not self.until:
+            times.append(QUIET)
+        return times
 
     def step(self):
         """Does what can be done, output before lines. Returns what was ready."""
         ready = self.wait()
         if self.sentinel and self.sentinel.told in ready:
             self.hear_sentinel()
-        if self.woken in ready:
-            self.hear(os.read(self.woken, READ))
+        self.hear_all(ready)
         self.pass_on()
         self.look()
         self.pass_keys(ready)
-        if self.terminal.left and self.terminal.fd in ready:
-            self.terminal.flush()
+        self.flush(ready)
         if self.output in ready:
             self.read_output()
-        if self.display.to in ready:
-            self.write_lines()
-        if self.events in ready:
-            self.read_events()
-        if self.display.is_alive():
-            if self.display.frames in ready:
-                self.read_frames()
-            elif self.display.lines and not self.terminal.left:
-                self.watch()
+        self.pass_lines(ready)
         return ready
 
     def pass_keys(self, ready):
@@ -301,12 +191,6 @@ class Run:
             self.keys.read()
         if self.keys and self.keys.left and self.output is not None:
             self.keys.write()
-
-    def watch(self):
-        """Gives the display up if it has taken nothing for too long."""
-        if self.clock() > self.taken + self.stuck:
-            self.display.give_up("the display was stuck", signals.SIGKILL)
-            self.paint(self.screen.clear())
 
     def hear(self, numbers):
         """Handles signals."""
@@ -320,18 +204,17 @@ class Run:
                 self.resize()
             elif it in job.PASSED:
                 self.is_hurried |= is_over
-                self.own.append((now + ALONE, it, None))
+                self.own.append(Signal(it, now))
 
     def hear_sentinel(self):
         """Notes which signals the group got. Another sentinel takes the place of one that ended."""
         told = os.read(self.sentinel.told, READ)
-        until = time.monotonic() + STUCK
-        self.shared += [(until, it) for it in told if it]
+        self.told.update(dict.fromkeys(told, time.monotonic()))
         self.sentinel.answers += told.count(0)
         if not told:
             self.sentinel.end()
             try:
-                self.sentinel = job.Sentinel([self.display.to, self.output, self.events])
+                self.sentinel = job.Sentinel()
             except OSError:
                 # what this process gets is passed on then
                 self.sentinel = None
@@ -353,85 +236,67 @@ class Run:
         """Returns whether the sentinel has told what it got, or there is none."""
         return not self.sentinel or answer is not None and answer <= self.sentinel.answers
 
+    def was_for_all(self, it):
+        """Returns whether a signal counts as one for the whole group, which the job got by itself.
+
+        The system makes one of two signals of a kind that wait, here or at the sentinel, so they
+        can't be paired. So each that came within a moment of one for the group was for the group,
+        too. The job never gets more than was sent: at most one for this process alone is taken for
+        one with it, as the system does with those of a kind that follow at once.
+        """
+        told = self.told.get(it.number)
+        return told is not None and it.came < told + ALONE
+
+    def is_open(self, it, now):
+        """Returns whether the sentinel may still tell of a signal, and asks it at last."""
+        if now < it.until and not self.has_answer(it.answer):
+            return True
+        if it.answer is not None or not self.sentinel:
+            return False
+        it.asked(self.sentinel.ask(), now)
+        return True
+
     def pass_on(self):
         """Passes on the signals that the group didn't get, and stops with the job."""
-        now, own, self.own = time.monotonic(), self.own, []
-        for until, number, answer in own:
-            shared = [it for it in self.shared if it[1] == number]
-            if shared:
-                self.shared.remove(shared[0])
-            elif now < until and not self.has_answer(answer):
-                self.own.append((until, number, answer))
-                continue
-            elif answer is None and self.sentinel:
-                # what it got before is told ahead of the answer
-                self.own.append((now + STUCK, number, self.sentinel.ask()))
-                continue
-            elif self.status is None:
-                os.kill(self.pid, number)
-            if number == signals.SIGTSTP:
-                self.stop()
-        self.shared = [it for it in self.shared if it[0] > now]
+        now, own = time.monotonic(), self.own
+        self.own = [it for it in own if not self.was_for_all(it) and self.is_open(it, now)]
+        numbers = []
+        for it in own:
+            if it not in self.own:
+                numbers.append(it.number)
+                if self.status is None and not self.was_for_all(it):
+                    os.kill(self.pid, it.number)
+        if signals.SIGTSTP in numbers:
+            self.stop()
 
     def drain(self):
         """Passes on what the job writes as it stops."""
         until, poll = time.monotonic() + LOOK, select.poll()
         if self.output is not None:
             poll.register(self.output, select.POLLIN)
-        while self.output is not None and time.monotonic() < until and poll.poll(ALONE * 1000):
+        while self.output is not None and time.monotonic() < until and poll.poll(SHORT * 1000):
             self.read_output()
 
     def stop(self):
         """Stops without rows, and goes on with them."""
         self.drain()
-        self.paint(self.screen.erase())
-        self.terminal.finish(ALONE)
-        if self.keys:
-            self.keys.give_back()
-        before = signals.signal(signals.SIGTSTP, signals.SIG_DFL)
-        self.suspend()
-        signals.signal(signals.SIGTSTP, before)
-        self.taken = self.clock()
-        self.screen.is_shown = self.terminal.is_foreground()
-        self.resize()
-        self.paint(self.screen.draw())
+        super().stop()
+        # those that came before it went on have no effect any more
+        self.own = [it for it in self.own if it.number != signals.SIGTSTP]
         self.look()
 
     def suspend(self):
         """Stops this process. The job was sent the signal as well."""
-        os.kill(os.getpid(), signals.SIGTSTP)
+        self.keys_back()
+        super().suspend()
 
     def resize(self):
         """Tells everyone a new size."""
-        size = self.terminal.size()
-        if size is None or size == (self.screen.columns, self.screen.height):
-            return
-        self.paint(self.screen.resize(*size))
-        if self.output is not None and os.isatty(self.output):
+        size = super().resize()
+        if size and self.output is not None and os.isatty(self.output):
             # the job may have asked for the size before
             job.set_size(self.output, *size)
             os.killpg(0, signals.SIGWINCH)
-        if self.follows_size:
-            self.display.resize(*size_to_draw_on(*size))
-        self.paint(self.screen.draw())
-
-    def go_on(self):
-        """Does what can be done until the job has ended."""
-        while not self.is_over():
-            try:
-                self.step()
-            except Exception as error:
-                # whatever it is, it must not take the job's output away
-                self.fail(f"{type(error).__name__}: {error}")
-
-    def fail(self, reason):
-        """Goes on without a display, once."""
-        if isinstance(self.screen, Messages):
-            raise
-        erased, self.screen = self.screen.erase(), Messages(self.screen.columns, self.screen.height)
-        self.paint(erased)
-        if self.display.is_alive():
-            self.display.give_up(reason, signals.SIGKILL)
 
     def is_over(self):
         """Returns whether the job has ended and all is read, or what is left is of others."""
@@ -448,36 +313,14 @@ class Run:
                 os.set_blocking(fd, True)
                 job.leave(fd, to, self.kept())
         self.output = self.events = None
-        self.finish_display()
-        self.paint(self.screen.clear())
-        while self.terminal.left and not self.is_hurried:
-            self.step()
-        if self.keys:
-            self.keys.give_back()
+        self.finish()
+        self.keys_back()
         if self.sentinel:
             self.sentinel.end()
         return self.status
 
     def kept(self):
         """Returns a descriptor that stays open as long as others write to the job's output."""
-
-    def finish_display(self):
-        """Reads the last frames of the display, unless it is stuck."""
-        self.until = self.clock() + STUCK
-        while self.display.is_alive() and not self.is_hurried:
-            if not self.display.lines:
-                self.display.close()
-            if self.clock() > self.until and not self.terminal.left:
-                self.display.give_up("the display was stuck", signals.SIGKILL)
-            else:
-                self.step()
-        if self.display.is_alive():
-            self.display.give_up("the display was not awaited", signals.SIGKILL)
-
-
-def size_to_draw_on(columns, rows):
-    """Returns the size of what prodash-live draws on, without rows for the job's last two lines."""
-    return columns, max(rows - 2, 1)
 
 
 def split(words):
@@ -488,46 +331,20 @@ def split(words):
     return (words[:at], words[at + 1 :]) if words[at + 1 :] else None
 
 
-def value_of(options, name):
-    """Returns the last value of an option, or None."""
-    value = None
-    for at, it in enumerate(options):
-        if it.startswith(f"{name}="):
-            value = it[len(name) + 1 :]
-        elif it == name:
-            value = "".join(options[at + 1 : at + 2])
-    return value
-
-
 def stream_to_draw_on(options):
     """Returns the stream whose terminal has the rows, or None if there are none."""
-    when = value_of(options, "--terminal")
     found = [it for it in (2, 1) if os.isatty(it)]
-    if when == "always":
-        return found[0] if found else 2
-    is_dumb = os.environ.get("TERM", "") in ("", "dumb")
-    return found[0] if found and when != "never" and not is_dumb else None
+    stream = found[0] if found else 2
+    return stream if relay.draws_on(stream, options) else None
 
 
 def begin(make, program, options, stream):
     """Starts the display. Returns the run without a job."""
     terminal = Terminal(2 if stream is None else stream)
     columns, rows = terminal.size() or (80, 24)
-    follows_size = stream is not None and not any(value_of(options, it) for it in SIZES)
-    screen = Screen(columns, rows, os.isatty(0)) if stream is not None else Messages(columns, rows)
-    words = ["--marks"]
-    if follows_size and not {"COLUMNS", "LINES"} & set(os.environ):
-        drawn = size_to_draw_on(columns, rows)
-        words += [f"{name}={number}" for name, number in zip(SIZES, drawn)]
-    else:
-        follows_size = False
-    words += [*options, "--terminal", "never" if stream is None else "always"]
-    display = Display(program, words, [signals.SIGPIPE, signals.SIGXFSZ, *job.handled()])
-    run = make(terminal, display, screen, follows_size)
-    # its first rows may be late
-    delay = value_of(options, "--delay") or ""
-    run.stuck += int(delay) / 1000 if delay.isdecimal() else 0
-    return run
+    draws = stream is not None
+    screen = Screen(columns, rows, os.isatty(0)) if draws else Messages(columns, rows)
+    return relay.begin(make, program, options, terminal, screen, draws)
 
 
 def streams_of(stream, kind):
@@ -552,11 +369,8 @@ def start(run, command, streams, digit, kind):
         os.environ.update(PRODASH_FD=str(digit), PRODASH_FD_ID=job.identity(run.events))
     passed = job.handled()
     mask = command.mask = signals.pthread_sigmask(signals.SIG_BLOCK, passed)
-    for it in (*passed, signals.SIGCHLD, signals.SIGWINCH):
-        signals.signal(it, lambda *_: None)
-    signals.set_wakeup_fd(run.wakes, warn_on_full_buffer=False)
-    others = [run.display.to, run.output, run.events]
-    run.start(command, others, theirs, writes)
+    run.handle((*passed, signals.SIGCHLD, signals.SIGWINCH))
+    run.start(command, theirs)
     signals.pthread_sigmask(signals.SIG_SETMASK, mask)
     for it in (theirs, writes):
         if it is not None:
@@ -574,15 +388,11 @@ def run_of(kind):
 
 def report(run, status):
     """Says what has failed, and ends this process as the job has ended."""
-    reason = run.display.reason
+    reason = run.display.reason or run.display.said
     if reason and not run.is_hurried:
         # behind the ^C that the terminal has shown
         feed = "\n" * os.WIFSIGNALED(status)
-        try:
-            os.write(2, f"{feed}prodash run: {reason}\n".encode())
-        except OSError:
-            # as where the terminal is gone
-            pass
+        relay.say(2, f"{feed}prodash run: {reason}")
         if not status:
             os._exit(1)
     job.end_as(status, run.ends_group)
@@ -623,11 +433,9 @@ def main(program, words):
         run = wrap(program, options, command)
     except OSError as error:
         # of this process: it has no descriptors or no processes left
-        os.write(2, f"prodash run: {error.strerror}\n".encode())
+        relay.say(2, f"prodash run: {error.strerror}")
         return command.become_alone()
     if run.pid is None and run.status is None:
-        status = os.WEXITSTATUS(run.display.status)
-        os.write(2 if status else 1, f"{run.display.reason}\n".encode())
-        return status
+        return relay.tell(run.display)
     run.go_on()
     report(run, run.end())

@@ -26,16 +26,12 @@ def begin_job(command, terminal):
     os._exit(command.become())
 
 
-def monitor(command, terminal, tells, ends, others):
+def monitor(command, terminal, tells, ends):
     """Leads a session, and reports the job's process and each of its statuses."""
-    for it in others:
-        if it is not None:
-            os.close(it)
     os.setsid()
     fcntl.ioctl(terminal, termios.TIOCSCTTY, 0)
     pid = job.fork(begin_job, command, terminal)
-    for it in {terminal, *(fd for fd, _ in command.moves)}:
-        os.close(it)
+    job.keep_only(tells, ends)
     os.write(tells, REPORT.pack(pid))
     status = None
     while status is None or os.WIFSTOPPED(status):
@@ -47,12 +43,11 @@ def monitor(command, terminal, tells, ends, others):
 class Session:
     """The monitor of a job, as the wrapper sees it."""
 
-    def __init__(self, command, terminal, others):
-        """Starts the monitor and the job. They have none of the other descriptors."""
+    def __init__(self, command, terminal):
+        """Starts the monitor and the job."""
         self.told, tells = os.pipe()
         ends, self.alive = os.pipe()
-        others = (self.told, self.alive, *others)
-        self.pid = job.fork(monitor, command, terminal, tells, ends, others)
+        self.pid = job.fork(monitor, command, terminal, tells, ends)
         os.close(tells)
         os.close(ends)
 
@@ -81,9 +76,9 @@ class SessionRun(Run):
         os.set_blocking(self.output, False)
         return theirs
 
-    def start(self, command, others, theirs, writes):
+    def start(self, command, theirs):
         """Starts the monitor, which starts the job."""
-        self.session = Session(command, theirs, others)
+        self.session = Session(command, theirs)
         self.pid = REPORT.unpack(os.read(self.session.told, REPORT.size))[0]
 
     def wants_keys(self):
@@ -114,14 +109,15 @@ class SessionRun(Run):
 
     def pass_on(self):
         """Passes all signals on. The job's group is stopped and hung up whole, as by a terminal."""
-        numbers, self.own = [it for _, it, _ in self.own], []
-        for it in numbers:
+        own, self.own = self.own, []
+        for it in [it.number for it in own]:
             if self.status is None:
                 is_for_all = it in (signals.SIGTSTP, signals.SIGHUP)
                 (os.killpg if is_for_all else os.kill)(self.pid, it)
 
     def suspend(self):
         """Stops the whole group, as the terminal would have."""
+        self.keys_back()
         os.killpg(0, signals.SIGTSTP)
 
     def kept(self):

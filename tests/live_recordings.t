@@ -261,9 +261,9 @@ came before it has been written.
    a four
   cannot write pipe: Broken pipe (os error 32)
 
-The relay doesn't change that.
+The script that starts it doesn't change that.
 
-  $ printf 'add 0 a\ninfo 1 0 one\n' | relay prodash-live --record recording
+  $ printf 'add 0 a\ninfo 1 0 one\n' | live --record recording
    a one
   $ events recording
   add 0 a

@@ -26,21 +26,6 @@ Lines that set no size.
    \xe2\x9c\x97 input line 6: "" is no number of columns (1 to 65535), in: size  40 4 (esc)
   [2]
 
-`resize` changes the size of a terminal. `relay` passes the new size on, unless the environment sets
-one.
-
-  $ resize relay prodash-live --no-color --columns 40
-  40 columns
-  30 columns
-  4/10
-  $ COLUMNS=40 resize relay prodash-live --no-color >sizes &
-  $ resizing=$!
-  $ until grep -qs 40 sizes; do sleep 0.01; done
-  $ sleep 1
-  $ kill $resizing
-  $ cat sizes
-  40 columns
-
 Columns
 =======
 

@@ -24,14 +24,13 @@ TOP = os.path.dirname(os.path.dirname(os.path.dirname(os.path.realpath(__file__)
 SCRIPTS = {
     "build-failures": f"{TOP}/dev/lib/build-failures",
     "install-prodash": f"{TOP}/bin/install",
+    "live": f"{TOP}/tests/scripts/live.py",
     "many-hosts": f"{TOP}/examples/many_hosts.sh",
     "example": f"{TOP}/examples/run",
     "on-terminal": f"{TOP}/tests/scripts/on_terminal.py",
     "picture": f"{TOP}/bin/picture",
     "prodash": f"{TOP}/bin/prodash",
     "prodash-run": f"{TOP}/tests/scripts/run.py",
-    "relay": f"{TOP}/lib/relay.py",
-    "resize": f"{TOP}/tests/scripts/resize.py",
 }
 # A terminal that shows frames, and characters in UTF-8.
 TERMINAL = {"TERM": "xterm", "LC_ALL": "C.UTF-8"}

@@ -11,7 +11,7 @@ The steps are lines of standard input:
   style TEXT     prints the style of a text
   keys TEXT      types a text, in which \\n, \\x03 and the like stand for keys
   tell PIPE TEXT writes a line to a named pipe
-  size C R       changes the size of the terminal
+  size C R       changes the size of the terminal, or with 0 0 has it say none
   stopped        waits until the job is stopped, and says whether the modes are as at the start
   fg, bg         the shell has the job go on, in the foreground or not
   signal NAME    sends a signal to the job's group, `one NAME` to its first process alone
@@ -204,7 +204,8 @@ class Play:
             self.wait(lambda: told(first, rest), f"read: {first}")
         elif name == "size":
             self.settle()
-            self.window.resize(int(first), int(rest))
+            if int(first):
+                self.window.resize(int(first), int(rest))
             self.set_size(int(first), int(rest))
         elif name in ("stopped", "ended"):
             self.report(name)

@@ -1,0 +1,177 @@
+prodash live: what fails
+========================
+
+Whatever becomes of the display, the script that writes the lines goes on: what it writes is read and
+left out. At the end one line says what has failed, and the status isn't 0.
+
+`on-terminal` plays steps on a terminal, and `live` is `prodash live`. It reads a named pipe, into
+which a script writes that waits for lines of another one, `go`. Then it writes more than two pipes
+hold. `play` says how each has ended.
+
+  $ export TERM=xterm
+  $ unset COLUMNS LINES NO_COLOR
+  $ mkfifo go lines
+  $ cat >script <<'.'
+  > trap '' HUP
+  > exec 3<>go
+  > next() { until read _ <&3; do :; done; }
+  > echo add @a 0 build; echo init @a 10 files; echo set @a 3
+  > next; echo set @a 4; next
+  > yes '#' | head -n 100000
+  > .
+  $ play() {
+  >   sh script >lines & { echo "run live --no-color $1 <lines"; cat; } | on-terminal 60 8
+  >   wait $!; echo "script: $?"
+  > }
+
+A display that is killed leaves no rows.
+
+  $ play <<'.'
+  > until 3/10
+  > kill KILL prodash-live
+  > gone build
+  > screen
+  > tell go
+  > tell go
+  > ended
+  > screen
+  > modes
+  > .
+  
+  status 137
+  prodash live: the display was ended by signal 9
+  same modes
+  script: 0
+
+One that is stuck is given up after two seconds, and the lines that it was to take are left out.
+
+  $ play <<'.'
+  > until 3/10
+  > kill STOP prodash-live
+  > tell go
+  > tell go
+  > ended
+  > screen
+  > .
+  status 137
+  prodash live: the display was stuck
+  script: 0
+  $ sed '$d' script >few && mv few script
+
+A recording that can't be written.
+
+  $ play '--record /dev/full' <<'.'
+  > until 3/10
+  > tell go
+  > until 4/10
+  > tell go
+  > ended
+  > screen
+  > .
+  status 1
+  cannot write /dev/full: No space left on device (os error 28
+  )
+  script: 0
+
+A window that is closed. The recording goes on, and the script as well, if it doesn't care.
+
+  $ play '--record recording' <<'.'
+  > until 3/10
+  > close
+  > tell go
+  > tell go
+  > ended
+  > .
+  status 1
+  script: 0
+  $ grep -c '^set' recording
+  2
+
+Wrong options, a recording that can't be there, and a display that isn't. These are told at once.
+
+  $ more() { yes '#' | head -n 100000; echo "the script: $?" >&2; }
+  $ more | live --rows 0
+  error: invalid value '0' for '--rows', which takes a number from 1 to 65535
+  
+  For more information, try '--help'.
+  the script: 0
+  [2]
+  $ more | live --record nowhere/file
+  cannot write nowhere/file: No such file or directory (os error 2)
+  the script: 0
+  [1]
+  $ mkfifo unread
+  $ more | live --record unread
+  the script: 0
+  prodash live: the display did not begin
+  [137]
+  $ cat >without.py <<'.'
+  > import os, sys
+  > sys.dont_write_bytecode = True
+  > sys.path.insert(0, os.path.realpath(sys.argv[1] + "/../../lib"))
+  > import live
+  > sys.exit(live.run("/nowhere/prodash-live", sys.argv[2:]))
+  > .
+  $ scripts=$(dirname "$(readlink -f "$(command -v live)")")
+  $ more | python3 without.py "$scripts"
+  the script: 0
+  prodash live: /nowhere/prodash-live: No such file or directory
+  [1]
+
+Keys are left to others, so wrong options end it on a terminal.
+
+  $ printf 'run live --rows 0\nended\n' | on-terminal 60 8
+  status 2
+
+An output that can't be written.
+
+  $ messages() { echo add @a 0 a; echo info @a - one; more 2>written; }
+  $ messages | live --stdout >/dev/full
+  cannot write to standard output: No space left on device (os error 28)
+  [1]
+  $ cat written
+  the script: 0
+  $ messages | live 2>/dev/full
+  [1]
+  $ cat written
+  the script: 0
+  $ { echo add 0 a; yes 'info 1 - one' | head -n 100000; } >many
+  $ { cat many - | live --stdout 2>errors; echo $? >status; } | head -n 1
+   a one
+  $ cat errors status
+  cannot write to standard output: Broken pipe (os error 32)
+  1
+
+An input that can't be read.
+
+  $ live <&-
+  cannot read standard input: Bad file descriptor (os error 9)
+  [1]
+
+Without descriptors there is no display.
+
+  $ export PYTHON=$(python3 -c 'import sys; print(sys.executable)') LIVE=$(command -v live)
+  $ for it in 5 6; do
+  >   more 2>written | sh -c 'ulimit -n $0; exec $PYTHON -I -S $LIVE' $it; echo $?; cat written
+  > done
+  prodash live: Too many open files
+  1
+  the script: 0
+  prodash live: Too many open files
+  1
+  the script: 0
+
+Faulty lines are reported as ever, and with `--strict` the first one ends the script as well: nothing
+reads any more.
+
+  $ { echo foo; more 2>written; } | live
+   \xe2\x9c\x97 input line 1: unknown command "foo", in: foo (esc)
+  [2]
+  $ cat written
+  the script: 0
+  $ { echo foo; yes '#' | head -n 1000000; echo goes on >&2; } 2>errors | live --strict
+  line 1: unknown command "foo", in: foo
+  [2]
+  $ printf 'add @a 0 a\nset @a 1' | live
+   \xe2\x9c\x97 input line 2: the line is cut off: it has no line feed, in: set @a 1 (esc)
+  [2]
