@@ -185,7 +185,31 @@ that wait at a time would be one.
   status 0
   status 0
 
-So it does if the process that watches the signals of the group is killed: another takes its place.
+Two for the group stay two, also if the process that watches the signals of the group gets them at a
+time, which are one then.
+
+  $ { echo 'run prodash-run python3 counts'; cat <<'.'; } | on-terminal 40 12
+  > until ready
+  > kill STOP .*prodash-run
+  > signal INT
+  > until 1 SIGINT
+  > signal INT
+  > until 2 SIGINT
+  > kill CONT .*prodash-run
+  > one USR1
+  > until 3 SIGUSR1
+  > one USR2
+  > ended
+  > screen
+  > .
+  status 0
+  ready
+  1 SIGINT
+  2 SIGINT
+  3 SIGUSR1
+  4 SIGUSR2
+
+So they do if that process is killed: another takes its place.
 
   $ { echo 'run prodash-run python3 counts'; cat <<'.'; } | on-terminal 40 12
   > until ready
@@ -228,3 +252,27 @@ A signal at the start ends the job, or `prodash run` before there is one.
   $ early '--pty --'
   status 0
   {-15}
+
+After `kill -9` of `prodash run` the display ends, though its frames wait to be read: nobody could
+read them any more.
+
+  $ cat >killed <<'.'
+  > trap '' HUP
+  > display=$(pgrep -f '^prodash-live' -P $RUN)
+  > echo "add @a 0 a" >&$PRODASH_FD
+  > kill -STOP $display
+  > yes "info @a - x" | head -n 15000 >&$PRODASH_FD
+  > kill -KILL $RUN
+  > kill -CONT $display
+  > while ps -o stat= -p $display | grep -q '^[^Z]'; do :; done
+  > echo >gone
+  > .
+  $ cat >starts <<'.'
+  > RUN=$$ exec prodash-run $KIND sh killed
+  > .
+  $ for kind in -- '--pty --'; do
+  >   { echo "run env KIND='$kind' sh starts"; printf 'ended\nfile gone\n'; } | on-terminal 40 8
+  >   rm gone
+  > done
+  signal SIGKILL
+  signal SIGKILL
