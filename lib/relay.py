@@ -7,6 +7,7 @@ import _signal as signals
 import os
 import select
 import stat
+import termios
 import time
 
 from display import READ, Display
@@ -77,6 +78,13 @@ class Terminal:
         except OSError:
             return True
 
+    def is_taken(self):
+        """Returns whether a program has the keys one by one, as one with a full screen."""
+        try:
+            return not termios.tcgetattr(self.stream)[3] & termios.ICANON
+        except termios.error:
+            return False
+
     def is_gone(self):
         """Returns whether the window was closed."""
         return self.is_terminal and not os.isatty(self.stream)
@@ -114,9 +122,13 @@ class Relay:
         """Returns the moment on a clock that stands still while this or the terminal is stopped."""
         return time.monotonic() - self.stopped
 
+    def may_draw(self):
+        """Returns whether the terminal is for rows now."""
+        return self.terminal.is_foreground()
+
     def look(self):
         """Notes whether rows may be drawn now, and draws them if they may again."""
-        is_shown, was_shown = self.terminal.is_foreground(), self.screen.is_shown
+        is_shown, was_shown = self.may_draw(), self.screen.is_shown
         self.screen.is_shown = is_shown
         if is_shown and not was_shown:
             self.paint(self.screen.draw())
@@ -233,7 +245,7 @@ class Relay:
         self.suspend()
         signals.signal(signals.SIGTSTP, before)
         self.stopped += time.monotonic() - begun
-        self.screen.is_shown = self.terminal.is_foreground()
+        self.screen.is_shown = self.may_draw()
         self.resize()
         self.paint(self.screen.draw())
 

@@ -7,6 +7,7 @@ import _signal as signals
 import errno
 import os
 import select
+import stat
 import termios
 import time
 
@@ -79,6 +80,8 @@ class Run(Relay):
         super().__init__(*words)
         # what the job writes; None once nobody writes there
         self.output = self.sentinel = None
+        # whether another program reads what the job writes to standard output
+        self.is_piped = stat.S_ISFIFO(os.fstat(1).st_mode)
         # the keys of the terminal, and the modes of the job's output if nobody reads keys there
         self.keys = self.modes = None
         self.pid = self.status = None
@@ -88,11 +91,20 @@ class Run(Relay):
         self.ended = time.monotonic()
         self.output_rest, self.events_rest = Rest(), Rest()
 
+    def may_draw(self):
+        """Returns whether the terminal is for rows now, and not for a pager of the output."""
+        is_pager_there = self.is_piped and not self.holds_keys() and self.terminal.is_taken()
+        return super().may_draw() and not is_pager_there
+
+    def holds_keys(self):
+        """Returns whether keys are passed on to the job."""
+        return self.keys is not None and self.keys.is_held()
+
     def look(self):
         """Has the keys that are the job's, while rows may be drawn."""
         super().look()
-        if self.keys and self.keys.is_held() != (self.screen.is_shown and self.wants_keys()):
-            if self.keys.is_held():
+        if self.keys and self.holds_keys() != (self.screen.is_shown and self.wants_keys()):
+            if self.holds_keys():
                 self.keys.give_back()
             else:
                 self.keys.hold()
@@ -151,7 +163,7 @@ class Run(Relay):
 
     def reads(self):
         found = [*super().reads(), self.sentinel.told if self.sentinel else None]
-        if self.keys and self.keys.is_held() and not self.keys.left:
+        if self.holds_keys() and not self.keys.left:
             found.append(self.keys.stream)
         if len(self.terminal.left) < READ:
             found.append(self.output)
@@ -164,7 +176,7 @@ class Run(Relay):
     def times(self):
         now, times = time.monotonic(), super().times()
         times += [it.until - now for it in self.own]
-        if self.keys and self.keys.is_held():
+        if self.holds_keys():
             times.append(LOOK)
         if self.status is not None and not self.terminal.left and not self.until:
             times.append(QUIET)
@@ -187,7 +199,7 @@ class Run(Relay):
 
     def pass_keys(self, ready):
         """Passes keys on to the job, if they are held."""
-        if self.keys and self.keys.is_held() and self.keys.stream in ready:
+        if self.holds_keys() and self.keys.stream in ready:
             self.keys.read()
         if self.keys and self.keys.left and self.output is not None:
             self.keys.write()

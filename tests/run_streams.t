@@ -93,6 +93,33 @@ Standard output that is a file gets what the job writes, and the terminal the ro
   $ cat output
   out
 
+If standard output is a pipe, there are no rows as long as a program has each key of the terminal, as
+a pager has behind that pipe.
+
+  $ mkfifo turn
+  $ cat >pager <<'.'
+  > exec 4<>turn
+  > read _ <&4; stty -icanon </dev/tty; echo >taken; read _ <&4; stty icanon </dev/tty; cat
+  > .
+  $ cat >pages <<'.'
+  > . ./job
+  > next; say set @a 4; next
+  > .
+  $ { echo 'run sh -c "prodash-run --no-color -- sh pages | sh pager"'; cat <<'.'; } | on-terminal 40 8
+  > until 3/10
+  > tell turn
+  > file taken
+  > tell go
+  > gone build
+  > tell turn
+  > until 4/10
+  > tell go
+  > ended
+  > modes
+  > .
+  status 0
+  same modes
+
 On a terminal without rows there are messages alone.
 
   $ for how in 'TERM=dumb prodash-run' '-u TERM prodash-run' 'TERM= prodash-run --pty' \
