@@ -47,9 +47,7 @@ class Live(Relay):
         try:
             super().read_events()
         except OSError as error:
-            self.events = None
-            if not self.terminal.is_gone():
-                self.reason = why_unread(error)
+            self.events, self.reason = None, why_unread(error)
 
     def hear(self, numbers):
         """Handles signals."""
@@ -60,20 +58,17 @@ class Live(Relay):
         for it in numbers:
             if it in KEYS:
                 self.go_below()
-            if it in ENDS or it in KEYS and os.isatty(0):
-                self.hear_end(it)
+            if it in ENDS and not self.is_hung_up(it) or it in KEYS and os.isatty(0):
+                self.end_input()
 
     def go_below(self):
         """Goes below the ^C that the terminal has shown."""
         if isinstance(self.screen, Screen):
             self.paint(self.screen.put(b"\r\n"))
 
-    def hear_end(self, number):
-        """Ends the input, unless the window was closed: who writes there may not care."""
-        if number == signals.SIGHUP and self.terminal.is_gone():
-            self.terminal.give_up("the terminal is gone")
-        else:
-            self.end_input()
+    def is_hung_up(self, number):
+        """Returns whether a signal says that the window was closed: who writes may not care."""
+        return number == signals.SIGHUP and self.terminal.is_gone()
 
     def end_input(self):
         """Takes the lines that are there already, and no more. The second time nothing is."""

@@ -140,7 +140,6 @@ class Relay:
             self.taken = self.clock()
         self.display.send(lines)
         if not lines:
-            os.close(self.events)
             self.events = None
         return len(lines)
 
@@ -153,8 +152,7 @@ class Relay:
     def take(self, frames):
         """Draws frames."""
         for it in frames:
-            if it:
-                self.paint(self.screen.take(it))
+            self.paint(self.screen.take(it))
 
     def write_lines(self):
         self.display.write()
@@ -245,9 +243,9 @@ class Relay:
         self.suspend()
         signals.signal(signals.SIGTSTP, before)
         self.stopped += time.monotonic() - begun
-        self.screen.is_shown = self.may_draw()
+        self.screen.is_shown = False
         self.resize()
-        self.paint(self.screen.draw())
+        self.look()
 
     def suspend(self):
         """Stops this process. The others of the group were sent the signal as well."""

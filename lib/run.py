@@ -295,7 +295,6 @@ class Run(Relay):
         super().stop()
         # those that came before it went on have no effect any more
         self.own = [it for it in self.own if it.number != signals.SIGTSTP]
-        self.look()
 
     def suspend(self):
         """Stops this process. The job was sent the signal as well."""

@@ -20,7 +20,7 @@ hold. `play` says how each has ended.
   > yes '#' | head -n 100000
   > .
   $ play() {
-  >   sh script >lines & { echo "run live --no-color $1 <lines"; cat; } | on-terminal 60 8
+  >   sh ${script-script} >lines & { echo "run live --no-color $1 <lines"; cat; } | on-terminal 60 8
   >   wait $!; echo "script: $?"
   > }
 
@@ -45,10 +45,13 @@ A display that is killed leaves no rows.
 
 One that is stuck is given up after two seconds, and the lines that it was to take are left out.
 
+  $ { cat script; echo next; } >waits; script=waits
   $ play <<'.'
   > until 3/10
   > kill STOP prodash-live
   > tell go
+  > tell go
+  > gone build
   > tell go
   > ended
   > screen
@@ -56,7 +59,13 @@ One that is stuck is given up after two seconds, and the lines that it was to ta
   status 137
   prodash live: the display was stuck
   script: 0
-  $ sed '$d' script >few && mv few script
+  $ sed '$d' script >few; script=few
+
+One that had nothing to take for as long isn't.
+
+  $ { printf 'add @a 0 a\ninfo @a - one\n'; sleep 2.2; printf 'info @a - two\n'; } | live
+   a one
+   a two
 
 A recording that can't be written.
 
@@ -87,6 +96,16 @@ A window that is closed. The recording goes on, and the script as well, if it do
   $ grep -c '^set' recording
   2
 
+SIGTERM ends it then, too.
+
+  $ sh few >lines & { echo 'run live <lines'; cat <<'.'; } | on-terminal 60 8; kill $!
+  > until 3/10
+  > close
+  > one TERM
+  > ended
+  > .
+  status 1
+
 Wrong options, a recording that can't be there, and a display that isn't. These are told at once.
 
   $ more() { yes '#' | head -n 100000; echo "the script: $?" >&2; }
@@ -105,18 +124,51 @@ Wrong options, a recording that can't be there, and a display that isn't. These 
   the script: 0
   prodash live: the display did not begin
   [137]
-  $ cat >without.py <<'.'
+  $ cat >with.py <<'.'
   > import os, sys
   > sys.dont_write_bytecode = True
   > sys.path.insert(0, os.path.realpath(sys.argv[1] + "/../../lib"))
   > import live
-  > sys.exit(live.run("/nowhere/prodash-live", sys.argv[2:]))
+  > sys.exit(live.run(sys.argv[2], sys.argv[3:]))
   > .
   $ scripts=$(dirname "$(readlink -f "$(command -v live)")")
-  $ more | python3 without.py "$scripts"
+  $ more | python3 with.py "$scripts" /nowhere/prodash-live
   the script: 0
   prodash live: /nowhere/prodash-live: No such file or directory
   [1]
+
+One that ends before the lines do.
+
+  $ printf "#!/bin/sh\nprintf '\\\\0'; read _; echo no memory; exit 1\n" >ends; chmod +x ends
+  $ more | python3 with.py "$scripts" ./ends
+  the script: 0
+  no memory
+  [1]
+
+A frame that comes with the first mark is shown, and a signal that comes before it is kept.
+
+  $ printf "#!/bin/sh\nprintf '\\\\0 one\\\\n\\\\0'; cat >rest\n" >begins; chmod +x begins
+  $ echo line | python3 with.py "$scripts" ./begins
+   one
+  $ printf "#!/bin/sh\nkill -TERM \$PPID; printf '\\\\0'; cat >rest\n" >kills; chmod +x kills
+  $ exec 3<>lines
+  $ echo line >&3
+  $ python3 with.py "$scripts" ./kills <lines
+  $ cat rest
+  line
+  $ exec 3>&-
+
+Wrong options leave SIGINT to the script, too, and SIGTERM ends what reads.
+
+  $ env --default-signal=INT live --rows 0 <lines 2>errors &
+  $ exec 3>lines
+  $ until grep -qs error errors; do :; done
+  $ kill -INT $!
+  $ kill -TERM $!
+  $ wait $!
+  Terminated
+  [143]
+  $ exec 3>&-
 
 Keys are left to others, so wrong options end it on a terminal.
 
@@ -147,6 +199,43 @@ An input that can't be read.
   $ live <&-
   cannot read standard input: Bad file descriptor (os error 9)
   [1]
+  $ live 0>file
+  cannot read standard input: Bad file descriptor (os error 9)
+  [1]
+
+Streams that are closed are read and written as if they were empty.
+
+  $ printf 'add @a 0 a\ninfo @a - one\n' | live --stdout >&-
+  $ printf 'add @a 0 a\ninfo @a - one\n' | live 2>&-
+  $ printf 'add @a 0 a\ninfo @a - one\n' | live --stdout 2>&-
+   a one
+
+A fault of the script that writes the frames leaves none on the terminal.
+
+  $ cat >faulty.py <<'.'
+  > import os, sys
+  > sys.dont_write_bytecode = True
+  > sys.path.insert(0, os.path.realpath(sys.argv[1] + "/../../lib"))
+  > import live, screen
+  > parts = screen.parts
+  > def broken(frame):
+  >     if b"4/10" in frame:
+  >         raise ValueError("no such frame")
+  >     return parts(frame)
+  > screen.parts = broken
+  > sys.exit(live.run("prodash-live", ["--no-color"]))
+  > .
+  $ sh few >lines & { echo "run python3 faulty.py $scripts <lines"; cat <<'.'; } | on-terminal 60 8
+  > until 3/10
+  > tell go
+  > gone build
+  > tell go
+  > ended
+  > screen
+  > .
+  status 137
+  prodash live: ValueError: no such frame
+  $ wait $!
 
 Without descriptors there is no display.
 
@@ -169,9 +258,11 @@ reads any more.
   [2]
   $ cat written
   the script: 0
-  $ { echo foo; yes '#' | head -n 1000000; echo goes on >&2; } 2>errors | live --strict
+  $ { echo foo; yes '#' | head -n 1000000; echo $? >status; } | live --strict
   line 1: unknown command "foo", in: foo
   [2]
+  $ cat status
+  141
   $ printf 'add @a 0 a\nset @a 1' | live
    \xe2\x9c\x97 input line 2: the line is cut off: it has no line feed, in: set @a 1 (esc)
   [2]

@@ -37,6 +37,12 @@ typed, and the modes of the terminal are never changed.
   > until two
   > keys abc\n
   > screen
+  > keys \x1a
+  > stopped
+  > gone 4/10
+  > size 40 8
+  > fg
+  > until 4/10 files [=======>------------]
   > tell go
   > ended
   > modes
@@ -48,6 +54,7 @@ typed, and the modes of the terminal are never changed.
    build two
   abc
    build 4/10 files [==============>----------------------]
+  stopped
   status 0
   same modes
   script: 0
@@ -132,7 +139,7 @@ left out. `TERM` and the lines are there when it goes on.
   >   exec 3>lines
   >   printf 'add @a 0 alpha\ninfo @a 0 one\n' >&3
   >   until grep -qs one output; do sleep 0.01; done
-  >   kill -STOP $!
+  >   kill -STOP $!; until ps -o stat= -p $! | grep -q T; do :; done
   >   printf 'info @a 0 two\ninfo @a 0 thr' >&3
   >   kill -$it $!
   >   kill -CONT $!
@@ -142,6 +149,20 @@ left out. `TERM` and the lines are there when it goes on.
   > done
    alpha one
    alpha two
+   alpha one
+   alpha two
+
+SIGINT doesn't, and leaves nothing in a file.
+
+  $ env --default-signal=INT live --stdout <lines >output &
+  $ exec 3>lines
+  $ printf 'add @a 0 alpha\ninfo @a 0 one\n' >&3
+  $ until grep -qs one output; do sleep 0.01; done
+  $ kill -INT $!
+  $ printf 'info @a 0 two\n' >&3
+  $ exec 3>&-
+  $ wait $!
+  $ cat output
    alpha one
    alpha two
 
@@ -192,6 +213,8 @@ What was ignored from the start stays so, as below `nohup`.
   $ kill -HUP $!
   $ printf 'info @a 0 two\n' >&3
   $ until grep -qs two output; do sleep 0.01; done
+  $ printf 'info @a 0 three\n' >&3
+  $ until grep -qs three output; do sleep 0.01; done
   $ exec 3>&-
   $ wait $!
 

@@ -137,7 +137,8 @@ On a terminal without rows, and with `--terminal never`, there are messages alon
   $ cat >tells <<'.'
   > echo add @a 0 build; echo info @a - one; read _ <go
   > .
-  $ for it in 'env TERM=dumb live' 'env -u TERM live' 'live --terminal never'; do
+  $ for it in 'env TERM=dumb live' 'env -u TERM live' 'live --terminal never' \
+  >     'live --terminal=always --terminal=never'; do
   >   sh tells >lines & { echo "run $it <lines"; cat <<'.'; } | on-terminal 60 8
   > until build one
   > screen
@@ -145,6 +146,8 @@ On a terminal without rows, and with `--terminal never`, there are messages alon
   > ended
   > .
   > done
+   build one
+  status 0
    build one
   status 0
    build one

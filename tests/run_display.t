@@ -167,3 +167,32 @@ A display that isn't there.
   runs
   prodash run: /nowhere/prodash-live: No such file or directory
   [1]
+
+A fault of the script that writes the frames leaves none on the terminal, and the output is passed on.
+
+  $ cat >faulty.py <<'.'
+  > import os, sys
+  > sys.dont_write_bytecode = True
+  > sys.path.insert(0, os.path.realpath(sys.argv[1] + "/../../lib"))
+  > import run, screen
+  > parts = screen.parts
+  > def broken(frame):
+  >     if b"4/10" in frame:
+  >         raise ValueError("no such frame")
+  >     return parts(frame)
+  > screen.parts = broken
+  > run.main("prodash-live", ["--no-color", "--", "sh", "job"])
+  > .
+  $ { echo "run python3 faulty.py $scripts"; cat <<'.'; } | on-terminal 60 8
+  > until 3/10
+  > tell go
+  > until two
+  > gone build
+  > tell go
+  > ended
+  > screen
+  > .
+  status 1
+  one
+  two
+  prodash run: ValueError: no such frame

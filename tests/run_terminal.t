@@ -50,6 +50,27 @@ for stuck.
   status 0
   $ rm got waited
 
+How long it is stopped counts nowhere, also at the end.
+
+  $ cat >late <<'.'
+  > . ./job
+  > next
+  > { seq 4000 | sed 's/^/info @a - number /'; echo info @a - last; } >&$PRODASH_FD &
+  > (eval "exec $PRODASH_FD>&-"; for it in 1 2 3 4 5 6 7 8 9; do sleep 0.3; done; echo >waited) \
+  >   </dev/null >/dev/null 2>&1 &
+  > .
+  $ { echo 'run prodash-run --no-color -- sh late'; cat <<'.'; } | on-terminal 40 8
+  > until 3/10
+  > keys \x13
+  > tell go
+  > file waited
+  > keys \x11
+  > until last
+  > ended
+  > .
+  status 0
+  $ rm waited
+
 A second signal ends what waits for the terminal at the end.
 
   $ cat >never <<'.'
