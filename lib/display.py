@@ -73,7 +73,6 @@ class Display:
     def finish(self):
         """Takes the rest as the last line. The program says that it is cut off."""
         self.lines += self.rest
-        self.rest = b""
 
     def write(self):
         """Writes as many lines as the program takes."""

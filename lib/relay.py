@@ -104,8 +104,8 @@ class Relay:
         self.is_hurried = False
         # how long this or the terminal was stopped, which counts nowhere
         self.stopped = 0
-        # when the display has taken lines, and after how long it is stuck
-        self.taken, self.stuck = time.monotonic(), STUCK
+        # when the display has taken lines
+        self.taken = time.monotonic()
         # until when the display is awaited at the end
         self.until = None
 
@@ -190,7 +190,7 @@ class Relay:
         times = [] if self.screen.is_shown else [LOOK]
         if not self.terminal.left:
             if self.display.lines:
-                times.append(self.taken + self.stuck - self.clock())
+                times.append(self.taken + STUCK - self.clock())
             if self.until:
                 times.append(self.until - self.clock())
         return times
@@ -228,7 +228,7 @@ class Relay:
 
     def watch(self):
         """Gives the display up if it has taken nothing for too long."""
-        if self.clock() > self.taken + self.stuck:
+        if self.clock() > self.taken + STUCK:
             self.display.give_up("the display was stuck", signals.SIGKILL)
             self.paint(self.screen.clear())
 
@@ -368,8 +368,4 @@ def begin(make, program, options, terminal, screen, draws):
     """Starts the display, with rows or without. Returns the relay to it."""
     sizes, follows_size = size_options(options, terminal.size() if draws else None)
     words = ["--marks", *options, *sizes, "--terminal", "always" if draws else "never"]
-    relay = make(terminal, Display(program, words), screen, follows_size)
-    # its first rows may be late
-    delay = value_of(options, "--delay") or ""
-    relay.stuck += int(delay) / 1000 if delay.isdecimal() else 0
-    return relay
+    return make(terminal, Display(program, words), screen, follows_size)

@@ -145,6 +145,23 @@ One that ends before the lines do.
   no memory
   [1]
 
+One that has stopped once its pipe was full.
+
+  $ cat >stops <<'.'
+  > #!/usr/bin/env python3
+  > import fcntl, os, signal, struct, termios, time
+  > os.write(1, b"\0")
+  > while struct.unpack("i", fcntl.ioctl(0, termios.FIONREAD, bytes(4)))[0] < 60000:
+  >     time.sleep(0.01)
+  > os.read(0, 4096)
+  > signal.pause()
+  > .
+  $ chmod +x stops
+  $ more | python3 with.py "$scripts" ./stops
+  the script: 0
+  prodash live: the display was stuck
+  [137]
+
 A frame that comes with the first mark is shown, and a signal that comes before it is kept.
 
   $ printf "#!/bin/sh\nprintf '\\\\0 one\\\\n\\\\0'; cat >rest\n" >begins; chmod +x begins

@@ -164,6 +164,11 @@ Off a terminal the bytes are those of the program, with marks also.
   \x00 a one (esc)
   \x00 (no-eol) (esc)
 
+  $ { printf 'add @a 0 task\ninit @a 10 -\nset @a 3\n'; until grep -qs 3/10 frames; do :; done; } |
+  >   live --no-color --terminal always --bar-columns 100 2>frames
+  $ tail -n 3 frames | head -n 1 | sed 's/.*\[2K//'
+   task 3/10 [===================>-----------------------------------------------]
+
 What is written to standard error by the script stands above the rows.
 
   $ cat >warns <<'.'

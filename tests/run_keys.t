@@ -66,6 +66,21 @@ A program that reads keys of the terminal that its output is gets them, too.
   read a line
   same modes
 
+So does one that reads them one by one of standard input, and the rows stay.
+
+  $ cat >raw <<'.'
+  > . ./job
+  > stty -icanon; say set @a 4; next; stty icanon
+  > .
+  $ { echo 'run prodash-run --no-color -- sh raw'; cat <<'.'; } | on-terminal 40 8
+  > until 4/10
+  > tell go
+  > ended
+  > modes
+  > .
+  status 0
+  same modes
+
 A prompt for a password is written to the terminal by itself. It stands in the free line, and what is
 typed isn't shown.
 

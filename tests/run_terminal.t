@@ -50,6 +50,29 @@ for stuck.
   status 0
   $ rm got waited
 
+What is written meanwhile is all there after that, in its order.
+
+  $ cat >holds <<'.'
+  > exec 3<>go
+  > echo one; read _ <&3; echo two; read _ <&3; echo three; read _ <&3; echo four; echo >done
+  > .
+  $ { echo 'run prodash-run --no-color -- sh holds'; cat <<'.'; } | on-terminal 40 8
+  > until one
+  > keys \x13
+  > tell go
+  > tell go
+  > tell go
+  > file done
+  > keys \x11
+  > ended
+  > screen
+  > .
+  status 0
+  one
+  two
+  three
+  four
+
 How long it is stopped counts nowhere, also at the end.
 
   $ cat >late <<'.'
