@@ -226,10 +226,11 @@ class Sentinel:
         return self.asked
 
     def end(self):
-        """Ends the process."""
+        """Ends the process, before a signal finds nobody whom it can be told."""
+        os.kill(self.pid, signals.SIGKILL)
+        os.waitpid(self.pid, 0)
         os.close(self.alive)
         os.close(self.told)
-        os.waitpid(self.pid, 0)
 
 
 def pass_rest(fd, to, kept):

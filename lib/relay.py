@@ -104,10 +104,8 @@ class Relay:
         self.is_hurried = False
         # how long this or the terminal was stopped, which counts nowhere
         self.stopped = 0
-        # when the display has taken lines
-        self.taken = time.monotonic()
-        # until when the display is awaited at the end
-        self.until = None
+        # when the display has taken lines, and whether it has to end
+        self.taken, self.is_ending = time.monotonic(), False
 
     def handle(self, numbers):
         """Has signals wake this process."""
@@ -188,11 +186,8 @@ class Relay:
     def times(self):
         """Returns after how many seconds each thing has to be done that nothing else tells."""
         times = [] if self.screen.is_shown else [LOOK]
-        if not self.terminal.left:
-            if self.display.lines:
-                times.append(self.taken + STUCK - self.clock())
-            if self.until:
-                times.append(self.until - self.clock())
+        if not self.terminal.left and (self.display.lines or self.is_ending):
+            times.append(self.taken + STUCK - self.clock())
         return times
 
     def step(self):
@@ -223,12 +218,13 @@ class Relay:
         if self.display.is_alive():
             if self.display.frames in ready:
                 self.read_frames()
-            elif self.display.lines and not self.terminal.left:
+            elif self.display.lines:
                 self.watch()
 
     def watch(self):
         """Gives the display up if it has taken nothing for too long."""
-        if self.clock() > self.taken + STUCK:
+        is_late = self.clock() > self.taken + STUCK
+        if is_late and self.display.is_alive() and not self.terminal.left:
             self.display.give_up("the display was stuck", signals.SIGKILL)
             self.paint(self.screen.clear())
 
@@ -289,15 +285,13 @@ class Relay:
 
     def finish_display(self):
         """Reads the last frames of the display, unless it is stuck."""
-        self.until = self.clock() + STUCK
+        self.is_ending, self.taken = True, self.clock()
         self.display.finish()
         while self.display.is_alive() and not self.is_hurried:
             if not self.display.lines:
                 self.display.close()
-            if self.clock() > self.until and not self.terminal.left:
-                self.display.give_up("the display was stuck", signals.SIGKILL)
-            else:
-                self.step()
+            self.step()
+            self.watch()
         if self.display.is_alive():
             self.display.give_up("the display was not awaited", signals.SIGKILL)
 

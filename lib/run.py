@@ -178,7 +178,7 @@ class Run(Relay):
         times += [it.until - now for it in self.own]
         if self.holds_keys():
             times.append(LOOK)
-        if self.status is not None and not self.terminal.left and not self.until:
+        if self.status is not None and not self.terminal.left and not self.is_ending:
             times.append(QUIET)
         return times
 

@@ -54,6 +54,22 @@ A display that is killed leaves no rows, and the job ends as without it. Only a 
   >   grep status
   status 3
 
+What is said is below the ^C of a job that is ended.
+
+  $ { echo 'run prodash-run --no-color -- sh job'; cat <<'.'; } | on-terminal 60 8
+  > until 3/10
+  > until one
+  > kill KILL prodash-live
+  > gone build
+  > keys \x03
+  > ended
+  > screen
+  > .
+  signal SIGINT
+  one
+  ^C
+  prodash run: the display was ended by signal 9
+
 One that is stopped holds the job up for two seconds at most, however many lines it writes.
 
   $ cat >many <<'.'

@@ -72,6 +72,11 @@ Without a command nothing begins.
   
   Usage: prodash run [OPTIONS] -- COMMAND [WORD ..]
   [2]
+  $ prodash-run --no-color true
+  prodash run: no command behind --
+  
+  Usage: prodash run [OPTIONS] -- COMMAND [WORD ..]
+  [2]
   $ prodash-run --no-color --
   prodash run: no command behind --
   

@@ -66,6 +66,30 @@ A program that reads keys of the terminal that its output is gets them, too.
   read a line
   same modes
 
+While it is stopped, the user's terminal has its own modes.
+
+  $ { echo "run prodash-run --no-color -- sh keys"; cat <<'.'; } | on-terminal 40 8
+  > until press
+  > until 3/10
+  > raw
+  > keys \x1a
+  > stopped
+  > modes
+  > fg
+  > raw
+  > keys k
+  > until pressed k
+  > tell go
+  > until and
+  > keys a line\n
+  > ended
+  > modes
+  > .
+  stopped
+  same modes
+  status 0
+  same modes
+
 So does one that reads them one by one of standard input, and the rows stay.
 
   $ cat >raw <<'.'
@@ -133,6 +157,18 @@ The modes of the user's terminal are given back also if it doesn't set its own b
   > .
   status 0
   same modes
+
+On a terminal without rows they are the job's, too.
+
+  $ { echo "run env TERM=dumb prodash-run --pty -- sh -c 'read line; echo read \$line'"; cat <<'.'; } |
+  > keys a line\n
+  > ended
+  > screen
+  > .
+  >   on-terminal 40 8
+  status 0
+  a line
+  read a line
 
 A terminal of the job's own has the modes of the user's.
 

@@ -17,6 +17,7 @@ The steps are lines of standard input:
   signal NAME    sends a signal to the job's group, `one NAME` to its first process alone
   kill NAME P    sends a signal to the first child of the job's process whose words begin with P
   modes          says whether the modes of the terminal are those of the start
+  raw            waits until it passes on each key at once
   file NAME      waits until there is a file
   close          closes the window
   ended          waits until the job has ended, and says how
@@ -218,6 +219,8 @@ class Play:
             self.report(name)
         elif name == "modes":
             print(self.same_modes())
+        elif name == "raw":
+            self.wait(lambda: not termios.tcgetattr(self.theirs)[3] & termios.ICANON, "raw")
         elif name == "file":
             self.wait(lambda: os.path.exists(words), f"there: {words}")
         elif name == "close":
