@@ -153,16 +153,13 @@ A faulty line is a message, and the status is the job's. With `--strict` it ends
 Without descriptors for a display, or without processes, there is none.
 
   $ export PYTHON=$(python3 -c 'import sys; print(sys.executable)') RUN=$(command -v prodash-run)
-  $ for it in 5 9 13 17; do
-  >   sh -c 'ulimit -n $0; exec $PYTHON -I -S $RUN -- sh -c "echo runs; exit 3"' $it 2>errors; echo $?
+  $ export JOB='echo "runs ${PRODASH_FD-alone}"; exit 3'
+  $ for it in 5 9; do
+  >   PRODASH_FD=8 sh -c 'ulimit -n $0; exec $PYTHON -I -S $RUN -- sh -c "$JOB"' $it 2>errors; echo $?
   > done
-  runs
+  runs alone
   3
-  runs
-  3
-  runs
-  3
-  runs
+  runs alone
   3
 
 A display that isn't there.

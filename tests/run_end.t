@@ -233,6 +233,29 @@ So they do if that process is killed: another takes its place.
   2 SIGINT
   3 SIGUSR2
 
+What is ignored from the start stays so, as below `nohup`.
+
+  $ cat >ignores <<'.'
+  > trap '' HUP; exec prodash-run -- sh -c 'echo ready; read _ <go; exit 3'
+  > .
+  $ { echo 'run sh ignores'; cat <<'.'; } | on-terminal 40 12
+  > until ready
+  > signal HUP
+  > one HUP
+  > tell go
+  > ended
+  > .
+  status 3
+
+If the process that leads the session of the job's own terminal is killed, the job is hung up.
+
+  $ { echo 'run prodash-run --pty -- sh -c "echo ready; read _ <go"'; cat <<'.'; } | on-terminal 40 8
+  > until ready
+  > kill KILL .*prodash-run
+  > ended
+  > .
+  signal SIGHUP
+
 A signal at the start ends the job, or `prodash run` before there is one.
 
   $ cat >early.py <<'.'

@@ -81,6 +81,27 @@ A message that is wider than the window goes on in the next row.
    build a message that is wider than the window of
   fifty columns
 
+A job that has switched off the terminal's carriage returns has none.
+
+  $ cat >stairs <<'.'
+  > . ./job
+  > stty -opost; printf 'one\ntwo'; next; stty opost
+  > .
+  $ on-terminal 50 8 <<'.'
+  > run prodash-run --no-color -- sh stairs
+  > until two
+  > until 3/10
+  > screen
+  > tell go
+  > ended
+  > modes
+  > .
+  one
+     two
+   build 3/10 files [========>---------------------]
+  status 0
+  same modes
+
 A line that isn't whole may be a prompt that was answered, if keys can be typed. So a message goes
 in below it. If what is typed is part of the output, or none can be, it goes in above the line.
 
@@ -243,10 +264,17 @@ Colours and other styles of the job go on behind the rows, and a sequence is nev
 
   $ cat >styles <<'.'
   > . ./job
+  > next; printf 'b\033]0;ti'; next; printf 'tle\007ack '; next
   > printf 'a\033[3'; next; printf '1mred\n'; next; printf 'still red\033[m\303'; next; printf '\244\n'; next
   > .
   $ { echo 'run prodash-run --no-color -- sh styles'; cat <<'.'; } | on-terminal 40 8
-  > until a
+  > until 3/10
+  > tell go
+  > until b
+  > tell go
+  > until ack
+  > tell go
+  > until back a
   > tell go
   > until red
   > until 3/10
@@ -265,12 +293,12 @@ Colours and other styles of the job go on behind the rows, and a sequence is nev
   plain
   31
   31
-  ared
+  back ared
   still red\xc3\xa4 (esc)
   
    build 3/10 files [=====>--------------]
   status 0
-  ared
+  back ared
   still red\xc3\xa4 (esc)
 
 On the page of a full screen there are no rows and no messages until it is left.

@@ -34,6 +34,8 @@ Without a terminal the job has the streams as they are, and its messages go to s
   out
   $ echo in | prodash-run sed 's/^/from /'
   from in
+  $ prodash-run sh -c 'yes | head -n 1'
+  y
 
 What the job has of the terminal depends on the streams that are one.
 
