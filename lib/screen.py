@@ -8,6 +8,8 @@ to the job and to what is typed.
 # cursor's place and its style; makes room below, which scrolls at the last row.
 ERASE_BELOW, ERASE_BEHIND, KEEP, RESTORE, ROOM = b"\x1b[J", b"\x1b[K", b"\x1b7", b"\x1b8", b"\x1bD"
 ERASE_LINE, PLAIN, NO_WRAP = b"\x1b[2K", b"\x1b[m", b"\x1b[?7l"
+# A synchronized update, whose output terminals that know it show at once. Others ignore it.
+BEGIN_UPDATE, END_UPDATE = b"\x1b[?2026h", b"\x1b[?2026l"
 # A full screen is drawn on a page of its own.
 FULL, NOT_FULL = b"\x1b[?1049h", b"\x1b[?1049l"
 # How much of a line is kept, more than a terminal has columns.
@@ -122,6 +124,10 @@ class Screen:
         return self.back() + erases
 
     def draw(self):
+        """Returns what draws the rows anew."""
+        return self.update(self.rows())
+
+    def rows(self):
         """Returns what draws the rows, on those that stand."""
         gap = bool(self.line or self.has_gap)
         room = self.count + gap
@@ -132,6 +138,10 @@ class Screen:
         begin = self.back() + (b"" if self.moves else ERASE_BEHIND)
         up = b"\x1b[%dA" % room
         return begin + ROOM * room + up + KEEP + PLAIN + b"\r\n" * gap + self.frame + RESTORE
+
+    def update(self, written):
+        """Returns output that is shown at once, if rows stand behind it."""
+        return BEGIN_UPDATE + written + END_UPDATE if self.is_drawn and written else written
 
     def tell(self):
         """Returns what prints the messages that wait above the job's line."""
@@ -152,7 +162,7 @@ class Screen:
         """Returns what a new frame writes."""
         messages, self.frame, self.count = parts(frame)
         self.held += messages
-        return (self.tell() if self.can_draw() else b"") + self.draw()
+        return self.update((self.tell() if self.can_draw() else b"") + self.rows())
 
     def without_full(self, seen):
         """Returns output without what is on the page of full screens.
@@ -171,7 +181,7 @@ class Screen:
 
     def put(self, output):
         """Returns what writes output of the job, between whole sequences also the rows."""
-        written = self.erase() + output
+        is_whole, written = not is_half(self.line), self.erase() + output
         line = self.without_full(self.line + output).rpartition(b"\n")[2]
         if not self.is_full:
             self.moves = reach(line)
@@ -179,7 +189,9 @@ class Screen:
             # from a carriage return on, if there is one
             line = line[max(line.find(b"\r", -LONG), len(line) - LONG) :]
         self.line = line
-        return written + (self.tell() if self.can_draw() else b"") + self.draw()
+        drawn = (self.tell() if self.can_draw() else b"") + self.rows()
+        # an update can't begin within a sequence
+        return self.update(written + drawn) if is_whole else written + self.update(drawn)
 
     def clear(self):
         """Returns what erases the rows for good and prints all messages."""

@@ -36,11 +36,13 @@ typed, and for what the script writes there by itself.
   > tell go
   > ended
   > screen
+  > updates
   > .
   
    build 3/10 files [==========>--------------------------]
   status 0
   
+  in updates
 
 A size that an option or the environment says stays, also if the terminal gets another one.
 

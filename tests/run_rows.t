@@ -16,7 +16,8 @@ of a named pipe, `go`. `say` writes an event line.
   > say set @a 3
   > .
 
-A job writes lines, then a line that isn't whole.
+A job writes lines, then a line that isn't whole. Rows are drawn in synchronized updates, so that they
+don't flicker.
 
   $ cat >lines <<'.'
   > . ./job
@@ -36,6 +37,7 @@ A job writes lines, then a line that isn't whole.
   > tell go
   > ended
   > screen
+  > updates
   > modes
   > .
   one
@@ -51,6 +53,7 @@ A job writes lines, then a line that isn't whole.
   status 0
   one
   two: 2
+  in updates
   same modes
 
 A message that is wider than the window goes on in the next row.

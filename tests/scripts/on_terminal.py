@@ -16,6 +16,7 @@ The steps are lines of standard input:
   fg, bg         the shell has the job go on, in the foreground or not
   signal NAME    sends a signal to the job's group, `one NAME` to its first process alone
   kill NAME P    sends a signal to the first child of the job's process whose words begin with P
+  updates        says whether all rows were drawn in synchronized updates, which have ended
   modes          says whether the modes of the terminal are those of the start
   raw            waits until it passes on each key at once
   file NAME      waits until there is a file
@@ -217,6 +218,9 @@ class Play:
                     self.send("one", words, "")
                 self.read()
             self.report(name)
+        elif name == "updates":
+            is_whole = not (self.window.flickers or self.window.is_updating)
+            print("in updates" if is_whole else "not in updates")
         elif name == "modes":
             print(self.same_modes())
         elif name == "raw":

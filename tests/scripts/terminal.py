@@ -25,6 +25,8 @@ class Terminal:
         self.row = self.column = 0
         self.kept, self.wraps, self.rest, self.style = (0, 0, ""), True, "", ""
         self.decoder = codecs.getincrementaldecoder("utf-8")("replace")
+        # whether a synchronized update goes on, and whether wrapping was off outside of one
+        self.is_updating, self.flickers = False, False
 
     def play(self, written):
         """Plays bytes. A sequence that isn't whole waits for its rest."""
@@ -64,6 +66,9 @@ class Terminal:
             self.erase(name, words)
         elif words == "?7":
             self.wraps = name == "h"
+            self.flickers = self.flickers or not (self.wraps or self.is_updating)
+        elif words == "?2026":
+            self.is_updating = name == "h"
         elif words == FULL:
             self.change_page(name == "h")
 
