@@ -116,6 +116,19 @@ Rows that wouldn't fit are left out, whatever LINES says.
    \xe2\x80\xa6 and 7 more (esc)
   status 0
 
+So they are once the terminal is too small.
+
+  $ sh many >lines & { echo "run live --no-color --rows 4 <lines"; cat <<'.'; } | on-terminal 60 8
+  > until more
+  > size 60 3
+  > gone more
+  > size 60 8
+  > until more
+  > tell go
+  > ended
+  > .
+  status 0
+
 With `--stdout` it is the terminal of standard output, whatever standard error is.
 
   $ play 'live --no-color --stdout 2>errors' <<'.'

@@ -308,7 +308,8 @@ On the page of a full screen there are no rows and no messages until it is left.
 
   $ cat >full <<'.'
   > . ./job
-  > echo one; next; printf 'abc\033[?1049h\033[Hfull'; say info @a - meanwhile; next; say set @a 4; next
+  > echo one; next; printf 'abc\033[?1049h\033[Hfull'; say info @a - meanwhile; next
+  > say info @a - also; say set @a 4; next
   > printf '\033[?1049l'; next
   > .
   $ { echo 'run prodash-run --no-color --fps 1000 -- sh full'; cat <<'.'; } | on-terminal 40 8
@@ -318,7 +319,7 @@ On the page of a full screen there are no rows and no messages until it is left.
   > tell go
   > screen
   > tell go
-  > until meanwhile
+  > until also
   > until 4/10
   > screen
   > tell go
@@ -329,12 +330,76 @@ On the page of a full screen there are no rows and no messages until it is left.
   one
   abc
    build meanwhile
+   build also
   
    build 4/10 files [=======>------------]
   status 0
   one
   abc
    build meanwhile
+   build also
+
+A message that waits is there at the end.
+
+  $ cat >waits <<'.'
+  > . ./job
+  > echo one; next; printf 'abc\033['; say info @a - last
+  > .
+  $ { echo 'run prodash-run --no-color -- sh waits'; cat <<'.'; } | on-terminal 40 8
+  > until 3/10
+  > tell go
+  > ended
+  > screen
+  > .
+  status 0
+  one
+  abc[
+   build last
+
+Below a line that reaches the last column, or may by its tabs, there are no rows, and a message goes in
+below it.
+
+  $ cat >wide <<'.'
+  > . ./job
+  > next; printf '\t\t\t\tlastcols'; next; echo; next
+  > printf '%050d' 0; next; say info @a - told; next; echo; next
+  > .
+  $ cat >widths <<'.'
+  > until 3/10
+  > tell go
+  > until lastcols
+  > gone 3/10
+  > tell go
+  > until 3/10
+  > tell go
+  > until 0000
+  > gone 3/10
+  > tell go
+  > until told
+  > tell go
+  > until 3/10
+  > screen
+  > tell go
+  > ended
+  > .
+  $ { echo 'run prodash-run --no-color -- sh wide'; cat widths; } | on-terminal 40 10
+                                  lastcols
+  0000000000000000000000000000000000000000
+  0000000000
+   build told
+  
+  
+   build 3/10 files [=====>--------------]
+  status 0
+  $ { echo 'run prodash-run --no-color --pty -- sh wide'; cat widths; } | on-terminal 40 10
+                                  lastcols
+  0000000000000000000000000000000000000000
+  0000000000
+   build told
+  0000000000000000000000000000000000000000
+  0000000000
+   build 3/10 files [=====>--------------]
+  status 0
 
 What moves the cursor up has no rows below it until its line ends.
 

@@ -53,11 +53,12 @@ for stuck.
 What is written meanwhile is all there after that, in its order.
 
   $ cat >holds <<'.'
-  > exec 3<>go
-  > echo one; read _ <&3; echo two; read _ <&3; echo three; read _ <&3; echo four; echo >done
+  > . ./job
+  > echo one; next; echo two; next; echo three; next; echo four; echo >done
   > .
-  $ { echo 'run prodash-run --no-color -- sh holds'; cat <<'.'; } | on-terminal 40 8
-  > until one
+  $ for it in : 'kill KILL prodash-live'; do
+  >   { printf 'run prodash-run --no-color -- sh holds\nuntil one\nuntil 3/10\n'
+  >   [ "$it" = : ] || printf '%s\ngone build\n' "$it"; cat <<'.'; } | on-terminal 60 8; rm done
   > keys \x13
   > tell go
   > tell go
@@ -67,11 +68,18 @@ What is written meanwhile is all there after that, in its order.
   > ended
   > screen
   > .
+  > done
   status 0
   one
   two
   three
   four
+  status 1
+  one
+  two
+  three
+  four
+  prodash run: the display was ended by signal 9
 
 How long it is stopped counts nowhere, also at the end.
 
