@@ -37,6 +37,15 @@ names a shell can't have.
   a.b={} d
   x=1
 
+It has the descriptors of a job, and runs also where output is closed.
+
+  $ prodash-run sh -c 'ls /proc/$$/fd' </dev/null >of-job
+  $ echo a | prodash each sh -c 'ls /proc/$$/fd' >of-command
+  $ cmp of-job of-command
+  $ echo a | prodash each sh -c 'echo "out of $1" >file' x >&-
+  $ cat file
+  out of a
+
 How a command fails is a message, and the status is that of xargs. A command that a signal has
 ended, or that exits with 255, is the last.
 
@@ -100,6 +109,12 @@ A line that no command can have.
   a
   prodash each: a line is longer than 131072 bytes
   [1]
+
+  $ printf 'a\n%0100000d\n' 1 | prodash each echo {} {} 2>told
+  a a
+  [1]
+  $ grep -c '^xargs: ' told
+  1
 
 Words that are wrong, and xargs that isn't there.
 
