@@ -61,6 +61,20 @@ One that is stuck is given up after two seconds, and the lines that it was to ta
   script: 0
   $ sed '$d' script >few; script=few
 
+So it is at the end.
+
+  $ play <<'.'
+  > until 3/10
+  > kill STOP prodash-live
+  > tell go
+  > tell go
+  > ended
+  > screen
+  > .
+  status 137
+  prodash live: the display was stuck
+  script: 0
+
 One that had nothing to take for as long isn't.
 
   $ { printf 'add @a 0 a\ninfo @a - one\n'; sleep 2.2; printf 'info @a - two\n'; } | live
@@ -181,6 +195,7 @@ Wrong options leave SIGINT to the script, too, and SIGTERM ends what reads.
   $ exec 3>lines
   $ until grep -qs error errors; do :; done
   $ kill -INT $!
+  $ yes '#' | head -n 100000 >&3
   $ kill -TERM $!
   $ wait $!
   Terminated

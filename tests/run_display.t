@@ -194,7 +194,7 @@ A fault of the script that writes the frames leaves none on the terminal, and th
   >         raise ValueError("no such frame")
   >     return parts(frame)
   > screen.parts = broken
-  > run.main("prodash-live", ["--no-color", "--", "sh", "job"])
+  > run.main("prodash-live", ["--no-color", "--", "sh", "-c", ". ./job; echo three"])
   > .
   $ { echo "run python3 faulty.py $scripts"; cat <<'.'; } | on-terminal 60 8
   > until 3/10
@@ -208,4 +208,5 @@ A fault of the script that writes the frames leaves none on the terminal, and th
   status 1
   one
   two
+  three
   prodash run: ValueError: no such frame
