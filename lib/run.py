@@ -252,9 +252,10 @@ class Run(Relay):
         """Returns whether a signal counts as one for the whole group, which the job got by itself.
 
         The system makes one of two signals of a kind that wait, here or at the sentinel, so they
-        can't be paired. So each that came within a moment of one for the group was for the group,
-        too. The job never gets more than was sent: at most one for this process alone is taken for
-        one with it, as the system does with those of a kind that follow at once.
+        can't be paired. So each that came within a moment of one for the group counts as one for
+        the group. The job gets from the group what it gets without this process, and never more. A
+        signal for this process alone at that moment is lost, as the system itself makes one of two
+        that follow at once.
         """
         told = self.told.get(it.number)
         return told is not None and it.came < told + ALONE

@@ -1,8 +1,8 @@
 prodash live: what fails
 ========================
 
-Whatever becomes of the display, the script that writes the lines goes on: what it writes is read and
-left out. At the end one line says what has failed, and the status isn't 0.
+Whatever becomes of the display, the script that writes the lines goes on: what it writes is read
+and left out. At the end one line says what has failed, and the status isn't 0.
 
 `on-terminal` plays steps on a terminal, and `live` is `prodash live`. It reads a named pipe, into
 which a script writes that waits for lines of another one, `go`. Then it writes more than two pipes
@@ -282,8 +282,8 @@ Without descriptors there is no display.
   1
   the script: 0
 
-Faulty lines are reported as ever, and with `--strict` the first one ends the script as well: nothing
-reads any more.
+Faulty lines are reported as ever, and with `--strict` the first one ends the script as well:
+nothing reads any more.
 
   $ { echo foo; more 2>written; } | live
    \xe2\x9c\x97 input line 1: unknown command "foo", in: foo (esc)

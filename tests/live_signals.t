@@ -132,7 +132,7 @@ So does its end.
   status 0
 
 SIGTERM and SIGHUP end the input: the lines that have arrived are taken, and an incomplete one is
-left out. `TERM` and the lines are there when it goes on.
+left out. The signal and the lines are there when it goes on.
 
   $ for it in TERM HUP; do
   >   live --stdout <lines >output &
