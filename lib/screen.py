@@ -65,8 +65,13 @@ def reach(line):
     return found
 
 
+def at_once(written):
+    """Returns output that the terminal shows at once."""
+    return BEGIN_UPDATE + written + END_UPDATE
+
+
 class Messages:
-    """Messages alone, and a job's output as it is."""
+    """Frames with messages alone, or for what is no terminal, and a job's output as it is."""
 
     is_shown = True
 
@@ -77,7 +82,7 @@ class Messages:
         return output
 
     def take(self, frame):
-        return frame
+        return at_once(frame) if NO_WRAP in frame else frame
 
     def nothing(self, *_):
         return b""
@@ -141,7 +146,7 @@ class Screen:
 
     def update(self, written):
         """Returns output that is shown at once, if rows stand behind it."""
-        return BEGIN_UPDATE + written + END_UPDATE if self.is_drawn and written else written
+        return at_once(written) if self.is_drawn and written else written
 
     def tell(self):
         """Returns what prints the messages that wait above the job's line."""

@@ -197,8 +197,7 @@ Wrong options leave SIGINT to the script, too, and SIGTERM ends what reads.
   $ kill -INT $!
   $ yes '#' | head -n 100000 >&3
   $ kill -TERM $!
-  $ wait $!
-  Terminated
+  $ wait $! 2>/dev/null
   [143]
   $ exec 3>&-
 
