@@ -119,14 +119,18 @@ class Screen:
         """Returns what moves the cursor back to the rows from behind what was typed, as ^C."""
         return b"" if self.line or self.has_gap else b"\r"
 
+    def begin(self):
+        """Returns what erases a row that the cursor stands in, before what erases those below."""
+        # the line may have text behind the cursor
+        return self.back() + (b"" if self.moves else ERASE_BEHIND)
+
     def erase(self):
         """Returns what erases the rows, if they stand."""
         if not self.is_drawn:
             return b""
         self.is_drawn = False
-        # the line may have text behind the cursor
-        erases = KEEP + b"\r\n" + ERASE_BELOW + RESTORE if self.moves else ERASE_BELOW
-        return self.back() + erases
+        # some terminals keep what is erased from the window's first cell on
+        return self.begin() + KEEP + b"\r\n" + ERASE_BELOW + RESTORE
 
     def draw(self):
         """Returns what draws the rows anew."""
@@ -140,7 +144,7 @@ class Screen:
         if not can_draw or not self.count:
             return self.erase()
         self.is_drawn = True
-        begin = self.back() + (b"" if self.moves else ERASE_BEHIND)
+        begin = self.begin()
         up = b"\x1b[%dA" % room
         return begin + ROOM * room + up + KEEP + PLAIN + b"\r\n" * gap + self.frame + RESTORE
 

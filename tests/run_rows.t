@@ -56,6 +56,24 @@ don't flicker.
   in updates
   same modes
 
+Nothing is erased from the window's first cell on, since tmux keeps that above the window.
+
+  $ cat >first <<'.'
+  > . ./job
+  > next; echo one; next
+  > .
+  $ on-terminal 50 8 <<'.'
+  > run prodash-run --no-color -- sh first
+  > until 3/10
+  > tell go
+  > until one
+  > tell go
+  > ended
+  > all
+  > .
+  status 0
+  one
+
 A message that is wider than the window goes on in the next row.
 
   $ cat >wide <<'.'

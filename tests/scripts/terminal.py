@@ -78,6 +78,11 @@ class Terminal:
         if words == "2" and name == "J":
             self.rows = [[] for _ in self.rows]
             return
+        if name == "J" and (self.row, self.column) == (0, 0):
+            # tmux keeps what is erased then
+            self.above += self.rows[: len(self.lines())]
+            self.rows = [[] for _ in self.rows]
+            return
         del self.rows[self.row][0 if words == "2" else column :]
         if name == "J":
             for it in self.rows[self.row + 1 :]:
