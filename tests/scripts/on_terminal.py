@@ -195,11 +195,8 @@ class Play:
             self.wait(lambda: words in "\n".join(self.window.lines()), f"shown: {words}")
         elif name == "gone":
             self.wait(lambda: words not in "\n".join(self.window.lines()), f"gone: {words}")
-        elif name in ("screen", "all"):
-            self.settle()
-            print(*getattr(self.window, "lines" if name == "screen" else "all_lines")(), sep="\n")
-        elif name == "style":
-            print(self.window.style_of(words))
+        elif name in ("screen", "all", "style", "updates", "modes"):
+            self.show(name, words)
         elif name == "keys":
             os.write(self.ours, words.encode().decode("unicode_escape").encode())
         elif name == "tell":
@@ -218,11 +215,6 @@ class Play:
                     self.send("one", words, "")
                 self.read()
             self.report(name)
-        elif name == "updates":
-            is_whole = not (self.window.flickers or self.window.is_updating)
-            print("in updates" if is_whole else "not in updates")
-        elif name == "modes":
-            print(self.same_modes())
         elif name == "raw":
             self.wait(lambda: not termios.tcgetattr(self.theirs)[3] & termios.ICANON, "raw")
         elif name == "file":
@@ -231,6 +223,20 @@ class Play:
             self.close()
         else:
             self.send(name, first, rest)
+
+    def show(self, name, words):
+        """Prints what a step asks for."""
+        if name == "style":
+            print(self.window.style_of(words))
+        elif name == "updates":
+            is_whole = not (self.window.flickers or self.window.is_updating)
+            print("in updates" if is_whole else "not in updates")
+        elif name == "modes":
+            print(self.same_modes())
+        else:
+            self.settle()
+            lines = self.window.lines if name == "screen" else self.window.all_lines
+            print(*lines(), sep="\n")
 
     def send(self, name, signal_name, child):
         """Sends a signal."""
