@@ -21,7 +21,7 @@ written, as where the output is no terminal. `--terminal always` writes frames a
    task a\r (esc)
    \xe2\x9c\x93 task b\r (esc)
    \xe2\x9c\x97 task c\r (esc)
-  $ on_terminal 'unset TERM; exec prodash-live --terminal auto <said' | head -n 1
+  $ on_terminal 'unset TERM; exec prodash-live --terminal auto <said' | sed -n 1p
    task a\r (esc)
   $ on_terminal 'TERM=dumb NO_COLOR=1 exec prodash-live --terminal always <said' | grep -c '\[1A task a'
   1
@@ -32,15 +32,15 @@ Colours
 `CLICOLOR_FORCE` and `FORCE_COLOR` enable colours off a terminal too. `NO_COLOR` and `--no-color`
 disable them whatever these say, and `CLICOLOR=0` unless one of these says otherwise.
 
-  $ CLICOLOR_FORCE=1 prodash-live --stdout <said | head -n 1
+  $ CLICOLOR_FORCE=1 prodash-live --stdout <said | sed -n 1p
    \x1b[2mtask\x1b[0m \x1b[1;37ma\x1b[0m (esc)
-  $ FORCE_COLOR=true CLICOLOR=0 prodash-live --stdout <said | head -n 1
+  $ FORCE_COLOR=true CLICOLOR=0 prodash-live --stdout <said | sed -n 1p
    \x1b[2mtask\x1b[0m \x1b[1;37ma\x1b[0m (esc)
-  $ CLICOLOR_FORCE=0 FORCE_COLOR=false prodash-live --stdout <said | head -n 1
+  $ CLICOLOR_FORCE=0 FORCE_COLOR=false prodash-live --stdout <said | sed -n 1p
    task a
-  $ NO_COLOR=1 CLICOLOR_FORCE=1 prodash-live --stdout <said | head -n 1
+  $ NO_COLOR=1 CLICOLOR_FORCE=1 prodash-live --stdout <said | sed -n 1p
    task a
-  $ CLICOLOR_FORCE=1 prodash-live --stdout --no-color <said | head -n 1
+  $ CLICOLOR_FORCE=1 prodash-live --stdout --no-color <said | sed -n 1p
    task a
   $ on_terminal 'CLICOLOR=0 exec prodash-live <said' | grep -c '\[1A task a'
   1

@@ -15,7 +15,7 @@ What isn't part of a frame has no mark behind it.
   $ printf 'foo\n' | prodash-live --marks --strict
   \x00line 1: unknown command "foo", in: foo (esc)
   [2]
-  $ prodash-live --marks --rows 0 </dev/null 2>&1 | head -n 1
+  $ prodash-live --marks --rows 0 </dev/null 2>&1 | sed -n 1p
   error: invalid value '0' for '--rows', which takes a number from 1 to 65535
   $ prodash-live --marks --record nowhere/file </dev/null
   cannot write nowhere/file: No such file or directory (os error 2)

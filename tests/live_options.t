@@ -52,7 +52,7 @@ The version, the help, and what is refused.
   $ prodash-live --version >/dev/full
   output is broken
   [1]
-  $ prodash-live --rows 0 --strict=yes script --help | head -n 1
+  $ prodash-live --rows 0 --strict=yes script --help | sed -n 1p
   Shows progress on a terminal from the event lines of standard input
   $ prodash-live --rows 0
   error: invalid value '0' for '--rows', which takes a number from 1 to 65535
