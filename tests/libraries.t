@@ -268,7 +268,8 @@ one task.
   200 inc @ 1
   200 init @ 10 files
 
-Below `prodash run`, where a child of Python needs the descriptor.
+Below `prodash run`, where a child of Python needs the descriptor. Rows are aligned with those of the
+frame before, whichever that was.
 
   $ export TERM=xterm
   $ unset COLUMNS LINES NO_COLOR
@@ -295,7 +296,7 @@ Below `prodash run`, where a child of Python needs the descriptor.
   >         subprocess.run([*words, "lost"])
   >         subprocess.run([*words, "here"], pass_fds=pass_fds())
   > .
-  $ on-terminal 60 8 <<'.'
+  $ on-terminal 60 8 <<'.' | sed 's/\([^ ]\)  */\1 /g'
   > run prodash-run --no-color -- sh rows.sh
   > until compress 1/3
   > screen
@@ -307,8 +308,8 @@ Below `prodash run`, where a child of Python needs the descriptor.
    rows.sh half of it
   
    compress 1/3 files [============>------------------------]
-    part 1       1/10 [===>---------------------------------]
-    part 2       2/10 [=======>-----------------------------]
+    part 1 1/10 [===>---------------------------------]
+    part 2 2/10 [=======>-----------------------------]
   status 0
    child here
    rows.sh half of it
