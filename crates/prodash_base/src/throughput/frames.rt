@@ -1,8 +1,8 @@
 //! The throughput of the rows of frames that may be refused.
-ghost use Rattle.std.specs.Prelude.{◌≡◌, ◌≤◌, ◌+◌, length, OnOk, OnErr, IfOk, IsOkUnless};
+ghost use Rattle.std.specs.Prelude.{◌≡◌, ◌≤◌, ◌+◌, length, OnOk, OnErr, IfOk, IsSome, IsOkUnless};
 ghost use Rattle.prodash_base.specs.Rows.{rows_of};
 ghost use Rattle.prodash_base.specs.Held.{AreFew};
-ghost use Rattle.prodash_base.specs.Trackers.{throughput_of, held_samples, HoldsRecent};
+ghost use Rattle.prodash_base.specs.Trackers.{observation_of, throughput_of, held_samples, HoldsRecent};
 ghost use Rattle.prodash_base.specs.FrameTrackers.{new_frame_tracker, begin, observe_pending, keep};
 
 use crate::progress::{Key, Row, Step};
@@ -145,6 +145,7 @@ impl FrameThroughput {
         ensures ok { OnOk result (self.new ≡ observe_pending self.old key.now step) }
         ensures err { OnErr result (self.new ≡ self.old) }
         ensures reason { IsOkUnless result Refusal.Memory }
+        ensures recorded { OnErr result (IsSome (observation_of self.old.pending.elapsed step)) }
         ensures held { HoldsRecent self.new.pending key.now }
         ensures bound { AreFew (held_samples self.new.pending key.now) }
         ensures bound_before { AreFew (held_samples self.new.kept key.now) }
