@@ -1,15 +1,12 @@
 -- What a page shows of the inputs to one renderer that erases rows, for any widths of characters.
-use Rattle.std.proofs.Common.{◌≡◌, ℕ, ◌+◌, ◌<◌, ◌≤◌, Bool, true, false, List, [], ◌∷◌, ◌++◌, length, map, take, drop, refl, sym, ap, subst, ◌∙◌, append_assoc, append-nil, length-append, Result, Ok, Err, Some, None, ⊎_elim, inl, inr, arith}
+use Rattle.std.proofs.Common.{◌≡◌, ℕ, ◌+◌, ◌<◌, ◌≤◌, Bool, true, false, List, [], ◌∷◌, ◌++◌, length, map, take, drop, refl, sym, ap, subst, ◌∙◌, append_assoc, append-nil, length-append, Some, None, ⊎_elim, inl, inr, arith}
 use Rattle.std.specs.Prelude.{replicate}
 use Rattle.std.specs.List.{AllByRecursion}
 use Rattle.std.proofs.lemmas.List.{map-append, length-take-le}
 use Rattle.std.proofs.lemmas.Grind.{flat_map-append}
 use Rattle.std.proofs.Math.Seq.{take-append_seam}
-use Rattle.prodash_base.specs.declared.refusal.Refusal.{Refusal}
-use Rattle.prodash_base.specs.declared.refusal.Refusal.TheVariants as refusals
 use Rattle.prodash_line.specs.declared.render.line.draw.input.Input.{Input}
 use Rattle.prodash_line.specs.declared.render.line.draw.input.Input.TheVariants.{Tick, Resize, Quit}
-use Rattle.prodash_line.specs.declared.render.line.draw.input.Answer.{Answer}
 use Rattle.prodash_line.specs.declared.render.line.draw.input.Options.{Options}
 use Rattle.prodash_line.specs.Lines.{Line, line_text}
 use Rattle.prodash_line.specs.DrawnLines.{erases_rows}
@@ -19,13 +16,13 @@ use Rattle.prodash_line.specs.Terminals.{Terminal, terminal_after}
 use Rattle.prodash_line.specs.Reading.{AreProper}
 use Rattle.prodash_line.specs.Renderer.{Renderer, remember, frame_at}
 use Rattle.prodash_line.specs.Screens.{ScreenState}
-use Rattle.prodash_line.specs.Renderings.{Rendering, after_result, renderer_after, Attempt, attempt_of, attempts_of, frames_of, drawn_frames, KeepsSize}
+use Rattle.prodash_line.specs.Renderings.{Rendering, renderer_after, attempts_of, drawn_frames, KeepsSize}
 use Rattle.prodash_line.specs.plumbing.RenderedInputs.{RendersAll}
 use Rattle.prodash_line.specs.ErasedPages.{HasSize, line_row, line_rows, message_rows, ShowsErased, ShowsBody, HasScalars, ShowsSince, FitsTerminal, ShowsErasing}
 use Rattle.prodash_line.specs.Signs.{IsProper}
 use Rattle.prodash_line.proofs.Lists.{AllByRecursion-append, AllByRecursion-map, AllByRecursion-take}
 use Rattle.prodash_line.proofs.TerminalRows.{terminal_after-append}
-use Rattle.prodash_line.proofs.Renderings.{writes_attempts}
+use Rattle.prodash_line.proofs.Renderings.{writes_attempts, frames_after, options_after}
 use Rattle.prodash_line.proofs.PageRenderings.{running_not_broken, all_written, writes_signs, signs_of-take}
 use Rattle.prodash_line.proofs.ErasedPages.{ErasesRows, shows_frame}
 use Rattle.prodash_line.proofs.ErasedRenderings.{frame_erases, erased_proper}
@@ -136,17 +133,6 @@ still width height whole r (Tick at show None) k h = h
 still width height whole r (Resize at show columns rows) k h = record { erasing = h.erasing; messages = h.messages; rows = k.1 }
 still width height whole r (Quit at) k h = h
 
-still_after : (width height : ℕ) (whole : Bool) (r : Renderer) (input : Input) (result : Result Answer Refusal) → KeepsSize width height input → Erases height whole r.options
-    → Erases height whole (after_result r input result).options
-still_after width height whole r input (Ok answer) k h = still width height whole r input k h
-still_after width height whole r input (Err refusals.Broken) k h = h
-still_after width height whole r input (Err refusals.Memory) k h = h
-still_after width height whole r input (Err refusals.Closed) k h = h
-still_after width height whole r input (Err refusals.Gone) k h = h
-still_after width height whole r input (Err refusals.TooManyMessages) k h = h
-still_after width height whole r input (Err refusals.TooManyHandles) k h = h
-still_after width height whole r input (Err refusals.NoThread) k h = h
-
 -- a frame that such a renderer draws: it erases rows, and its signs are proper if its characters are scalar values
 record ErasesProperly (height : ℕ) (whole : Bool) (f : Frame) : Type 0 where
   erases : ErasesRows height whole f
@@ -163,24 +149,12 @@ erases_at width height whole r input high k h =
       proper = λ widths. erased_proper r input widths h.erasing;
     }
 
--- with the frames after it
-then_each : (P : Frame → Type 0) (frame : Frame) (result : Result Answer Refusal) (attempts : List Attempt) → P frame
-    → AllByRecursion P (frames_of attempts) → AllByRecursion P (frames_of (attempt_of frame result ++ attempts))
-then_each P frame (Ok answer) attempts one others = (one, others)
-then_each P frame (Err refusals.Broken) attempts one others = (one, others)
-then_each P frame (Err refusals.Memory) attempts one others = others
-then_each P frame (Err refusals.Closed) attempts one others = others
-then_each P frame (Err refusals.Gone) attempts one others = others
-then_each P frame (Err refusals.TooManyMessages) attempts one others = others
-then_each P frame (Err refusals.TooManyHandles) attempts one others = others
-then_each P frame (Err refusals.NoThread) attempts one others = others
-
 all_erase : (width height : ℕ) (whole : Bool) (r : Renderer) (xs : List Rendering) → 0 < height → AllByRecursion (λ x. KeepsSize width height x.input) xs → Erases height whole r.options
     → AllByRecursion (ErasesProperly height whole) (drawn_frames r xs)
 all_erase width height whole r [] high k h = tt
 all_erase width height whole r (x ∷ xs) high k h =
-    then_each (ErasesProperly height whole) (frame_at r x.input) x.result (attempts_of (renderer_after r x) xs) (erases_at width height whole r x.input high k.0 h)
-    (all_erase width height whole (renderer_after r x) xs high k.1 (still_after width height whole r x.input x.result k.0 h))
+    frames_after (ErasesProperly height whole) (frame_at r x.input) x.result (attempts_of (renderer_after r x) xs) (erases_at width height whole r x.input high k.0 h)
+    (all_erase width height whole (renderer_after r x) xs high k.1 (options_after (Erases height whole) r x.input x.result h (still width height whole r x.input k.0 h)))
 
 all_proper : (height : ℕ) (whole : Bool) (lines : List Line) (frames : List Frame) → AllByRecursion (ErasesProperly height whole) frames → AllByRecursion HasScalars frames → AreProper (signs_of lines frames)
 all_proper height whole lines [] erase scalars = tt

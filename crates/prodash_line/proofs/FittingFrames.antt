@@ -1,16 +1,13 @@
 -- The lines of a terminal's frames are no wider than the terminal, since they are cut to its width.
-use Rattle.std.proofs.Common.{◌≡◌, ℕ, ◌-◌, ◌≤◌, nat_eq, nat_lt, Bool, true, false, cond, List, [], ◌∷◌, ◌++◌, length, refl, sym, ap, subst, ◌∙◌, Option, Some, None, Result, Ok, Err}
+use Rattle.std.proofs.Common.{◌≡◌, ℕ, ◌-◌, ◌≤◌, nat_eq, nat_lt, Bool, true, false, cond, List, [], ◌∷◌, ◌++◌, length, refl, sym, ap, subst, ◌∙◌, Option, Some, None}
 use Rattle.std.specs.Prelude.{⊤, ◌||◌, MatchBool}
 use Rattle.std.specs.Bool.{then_some}
 use Rattle.std.specs.List.{AllByRecursion}
 use Rattle.prodash_base.specs.Rows.{PathRow}
 use Rattle.prodash_base.specs.declared.messages.Message.{Message}
-use Rattle.prodash_base.specs.declared.refusal.Refusal.{Refusal}
-use Rattle.prodash_base.specs.declared.refusal.Refusal.TheVariants as refusals
 use Rattle.prodash_line.specs.declared.render.line.draw.input.Options.{Options}
 use Rattle.prodash_line.specs.declared.render.line.draw.input.Input.{Input}
 use Rattle.prodash_line.specs.declared.render.line.draw.input.Input.TheVariants.{Tick, Resize, Quit}
-use Rattle.prodash_line.specs.declared.render.line.draw.input.Answer.{Answer}
 use Rattle.prodash_line.specs.declared.render.line.draw.action.Action.{Action}
 use Rattle.prodash_line.specs.declared.render.line.draw.action.Action.TheVariants.{Leave, Redraw, Erase, Close}
 use Rattle.prodash_line.specs.declared.render.line.page.sign.Sign.{Sign}
@@ -21,9 +18,10 @@ use Rattle.prodash_line.specs.MessageLines.{message_line, message_lines, origin_
 use Rattle.prodash_line.specs.Frames.{Body, Unchanged, Draws, Closes, Frame}
 use Rattle.prodash_line.specs.Fits.{LineFits, LinesFit, BodyFits, FrameFits}
 use Rattle.prodash_line.specs.Renderer.{Renderer, Drawing, ending_of, drawn_rows, fitting_rows, drawn_lines, drawing_at, latest_rows, remember, moment_of, action_at, printed_at, body_of, frame_at}
-use Rattle.prodash_line.specs.Renderings.{Rendering, after_result, renderer_after, Attempt, attempt_of, attempts_of, frames_of, drawn_frames, KeepsSize}
+use Rattle.prodash_line.specs.Renderings.{Rendering, renderer_after, attempts_of, drawn_frames, KeepsSize}
 use Rattle.prodash_line.proofs.Cutting.{cut_within}
 use Rattle.prodash_line.proofs.Lists.{AllByRecursion-append}
+use Rattle.prodash_line.proofs.Renderings.{frames_after, options_after}
 
 -- if lines are cut, they are no wider than this
 abbrev pub IsWithin : Bool → ℕ → Line → Type 0
@@ -142,34 +140,12 @@ frame_cut r input e =
 
 -- ---- the frames of a list of inputs
 
-size_after : (cut : Bool) (columns height : ℕ) (r : Renderer) (input : Input) (result : Result Answer Refusal) → KeepsSize columns height input → HasWidth cut columns r.options
-    → HasWidth cut columns (after_result r input result).options
-size_after cut columns height r input (Ok answer) k h = size_kept cut columns height r input k h
-size_after cut columns height r input (Err refusals.Broken) k h = h
-size_after cut columns height r input (Err refusals.Memory) k h = h
-size_after cut columns height r input (Err refusals.Closed) k h = h
-size_after cut columns height r input (Err refusals.Gone) k h = h
-size_after cut columns height r input (Err refusals.TooManyMessages) k h = h
-size_after cut columns height r input (Err refusals.TooManyHandles) k h = h
-size_after cut columns height r input (Err refusals.NoThread) k h = h
-
-then_within : (cut : Bool) (columns : ℕ) (frame : Frame) (result : Result Answer Refusal) (attempts : List Attempt) → FrameWithin cut columns frame
-    → AllByRecursion (FrameWithin cut columns) (frames_of attempts) → AllByRecursion (FrameWithin cut columns) (frames_of (attempt_of frame result ++ attempts))
-then_within cut columns frame (Ok answer) attempts h hs = (h, hs)
-then_within cut columns frame (Err refusals.Broken) attempts h hs = (h, hs)
-then_within cut columns frame (Err refusals.Memory) attempts h hs = hs
-then_within cut columns frame (Err refusals.Closed) attempts h hs = hs
-then_within cut columns frame (Err refusals.Gone) attempts h hs = hs
-then_within cut columns frame (Err refusals.TooManyMessages) attempts h hs = hs
-then_within cut columns frame (Err refusals.TooManyHandles) attempts h hs = hs
-then_within cut columns frame (Err refusals.NoThread) attempts h hs = hs
-
 frames_within : (cut : Bool) (columns height : ℕ) (r : Renderer) (xs : List Rendering) → AllByRecursion (λ x. KeepsSize columns height x.input) xs → HasWidth cut columns r.options
     → AllByRecursion (FrameWithin cut columns) (drawn_frames r xs)
 frames_within cut columns height r [] k h = tt
 frames_within cut columns height r (x ∷ xs) k h =
-    then_within cut columns (frame_at r x.input) x.result (attempts_of (renderer_after r x) xs) (frame_within cut columns height r x.input k.0 h)
-    (frames_within cut columns height (renderer_after r x) xs k.1 (size_after cut columns height r x.input x.result k.0 h))
+    frames_after (FrameWithin cut columns) (frame_at r x.input) x.result (attempts_of (renderer_after r x) xs) (frame_within cut columns height r x.input k.0 h)
+    (frames_within cut columns height (renderer_after r x) xs k.1 (options_after (HasWidth cut columns) r x.input x.result h (size_kept cut columns height r x.input k.0 h)))
 
 -- ---- what fits
 

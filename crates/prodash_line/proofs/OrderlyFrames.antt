@@ -1,22 +1,20 @@
 -- Frames whose first and last signs change nothing on a page, and whose styles have codes, as those of a renderer do.
-use Rattle.std.proofs.Common.{ℕ, ◌-◌, Bool, true, false, cond, List, [], ◌∷◌, ◌++◌, length, Some, None, Result, Ok, Err}
+use Rattle.std.proofs.Common.{ℕ, ◌-◌, Bool, true, false, cond, List, [], ◌∷◌, ◌++◌, length, Some, None}
 use Rattle.std.specs.Prelude.{⊤}
 use Rattle.std.specs.List.{AllByRecursion}
 use Rattle.prodash_base.specs.Rows.{PathRow}
-use Rattle.prodash_base.specs.declared.refusal.Refusal.{Refusal}
-use Rattle.prodash_base.specs.declared.refusal.Refusal.TheVariants as refusals
 use Rattle.prodash_line.specs.declared.render.line.draw.input.Input.{Input}
 use Rattle.prodash_line.specs.declared.render.line.draw.input.Input.TheVariants.{Tick, Resize, Quit}
-use Rattle.prodash_line.specs.declared.render.line.draw.input.Answer.{Answer}
 use Rattle.prodash_line.specs.declared.render.line.page.sign.Sign.{Sign}
 use Rattle.prodash_line.specs.declared.render.line.page.sign.Sign.TheVariants.{CarriageReturn, EraseLine, HideCursor, ShowCursor}
 use Rattle.prodash_line.specs.Frames.{Body, Unchanged, Draws, Closes, Frame}
 use Rattle.prodash_line.specs.declared.render.line.draw.action.Action.{Action}
 use Rattle.prodash_line.specs.declared.render.line.draw.action.Action.TheVariants.{Leave, Redraw, Erase, Close}
 use Rattle.prodash_line.specs.Renderer.{Renderer, Drawing, hides_cursor, is_cursor_hidden, erases_at_end, ending_of, drawn_rows, fitting_rows, drawn_lines, latest_rows, remember, moment_of, drawing_at, action_at, printed_at, body_of, frame_at}
-use Rattle.prodash_line.specs.Renderings.{Rendering, renderer_after, Attempt, attempt_of, attempts_of, frames_of, drawn_frames}
+use Rattle.prodash_line.specs.Renderings.{Rendering, renderer_after, attempts_of, drawn_frames}
 use Rattle.prodash_line.specs.ProgressRows.{row_lines, more_lines}
 use Rattle.prodash_line.proofs.Lists.{AllByRecursion-append}
+use Rattle.prodash_line.proofs.Renderings.{frames_after}
 use Rattle.prodash_line.proofs.StyledLines.{HasCodes, HaveCodes, rows_have, more_have, messages_have}
 use Rattle.prodash_line.proofs.UnseenSigns.{IsUnseen}
 
@@ -81,19 +79,7 @@ orderly_at r input =
       body = body_ends (action_at r input) (drawing_at r input) r (lines_have r' (moment_of input) (latest_rows r'.last_rows));
     }
 
--- with the frames after it
-then_orderly : (frame : Frame) (result : Result Answer Refusal) (attempts : List Attempt) → IsOrderly frame
-    → AllByRecursion IsOrderly (frames_of attempts) → AllByRecursion IsOrderly (frames_of (attempt_of frame result ++ attempts))
-then_orderly frame (Ok answer) attempts h hs = (h, hs)
-then_orderly frame (Err refusals.Broken) attempts h hs = (h, hs)
-then_orderly frame (Err refusals.Memory) attempts h hs = hs
-then_orderly frame (Err refusals.Closed) attempts h hs = hs
-then_orderly frame (Err refusals.Gone) attempts h hs = hs
-then_orderly frame (Err refusals.TooManyMessages) attempts h hs = hs
-then_orderly frame (Err refusals.TooManyHandles) attempts h hs = hs
-then_orderly frame (Err refusals.NoThread) attempts h hs = hs
-
 -- the frames of a list of inputs
 pub orderly_frames : (r : Renderer) (xs : List Rendering) → AllByRecursion IsOrderly (drawn_frames r xs)
 orderly_frames r [] = tt
-orderly_frames r (x ∷ xs) = then_orderly (frame_at r x.input) x.result (attempts_of (renderer_after r x) xs) (orderly_at r x.input) (orderly_frames (renderer_after r x) xs)
+orderly_frames r (x ∷ xs) = frames_after IsOrderly (frame_at r x.input) x.result (attempts_of (renderer_after r x) xs) (orderly_at r x.input) (orderly_frames (renderer_after r x) xs)

@@ -1,22 +1,24 @@
 -- What a list of inputs to one renderer writes.
 use Rattle.std.proofs.Common.{◌≡◌, ℕ, Bool, true, false, cond, List, [], ◌∷◌, ◌++◌, length, take, refl, sym, ap, subst, ◌∙◌, append_assoc, append-nil, Result, Ok, Err, Option, Some, None, ⊎_elim, inl, inr, arith}
 use Rattle.std.specs.Prelude.{⊤, IsTrue, drop}
+use Rattle.std.specs.List.{AllByRecursion}
 use Rattle.std.proofs.lemmas.List.{drop-map, nil_from_length}
 use Rattle.std.proofs.lemmas.Bool.{false_from_ne_true}
 use Rattle.std.proofs.lemmas.Bool.Decides.{nat_tests}
 use Rattle.prodash_base.specs.declared.refusal.Refusal.{Refusal}
 use Rattle.prodash_base.specs.declared.refusal.Refusal.TheVariants as refusals
+use Rattle.prodash_line.specs.declared.render.line.draw.input.Options.{Options}
 use Rattle.prodash_line.specs.declared.render.line.draw.input.Input.{Input}
 use Rattle.prodash_line.specs.declared.render.line.draw.input.Answer.{Answer}
 use Rattle.prodash_line.specs.Signs.{spelling}
 use Rattle.prodash_line.specs.Lines.{Line, columns_of}
-use Rattle.prodash_line.specs.Frames.{frame_signs, lines_after, body_lines, widths_of}
+use Rattle.prodash_line.specs.Frames.{Frame, frame_signs, lines_after, body_lines, widths_of}
 use Rattle.prodash_line.specs.declared.render.line.page.sign.Sign.{Sign}
 use Rattle.prodash_line.specs.declared.render.line.draw.action.Action.{Action}
 use Rattle.prodash_line.specs.declared.render.line.draw.action.Action.TheVariants.{Leave, Redraw, Erase, Close}
-use Rattle.prodash_line.specs.Renderer.{Renderer, Renders, Drawing, frame_at, frame_bytes, next_renderer, action_at, drawing_at, printed_at, ending_of, body_of, state_after}
+use Rattle.prodash_line.specs.Renderer.{Renderer, Renders, Drawing, remember, frame_at, frame_bytes, next_renderer, action_at, drawing_at, printed_at, ending_of, body_of, state_after}
 use Rattle.prodash_line.specs.Screens.{ScreenState, WritesFrame, has_bytes}
-use Rattle.prodash_line.specs.Renderings.{Rendering, after_result, renderer_after, RendersEach, BreaksExactly, FlushesFrame, attempt_of, attempts_of, bytes_over, AllBroken, WritesAttempts}
+use Rattle.prodash_line.specs.Renderings.{Rendering, after_result, renderer_after, RendersEach, BreaksExactly, FlushesFrame, Attempt, attempt_of, attempts_of, frames_of, bytes_over, AllBroken, WritesAttempts}
 use Rattle.prodash_line.specs.plumbing.RenderedInputs.{RendersAll}
 
 -- what holds of each rendering by itself holds of each in a list
@@ -223,3 +225,29 @@ pub writes_attempts : (r : Renderer) (s : ScreenState) (xs : List Rendering) (s'
     → (bytes : List ℕ) × (s'.bytes ≡ s.bytes ++ bytes) × WritesAttempts lines (attempts_of r xs) bytes
 writes_attempts r s [] s' lines h same = ([], ap (λ q. q.bytes) h ∙ sym (append-nil s.bytes), refl)
 writes_attempts r s (x ∷ xs) s' lines h same = writes_step r s x.input x.result h.0 xs s' lines same h.1 h.3 (λ ls e. writes_attempts (renderer_after r x) h.0 xs s' ls h.3 e)
+
+-- ---- what holds after an input
+
+-- of the options, if it holds of them and of those with what is remembered of the input
+pub options_after : (P : Options → Type 0) (r : Renderer) (input : Input) (result : Result Answer Refusal) → P r.options → P (remember r input).options
+    → P (after_result r input result).options
+options_after P r input (Ok answer) old new = new
+options_after P r input (Err refusals.Broken) old new = old
+options_after P r input (Err refusals.Memory) old new = old
+options_after P r input (Err refusals.Closed) old new = old
+options_after P r input (Err refusals.Gone) old new = old
+options_after P r input (Err refusals.TooManyMessages) old new = old
+options_after P r input (Err refusals.TooManyHandles) old new = old
+options_after P r input (Err refusals.NoThread) old new = old
+
+-- of each frame that is drawn, if it holds of the frame of the input and of those after it
+pub frames_after : (P : Frame → Type 0) (frame : Frame) (result : Result Answer Refusal) (attempts : List Attempt) → P frame
+    → AllByRecursion P (frames_of attempts) → AllByRecursion P (frames_of (attempt_of frame result ++ attempts))
+frames_after P frame (Ok answer) attempts one others = (one, others)
+frames_after P frame (Err refusals.Broken) attempts one others = (one, others)
+frames_after P frame (Err refusals.Memory) attempts one others = others
+frames_after P frame (Err refusals.Closed) attempts one others = others
+frames_after P frame (Err refusals.Gone) attempts one others = others
+frames_after P frame (Err refusals.TooManyMessages) attempts one others = others
+frames_after P frame (Err refusals.TooManyHandles) attempts one others = others
+frames_after P frame (Err refusals.NoThread) attempts one others = others
