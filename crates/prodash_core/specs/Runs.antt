@@ -10,10 +10,10 @@ use Rattle.prodash_line.specs.declared.render.line.draw.input.Answer.{Answer}
 use Rattle.prodash_line.specs.declared.render.line.draw.input.Answer.TheVariants as answers
 use Rattle.prodash_line.specs.Renderings.{Rendering, after_result, RendersEach, BreaksExactly, FlushesFrame, WritesAttempts, attempts_of, drawn_frames, FitsPage, ShowsFrames}
 use Rattle.prodash_line.specs.Screens.{ScreenState}
-use Rattle.prodash_line.specs.ErasedPages.{ErasesPagesOf, FitsTerminal, ShowsErasing}
+use Rattle.prodash_line.specs.ErasedPages.{ErasesPagesOf, ErasesInTurn}
 use Rattle.prodash_line.specs.SafeFrames.{DrawsSafelyOf}
 use Rattle.prodash_line.specs.Page.{Canvas}
-use Rattle.prodash_line.specs.Terminals.{Terminal}
+use Rattle.prodash_line.specs.DrawnLines.{erases_rows}
 use Rattle.prodash_core.specs.declared.tree.slot.Slot.{Slot}
 use Rattle.prodash_core.specs.Trees.{Tree, Effect, OnTree, OnRenderer, effect_of, item_at, message_by}
 use Rattle.prodash_core.specs.Sessions.{SessionState, new_session, tree_after, is_memory, Steps}
@@ -179,14 +179,12 @@ abbrev pub EachErases : SessionOptions → List Event → List Reply → ScreenS
 EachErases options es rs s s' =
     RendersEach ErasesPagesOf (new_session options).renderer s (renderings_of options es rs) s'
 
--- and a page of the terminal's size, whatever it shows at first, shows the frames one after another
+-- and frames that follow one another show in turn on such a page, whatever it shows before the first of them, if they are for one size
 abbrev pub ErasesOnPages : SessionOptions → List Event → List Reply → ScreenState → ScreenState
     → Type 0
 ErasesOnPages options es rs s s' =
-    (page : Terminal)
-    → FitsTerminal (new_session options).renderer (renderings_of options es rs) s'.broken page
-    → ShowsErasing options.draw.whole_messages s.bytes s'.bytes
-    (drawn_frames (new_session options).renderer (renderings_of options es rs)) page
+    erases_rows options.draw ≡ true
+    → ErasesInTurn (new_session options).renderer (renderings_of options es rs) s s'
 
 -- no line of a defensive renderer's frames has an unsafe character
 abbrev pub EachDrawsSafely : SessionOptions → List Event → List Reply → ScreenState → ScreenState
@@ -221,8 +219,9 @@ pub record Ran (options : SessionOptions) (es : List Event) (rs : List Reply) (s
   -- if rows are erased, every page of the terminal's size shows each frame, whatever it showed
   -- before, and however many columns its terminal gives each character
   pub erases : EachErases options es rs s s'
-  -- and such a page, whatever it shows at first, shows after each frame the rows above as they
-  -- were, then the messages printed so far, then the lines drawn last, then blank rows
+  -- and from each frame on, whatever such a page shows then, it shows the rows above as they were,
+  -- then the messages printed since, then the lines drawn last, then blank rows, until a resize
+  -- sets another size
   pub erased : ErasesOnPages options es rs s s'
   -- no line of a defensive renderer's frames has an unsafe character
   pub safe : EachDrawsSafely options es rs s s'

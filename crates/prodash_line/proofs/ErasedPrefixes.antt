@@ -1,29 +1,32 @@
 -- What a page shows of the inputs to one renderer that erases rows, for any widths of characters.
-use Rattle.std.proofs.Common.{◌≡◌, ℕ, ◌+◌, ◌<◌, ◌≤◌, Bool, true, false, List, [], ◌∷◌, ◌++◌, length, map, take, drop, refl, sym, ap, subst, ◌∙◌, append_assoc, append-nil, length-append, Some, None, ⊎_elim, inl, inr, arith}
+use Rattle.std.proofs.Common.{◌≡◌, ℕ, ◌+◌, ◌<◌, ◌≤◌, Bool, true, false, List, [], ◌∷◌, ◌++◌, length, map, take, drop, refl, sym, ap, subst, ◌∙◌, append_assoc, append-nil, length-append, Result, Ok, Err, Some, None, ⊎_elim, inl, inr, arith}
 use Rattle.std.specs.Prelude.{replicate}
 use Rattle.std.specs.List.{AllByRecursion}
 use Rattle.std.proofs.lemmas.List.{map-append, length-take-le}
 use Rattle.std.proofs.lemmas.Grind.{flat_map-append}
 use Rattle.std.proofs.Math.Seq.{take-append_seam}
+use Rattle.prodash_base.specs.declared.refusal.Refusal.{Refusal}
+use Rattle.prodash_base.specs.declared.refusal.Refusal.TheVariants as refusals
 use Rattle.prodash_line.specs.declared.render.line.draw.input.Input.{Input}
 use Rattle.prodash_line.specs.declared.render.line.draw.input.Input.TheVariants.{Tick, Resize, Quit}
+use Rattle.prodash_line.specs.declared.render.line.draw.input.Answer.{Answer}
 use Rattle.prodash_line.specs.declared.render.line.draw.input.Options.{Options}
 use Rattle.prodash_line.specs.Lines.{Line, line_text}
 use Rattle.prodash_line.specs.DrawnLines.{erases_rows}
-use Rattle.prodash_line.specs.Frames.{Body, Unchanged, Draws, Closes, Frame, body_lines, lines_after, frame_signs, signs_of, all_lines_after, printed_lines, widths_of}
+use Rattle.prodash_line.specs.Frames.{Body, Unchanged, Draws, Closes, Frame, body_lines, lines_after, frame_signs, all_lines_after, printed_lines}
 use Rattle.prodash_line.specs.CellRows.{Cell, blank_cells, wrapped}
 use Rattle.prodash_line.specs.Terminals.{Terminal, terminal_after}
 use Rattle.prodash_line.specs.Reading.{AreProper}
-use Rattle.prodash_line.specs.Renderer.{Renderer, remember, frame_at}
+use Rattle.prodash_line.specs.Renderer.{Renderer, Renders, remember, frame_at, frame_bytes, next_renderer}
 use Rattle.prodash_line.specs.Screens.{ScreenState}
-use Rattle.prodash_line.specs.Renderings.{Rendering, renderer_after, attempts_of, drawn_frames, KeepsSize}
+use Rattle.prodash_line.specs.Renderings.{Rendering, after_result, renderer_after}
 use Rattle.prodash_line.specs.plumbing.RenderedInputs.{RendersAll}
-use Rattle.prodash_line.specs.ErasedPages.{HasSize, line_row, line_rows, message_rows, ShowsErased, ShowsBody, HasScalars, ShowsSince, FitsTerminal, ShowsErasing}
-use Rattle.prodash_line.specs.Signs.{IsProper}
-use Rattle.prodash_line.proofs.Lists.{AllByRecursion-append, AllByRecursion-map, AllByRecursion-take}
+use Rattle.prodash_line.specs.ErasedPages.{HasSize, line_row, line_rows, message_rows, ShowsErased, ShowsBody, HasScalars, ShowsSince, AcceptedFrame, accepted_by, accepted_frames, frames_in, signs_in_turn, ShowInTurn, WritesInTurn, ErasesInTurn}
+use Rattle.prodash_line.specs.Signs.{IsProper, spelling_of, spelling}
+use Rattle.prodash_line.specs.declared.render.line.page.sign.Sign.{Sign}
+use Rattle.prodash_line.proofs.Lists.{AllByRecursion-append, AllByRecursion-parts}
 use Rattle.prodash_line.proofs.TerminalRows.{terminal_after-append}
-use Rattle.prodash_line.proofs.Renderings.{writes_attempts, frames_after, options_after}
-use Rattle.prodash_line.proofs.PageRenderings.{running_not_broken, all_written, writes_signs, signs_of-take}
+use Rattle.prodash_line.proofs.Renderings.{true_is_not_false, was_unbroken, broken_refuses, refuses_all, options_after}
 use Rattle.prodash_line.proofs.ErasedPages.{ErasesRows, shows_frame}
 use Rattle.prodash_line.proofs.ErasedRenderings.{frame_erases, erased_proper}
 
@@ -104,79 +107,132 @@ size_since : (whole : Bool) (columns : ℕ → ℕ) (page p : Terminal) (message
 size_since whole columns page p messages lines size h =
     ⊎_elim (λ same. subst (λ (q : Terminal). HasSize (page.width, page.height) q) (sym same.2) size) (λ shown. shown.size) h
 
+-- a frame that erases rows, with whole messages or not: its signs over lines of some widths, which are proper if its characters are scalar values
+record ErasesProperly (whole : Bool) (f : AcceptedFrame) : Type 0 where
+  widths : List ℕ
+  signs : f.signs ≡ frame_signs widths f.frame
+  erases : 0 < f.size.1 → ErasesRows f.size.1 whole f.frame
+  proper : HasScalars f.frame → AreProper f.signs
+
 -- frames after others
-since_frames : (whole : Bool) (columns : ℕ → ℕ) (page p : Terminal) (before lines : List Line) (frames : List Frame) → HasSize (page.width, page.height) page → ShowsSince whole columns page before lines p
-    → AllByRecursion (ErasesRows page.height whole) frames
-    → ShowsSince whole columns page (before ++ printed_lines frames) (all_lines_after lines frames) (terminal_after columns (signs_of lines frames) p)
-since_frames whole columns page p before lines [] size h erase = subst (λ (ms : List Line). ShowsSince whole columns page ms lines p) (sym (append-nil before)) h
-since_frames whole columns page p before lines (f ∷ fs) size h erase =
-    let signs = frame_signs (widths_of lines) f in
-    let after = terminal_after columns signs p in
-    let shown = shows_frame columns (page.width, page.height) whole p (widths_of lines) f (size_since whole columns page p before lines size h) erase.0 in
-    let one = since_body whole columns page p after before lines f.messages f.body size.row h shown in
-    let others = since_frames whole columns page after (before ++ f.messages) (lines_after lines f) fs size one erase.1 in
-    subst (λ (q : Terminal). ShowsSince whole columns page (before ++ printed_lines (f ∷ fs)) (all_lines_after lines (f ∷ fs)) q) (sym (terminal_after-append columns signs (signs_of (lines_after lines f) fs) p))
-    (subst (λ (ms : List Line). ShowsSince whole columns page ms (all_lines_after (lines_after lines f) fs) (terminal_after columns (signs_of (lines_after lines f) fs) after))
-    (append_assoc before f.messages (printed_lines fs)) others)
+since_frames : (whole : Bool) (columns : ℕ → ℕ) (page p : Terminal) (before lines : List Line) (frames : List AcceptedFrame) → AllByRecursion (λ f. HasSize f.size page) frames
+    → ShowsSince whole columns page before lines p → AllByRecursion (ErasesProperly whole) frames
+    → ShowsSince whole columns page (before ++ printed_lines (frames_in frames)) (all_lines_after lines (frames_in frames)) (terminal_after columns (signs_in_turn frames) p)
+since_frames whole columns page p before lines [] has h erase = subst (λ (ms : List Line). ShowsSince whole columns page ms lines p) (sym (append-nil before)) h
+since_frames whole columns page p before lines (f ∷ fs) has h erase =
+    let given = has.0 in
+    let size : HasSize (page.width, page.height) page = record { width = refl; height = refl; low = given.low; row = given.row; window = given.window } in
+    let high : 0 < f.size.1 = omega (arith, given.height, given.row, given.window) in
+    let erases : ErasesRows page.height whole f.frame = subst (λ (n : ℕ). ErasesRows n whole f.frame) (sym given.height) (erase.0.erases high) in
+    let after = terminal_after columns f.signs p in
+    let shown : ShowsBody whole columns p f.frame.messages f.frame.body after =
+    subst (λ (signs : List Sign). ShowsBody whole columns p f.frame.messages f.frame.body (terminal_after columns signs p)) (sym erase.0.signs)
+    (shows_frame columns (page.width, page.height) whole p erase.0.widths f.frame (size_since whole columns page p before lines size h) erases) in
+    let one = since_body whole columns page p after before lines f.frame.messages f.frame.body given.row h shown in
+    let others = since_frames whole columns page after (before ++ f.frame.messages) (lines_after lines f.frame) fs has.1 one erase.1 in
+    subst (λ (q : Terminal). ShowsSince whole columns page (before ++ printed_lines (frames_in (f ∷ fs))) (all_lines_after lines (frames_in (f ∷ fs))) q) (sym (terminal_after-append columns f.signs (signs_in_turn fs) p))
+    (subst (λ (ms : List Line). ShowsSince whole columns page ms (all_lines_after (lines_after lines f.frame) (frames_in fs)) (terminal_after columns (signs_in_turn fs) after))
+    (append_assoc before f.frame.messages (printed_lines (frames_in fs))) others)
 
 -- ---- the frames of a list of inputs
 
--- a renderer that erases the rows of a terminal of this height, with whole messages or not
-record Erases (height : ℕ) (whole : Bool) (options : Options) : Type 0 where
+-- a renderer that erases rows, with whole messages or not
+record Erases (whole : Bool) (options : Options) : Type 0 where
   erasing : erases_rows options ≡ true
   messages : options.whole_messages ≡ whole
-  rows : options.terminal_dimensions.1 ≡ height
 
-still : (width height : ℕ) (whole : Bool) (r : Renderer) (input : Input) → KeepsSize width height input → Erases height whole r.options → Erases height whole (remember r input).options
-still width height whole r (Tick at show (Some seen)) k h = h
-still width height whole r (Tick at show None) k h = h
-still width height whole r (Resize at show columns rows) k h = record { erasing = h.erasing; messages = h.messages; rows = k.1 }
-still width height whole r (Quit at) k h = h
+still : (whole : Bool) (r : Renderer) (input : Input) → Erases whole r.options → Erases whole (remember r input).options
+still whole r (Tick at show (Some seen)) h = h
+still whole r (Tick at show None) h = h
+still whole r (Resize at show columns rows) h = record { erasing = h.erasing; messages = h.messages }
+still whole r (Quit at) h = h
 
--- a frame that such a renderer draws: it erases rows, and its signs are proper if its characters are scalar values
-record ErasesProperly (height : ℕ) (whole : Bool) (f : Frame) : Type 0 where
-  erases : ErasesRows height whole f
-  proper : (widths : List ℕ) → HasScalars f → AreProper (frame_signs widths f)
-
-erases_at : (width height : ℕ) (whole : Bool) (r : Renderer) (input : Input) → 0 < height → KeepsSize width height input → Erases height whole r.options → ErasesProperly height whole (frame_at r input)
-erases_at width height whole r input high k h =
-    let size = (remember r input).options.terminal_dimensions in
-    let kept = still width height whole r input k h in
-    let high' : 0 < size.1 = omega (arith, kept.rows) in
+-- a frame that such a renderer draws, with those after it
+then_each : (whole : Bool) (r : Renderer) (input : Input) (result : Result Answer Refusal) (others : List AcceptedFrame) → Erases whole r.options
+    → AllByRecursion (ErasesProperly whole) others → AllByRecursion (ErasesProperly whole) (accepted_by r input result ++ others)
+then_each whole r input (Ok answer) others h more =
+    let one : ErasesProperly whole (record { size = (remember r input).options.terminal_dimensions; frame = frame_at r input; signs = frame_signs r.widths (frame_at r input) }) =
     record {
-      erases = subst (λ (b : Bool). ErasesRows height b (frame_at r input)) h.messages
-          (subst (λ (n : ℕ). ErasesRows n r.options.whole_messages (frame_at r input)) kept.rows (frame_erases r input h.erasing high'));
-      proper = λ widths. erased_proper r input widths h.erasing;
-    }
+      widths = r.widths;
+      signs = refl;
+      erases = λ high. subst (λ (b : Bool). ErasesRows (remember r input).options.terminal_dimensions.1 b (frame_at r input)) h.messages (frame_erases r input h.erasing high);
+      proper = erased_proper r input r.widths h.erasing;
+    } in
+    (one, more)
+then_each whole r input (Err refusal) others h more = more
 
-all_erase : (width height : ℕ) (whole : Bool) (r : Renderer) (xs : List Rendering) → 0 < height → AllByRecursion (λ x. KeepsSize width height x.input) xs → Erases height whole r.options
-    → AllByRecursion (ErasesProperly height whole) (drawn_frames r xs)
-all_erase width height whole r [] high k h = tt
-all_erase width height whole r (x ∷ xs) high k h =
-    frames_after (ErasesProperly height whole) (frame_at r x.input) x.result (attempts_of (renderer_after r x) xs) (erases_at width height whole r x.input high k.0 h)
-    (all_erase width height whole (renderer_after r x) xs high k.1 (options_after (Erases height whole) r x.input x.result h (still width height whole r x.input k.0 h)))
+all_erase : (whole : Bool) (r : Renderer) (xs : List Rendering) → Erases whole r.options → AllByRecursion (ErasesProperly whole) (accepted_frames r xs)
+all_erase whole r [] h = tt
+all_erase whole r (x ∷ xs) h =
+    then_each whole r x.input x.result (accepted_frames (renderer_after r x) xs) h (all_erase whole (renderer_after r x) xs (options_after (Erases whole) r x.input x.result h (still whole r x.input h)))
 
-all_proper : (height : ℕ) (whole : Bool) (lines : List Line) (frames : List Frame) → AllByRecursion (ErasesProperly height whole) frames → AllByRecursion HasScalars frames → AreProper (signs_of lines frames)
-all_proper height whole lines [] erase scalars = tt
-all_proper height whole lines (f ∷ fs) erase scalars =
-    AllByRecursion-append IsProper (frame_signs (widths_of lines) f) _ (erase.0.proper (widths_of lines) scalars.0) (all_proper height whole (lines_after lines f) fs erase.1 scalars.1)
+all_proper : (whole : Bool) (frames : List AcceptedFrame) → AllByRecursion (ErasesProperly whole) frames → AllByRecursion HasScalars (frames_in frames) → AreProper (signs_in_turn frames)
+all_proper whole [] erase scalars = tt
+all_proper whole (f ∷ fs) erase scalars = AllByRecursion-append IsProper f.signs _ (erase.0.proper scalars.0) (all_proper whole fs erase.1 scalars.1)
 
--- a page of the terminal's size shows the frames of a renderer that erases rows
-pub shows_erasing : (r : Renderer) (s : ScreenState) (xs : List Rendering) (s' : ScreenState) (page : Terminal) → RendersAll r s xs s' → r.widths ≡ [] → r.ended ≡ None
-    → FitsTerminal r xs s'.broken page → ShowsErasing r.options.whole_messages s.bytes s'.bytes (drawn_frames r xs) page
-shows_erasing r s xs s' page h none running fits =
-    let frames = drawn_frames r xs in
+-- frames that follow one another show in turn
+some_show : (whole : Bool) (frames before some after : List AcceptedFrame) → frames ≡ before ++ (some ++ after) → AllByRecursion (ErasesProperly whole) frames → ShowInTurn whole some
+some_show whole frames before some after e erase =
+    let P : AcceptedFrame → Type 0 = ErasesProperly whole in
+    let from = (AllByRecursion-parts P before (some ++ after) (subst (λ (fs : List AcceptedFrame). AllByRecursion P fs) e erase)).1 in
+    let these = (AllByRecursion-parts P some after from).0 in
+    λ columns page has. since_frames whole columns page page [] [] some has (inl (refl, refl, refl)) these
+
+-- ---- what is written
+
+-- a renderer whose screen is broken accepts no frame
+none_accepted : (r : Renderer) (s : ScreenState) (xs : List Rendering) (s' : ScreenState) → r.ended ≡ Some refusals.Broken → RendersAll r s xs s' → accepted_frames r xs ≡ []
+none_accepted r s [] s' b h = refl
+none_accepted r s (x ∷ xs) s' b h =
+    let one = (broken_refuses r s x.input x.result h.0 b h.1).0 in
+    let ended : (renderer_after r x).ended ≡ Some refusals.Broken = ap (λ result. (after_result r x.input result).ended) one in
+    ap (λ result. accepted_by r x.input result ++ accepted_frames (renderer_after r x) xs) one ∙ none_accepted (renderer_after r x) h.0 xs s' ended h.3
+
+-- the screen has broken during a frame, of which it has taken these bytes
+writes_rest : (r : Renderer) (s s₁ : ScreenState) (xs : List Rendering) (s' : ScreenState) (rest : List ℕ) → r.ended ≡ Some refusals.Broken
+    → s₁.bytes ≡ s.bytes ++ rest → (s'.broken ≡ false → rest ≡ []) → RendersAll r s₁ xs s' → WritesInTurn (accepted_frames r xs) s s'
+writes_rest r s s₁ xs s' rest ended taken none h =
+    subst (λ (fs : List AcceptedFrame). WritesInTurn fs s s') (sym (none_accepted r s₁ xs s' ended h)) (rest, (refuses_all r s₁ xs s' ended h).1 ∙ taken, none)
+
+writes_step : (r : Renderer) (s : ScreenState) (input : Input) (result : Result Answer Refusal) (s₁ : ScreenState) (xs : List Rendering) (s' : ScreenState)
+    → Renders r input s result (after_result r input result) s₁ → RendersAll (after_result r input result) s₁ xs s'
+    → WritesInTurn (accepted_frames (after_result r input result) xs) s₁ s'
+    → WritesInTurn (accepted_by r input result ++ accepted_frames (after_result r input result) xs) s s'
+writes_step r s input (Ok answer) s₁ xs s' h hs more =
+    let signs = frame_signs r.widths (frame_at r input) in
+    let others = signs_in_turn (accepted_frames (next_renderer r input) xs) in
+    let joined : spelling (signs ++ others) ≡ spelling signs ++ spelling others = flat_map-append spelling_of signs others in (
+      more.0,
+      more.1
+          ∙ ap (λ (bytes : List ℕ). bytes ++ (spelling others ++ more.0)) h.screen.bytes
+          ∙ append_assoc s.bytes (spelling signs) (spelling others ++ more.0)
+          ∙ ap (λ (bytes : List ℕ). s.bytes ++ bytes) (sym (append_assoc (spelling signs) (spelling others) more.0) ∙ ap (λ (bytes : List ℕ). bytes ++ more.0) (sym joined)),
+      more.2,
+    )
+writes_step r s input (Err refusals.Memory) s₁ xs s' h hs more = subst (λ (q : ScreenState). WritesInTurn (accepted_frames r xs) q s') h.screen more
+writes_step r s input (Err refusals.Closed) s₁ xs s' h hs more = subst (λ (q : ScreenState). WritesInTurn (accepted_frames r xs) q s') h.screen more
+writes_step r s input (Err refusals.Broken) s₁ xs s' h hs more =
+    let r₁ = after_result r input (Err refusals.Broken) in ⊎_elim
+    (λ refuses. writes_rest r₁ s s₁ xs s' [] refl (ap (λ q. q.bytes) refuses.screen ∙ sym (append-nil s.bytes)) (λ whole. refl) hs)
+    (λ breaks. writes_rest r₁ s s₁ xs s' (take breaks.screen.prefix.0 (frame_bytes r input)) refl breaks.screen.prefix.2
+    (λ whole. absurd (true_is_not_false s₁.broken breaks.screen.broken (was_unbroken r₁ s₁ xs s' hs whole))) hs) h
+writes_step r s input (Err refusals.Gone) s₁ xs s' h hs more = absurd h
+writes_step r s input (Err refusals.TooManyMessages) s₁ xs s' h hs more = absurd h
+writes_step r s input (Err refusals.TooManyHandles) s₁ xs s' h hs more = absurd h
+writes_step r s input (Err refusals.NoThread) s₁ xs s' h hs more = absurd h
+
+writes_in_turn : (r : Renderer) (s : ScreenState) (xs : List Rendering) (s' : ScreenState) → RendersAll r s xs s' → WritesInTurn (accepted_frames r xs) s s'
+writes_in_turn r s [] s' h = ([], ap (λ q. q.bytes) h ∙ sym (append-nil s.bytes), λ whole. refl)
+writes_in_turn r s (x ∷ xs) s' h = writes_step r s x.input x.result h.0 xs s' h.1 h.3 (writes_in_turn (renderer_after r x) h.0 xs s' h.3)
+
+-- frames that follow one another, of a renderer that erases rows
+pub erases_in_turn : (r : Renderer) (s : ScreenState) (xs : List Rendering) (s' : ScreenState) → RendersAll r s xs s' → erases_rows r.options ≡ true → ErasesInTurn r xs s s'
+erases_in_turn r s xs s' h erasing =
     let whole = r.options.whole_messages in
-    let given = fits.size in
-    let size : HasSize (page.width, page.height) page = record { width = refl; height = refl; low = given.low; row = given.row; window = given.window } in
-    let high : 0 < page.height = omega (arith, given.row, given.window) in
-    let each = all_erase page.width page.height whole r xs high fits.sizes (record { erasing = fits.erasing; messages = refl; rows = sym given.height }) in
-    let erase = AllByRecursion-map (ErasesProperly page.height whole) (ErasesRows page.height whole) frames (λ f e. e.erases) each in
-    let writes = writes_attempts r s xs s' [] h none in
-    let all = all_written r s xs s' h (running_not_broken r.ended running) fits.unbroken in
+    let frames = accepted_frames r xs in
+    let erase = all_erase whole r xs (record { erasing = erasing; messages = refl }) in
     record {
-      written = writes.1 ∙ ap (λ bytes. s.bytes ++ bytes) (writes_signs [] (attempts_of r xs) writes.0 all writes.2);
-      proper = all_proper page.height whole [] frames each;
-      prefix = λ j. (signs_of (all_lines_after [] (take j frames)) (drop j frames), signs_of-take j [] frames);
-      shows = λ columns j. since_frames whole columns page page [] [] (take j frames) size (inl (refl, refl, refl)) (AllByRecursion-take (ErasesRows page.height whole) j frames erase);
+      written = writes_in_turn r s xs s' h;
+      proper = all_proper whole frames erase;
+      shows = λ before some after e. some_show whole frames before some after e erase;
     }

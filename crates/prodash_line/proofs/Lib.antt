@@ -51,6 +51,7 @@ pub mod WorkedEnvironments
 pub mod WorkedFrames
 pub mod WorkedPages
 pub mod WorkedWriters
+pub mod WorkedResizes
 pub mod WorkedSigns
 pub mod WorkedTerminals
 pub mod WorkedUnits

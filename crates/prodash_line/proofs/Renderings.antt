@@ -145,7 +145,7 @@ stays_flushed r s (x ∷ xs) s' h flushed whole =
     stays_flushed (renderer_after r x) h.0 xs s' h.3 (flushed_once r s x.input x.result h.0 h.1 before flushed) whole
 
 -- a renderer that has ended because the screen broke refuses every frame, and writes nothing
-broken_refuses : (r : Renderer) (s : ScreenState) (input : Input) (result : Result Answer Refusal) (s' : ScreenState) → r.ended ≡ Some refusals.Broken
+pub broken_refuses : (r : Renderer) (s : ScreenState) (input : Input) (result : Result Answer Refusal) (s' : ScreenState) → r.ended ≡ Some refusals.Broken
     → Renders r input s result (after_result r input result) s' → (result ≡ Err refusals.Broken) × (s'.bytes ≡ s.bytes)
 broken_refuses r s input (Ok answer) s' b h = absurd (ended_not_running r.ended refusals.Broken h.running b)
 broken_refuses r s input (Err refusals.Memory) s' b h = absurd (ended_not_running r.ended refusals.Broken h.running b)

@@ -1,6 +1,6 @@
 -- What a page shows after a frame that erases the rows that it writes on, whatever the page showed before, and however many columns its terminal
 -- gives each character.
-use Rattle.std.specs.Prelude.{◌≡◌, ◌<◌, Result, OnOk, ◌≤◌, ◌^◌, ◌⊎◌, ℕ, ◌+◌, ◌-◌, Bool, true, false, if◌then◌else◌, List, [], ◌∷◌, ◌++◌, length, map, take, replicate}
+use Rattle.std.specs.Prelude.{◌≡◌, ◌<◌, Result, Ok, Err, OnOk, ◌≤◌, ◌^◌, ◌⊎◌, ℕ, ◌+◌, ◌-◌, Bool, true, false, if◌then◌else◌, List, [], ◌∷◌, ◌++◌, length, map, take, replicate}
 use Rattle.std.specs.Char.{IsScalar}
 use Rattle.std.specs.List.{AllByRecursion, flat_map}
 use Rattle.prodash_base.specs.declared.refusal.Refusal.{Refusal}
@@ -10,12 +10,12 @@ use Rattle.prodash_line.specs.declared.render.line.page.sign.Sign.{Sign}
 use Rattle.prodash_line.specs.Signs.{spelling}
 use Rattle.prodash_line.specs.Lines.{Line, columns_of, line_text}
 use Rattle.prodash_line.specs.DrawnLines.{erases_rows, prints_whole}
-use Rattle.prodash_line.specs.Frames.{Body, Unchanged, Draws, Closes, Frame, body_lines, signs_of, all_lines_after, printed_lines}
+use Rattle.prodash_line.specs.Frames.{Body, Unchanged, Draws, Closes, Frame, body_lines, frame_signs, all_lines_after, printed_lines}
 use Rattle.prodash_line.specs.CellRows.{Cell, blank_cells, played, wrapped, text_columns, shown}
 use Rattle.prodash_line.specs.Terminals.{Terminal, terminal_after}
 use Rattle.prodash_line.specs.Reading.{AreProper}
 use Rattle.prodash_line.specs.Renderer.{Renderer, remember, frame_at}
-use Rattle.prodash_line.specs.Renderings.{Rendering, KeepsSize}
+use Rattle.prodash_line.specs.Renderings.{Rendering, renderer_after}
 use Rattle.prodash_line.specs.Screens.{ScreenState}
 
 -- a page of this size: the cursor is in a row of its window, which is lower than 2^16 rows
@@ -114,18 +114,48 @@ abbrev pub ShowsSince : Bool → (ℕ → ℕ) → Terminal → List Line → Li
 ShowsSince whole columns page messages lines after =
     ((messages ≡ []) × (lines ≡ []) × (after ≡ page)) ⊎ ShowsErased whole columns page messages lines after
 
--- The renderer erases rows; the page is of its terminal's size, which no input changes; and the screen isn't broken afterwards.
-pub record FitsTerminal (r : Renderer) (xs : List Rendering) (broken : Bool) (page : Terminal) : Type 0 where
-  pub erasing : erases_rows r.options ≡ true
-  pub size : HasSize r.options.terminal_dimensions page
-  pub sizes : AllByRecursion (λ x. KeepsSize page.width page.height x.input) xs
-  pub unbroken : broken ≡ false
+-- an accepted frame, with the size of the terminal that it is for, and its signs
+pub record AcceptedFrame : Type 0 where
+  pub size : ℕ × ℕ
+  pub frame : Frame
+  pub signs : List Sign
 
--- What is written is the spelling of the frames' signs, which are proper if the lines' characters are scalar values, so that reading it gives
--- them. However many columns a terminal gives each character, after each prefix of the frames the page is as it was, if each left it; or it shows
--- the rows above the cursor's as they were, then the messages printed so far, whole or not, then the lines drawn last, then blank rows.
-pub record ShowsErasing (whole : Bool) (old new : List ℕ) (frames : List Frame) (page : Terminal) : Type 0 where
-  pub written : new ≡ old ++ spelling (signs_of [] frames)
-  pub proper : AllByRecursion HasScalars frames → AreProper (signs_of [] frames)
-  pub prefix : (j : ℕ) → (rest : List Sign) × (signs_of [] frames ≡ signs_of [] (take j frames) ++ rest)
-  pub shows : (columns : ℕ → ℕ) (j : ℕ) → ShowsSince whole columns page (printed_lines (take j frames)) (all_lines_after [] (take j frames)) (terminal_after columns (signs_of [] (take j frames)) page)
+-- the frame of an input, if the input was accepted
+abbrev pub accepted_by : Renderer → Input → Result Answer Refusal → List AcceptedFrame
+accepted_by r input (Ok answer) =
+    record { size = (remember r input).options.terminal_dimensions; frame = frame_at r input; signs = frame_signs r.widths (frame_at r input) } ∷ []
+accepted_by r input (Err refusal) = []
+
+-- the accepted frames of a list of inputs
+abbrev pub accepted_frames : Renderer → List Rendering → List AcceptedFrame
+accepted_frames r [] = []
+accepted_frames r (x ∷ xs) = accepted_by r x.input x.result ++ accepted_frames (renderer_after r x) xs
+
+-- these frames, without their sizes and signs
+abbrev pub frames_in : List AcceptedFrame → List Frame
+frames_in fs = map (λ f. f.frame) fs
+
+-- the signs of these frames, one after another
+abbrev pub signs_in_turn : List AcceptedFrame → List Sign
+signs_in_turn fs = flat_map (λ f. f.signs) fs
+
+-- Frames written one after another. However many columns a terminal gives each character, every page of the size that each of them is for is as
+-- it was afterwards, if each left it; or it shows the rows above the cursor's as they were, then all messages that the frames print, whole or not,
+-- then the lines drawn last, then blank rows.
+abbrev pub ShowInTurn : Bool → List AcceptedFrame → Type 0
+ShowInTurn whole fs =
+    (columns : ℕ → ℕ) (page : Terminal) → AllByRecursion (λ f. HasSize f.size page) fs
+    → ShowsSince whole columns page (printed_lines (frames_in fs)) (all_lines_after [] (frames_in fs)) (terminal_after columns (signs_in_turn fs) page)
+
+-- The frames are written one after another; what follows them is a part of a frame during which the screen broke, if it did.
+abbrev pub WritesInTurn : List AcceptedFrame → ScreenState → ScreenState → Type 0
+WritesInTurn fs s s' =
+    (rest : List ℕ) × (s'.bytes ≡ s.bytes ++ (spelling (signs_in_turn fs) ++ rest)) × (s'.broken ≡ false → rest ≡ [])
+
+-- The accepted frames of a list of inputs are written, and their signs are proper if the lines' characters are scalar values, so that reading them
+-- gives the signs. Any of them that follow one another show in turn: so from each frame on, whatever the page shows before it, until a resize sets
+-- another size.
+pub record ErasesInTurn (r : Renderer) (xs : List Rendering) (s s' : ScreenState) : Type 0 where
+  pub written : WritesInTurn (accepted_frames r xs) s s'
+  pub proper : AllByRecursion HasScalars (frames_in (accepted_frames r xs)) → AreProper (signs_in_turn (accepted_frames r xs))
+  pub shows : (before some after : List AcceptedFrame) → accepted_frames r xs ≡ before ++ (some ++ after) → ShowInTurn r.options.whole_messages some

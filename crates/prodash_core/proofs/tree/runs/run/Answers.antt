@@ -5,7 +5,7 @@ use Rattle.prodash_core.proofs.AcceptedMessages.{rings_of_prefixes}
 use Rattle.prodash_line.proofs.Renderings.{writes_attempts, breaks_exactly, flushes_each, stays_flushed}
 use Rattle.prodash_line.proofs.ErasedRenderings.{erases_each}
 use Rattle.prodash_line.proofs.SafeFrames.{draws_safely_each}
-use Rattle.prodash_line.proofs.ErasedPrefixes.{shows_erasing}
+use Rattle.prodash_line.proofs.ErasedPrefixes.{erases_in_turn}
 use Rattle.prodash_line.proofs.PageRenderings.{shows_on_page}
 use Rattle.prodash_core.proofs.tree.runs.run.Goals as goal
 
@@ -34,7 +34,7 @@ returns-clause-ok g c =
       bytes = writes_attempts _ _ _ _ [] renders refl;
       page = λ page above. shows_on_page _ _ _ _ above page renders refl refl (omega arith);
       erases = erases_each _ _ _ _ renders;
-      erased = λ page. shows_erasing _ _ _ _ page renders refl refl;
+      erased = erases_in_turn _ _ _ _ renders;
       safe = draws_safely_each _ _ _ _ renders;
       flushed = stays_flushed _ _ _ _ renders;
     }
