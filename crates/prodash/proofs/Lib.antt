@@ -5,3 +5,6 @@ mod JournalLaws
 mod ListPrefixes
 mod TurnLaws
 mod WorkedItems
+mod PlainTables
+mod ParentPaths
+mod WorkedPlainLines

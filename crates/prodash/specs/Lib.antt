@@ -6,6 +6,8 @@ pub mod Logs
 pub mod Wrappers
 pub mod Reporters
 pub mod Journals
+pub mod Times
+pub mod PlainLines
 pub mod plumbing
 pub use Rattle.prodash_base.specs.Path
 pub use Rattle.prodash_base.specs.Rows

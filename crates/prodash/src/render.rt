@@ -1,3 +1,5 @@
 //! Renderers.
 pub mod line;
+pub mod plain;
+pub(crate) mod times;
 pub mod tui;

@@ -19,6 +19,8 @@ mod logs;
 #[cfg(test)]
 mod moments;
 #[cfg(test)]
+mod plain;
+#[cfg(test)]
 mod room;
 #[cfg(test)]
 mod stacks;

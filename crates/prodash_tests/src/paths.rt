@@ -63,6 +63,10 @@ mod page {
     pub use prodash::render::line::page::{Color, Fault, Page, Sign, Style, read, spell};
 }
 
+mod plain {
+    pub use prodash::render::plain::{Outcome, Plain};
+}
+
 mod tui {
     pub use prodash::render::tui::{
         Answer, Event, Interrupt, InterruptMode, Key, KeyCode, Line, Options, Rect, State,

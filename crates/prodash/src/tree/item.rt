@@ -69,6 +69,13 @@ impl<R: TakesTurns> Item<R> {
         }
     }
 
+    /// Returns the key of the item.
+    pub fn key(&self) -> Key
+        ensures { result ≡ self.now.path }
+    {
+        self.key
+    }
+
     /// Begins the progress of the item, and sets its step to 0. Without a bound and a unit the item
     /// has no progress. Nothing happens if the item's task is gone.
     pub fn init(&self, max: Option<Step>, unit: Option<Unit>)
