@@ -207,5 +207,9 @@ text_step names now line true is = rw is (comment_other (handle_in names) line i
 text_step names now line false is =
     rw is (accepted_step (handle_in names) now line ∙ or_mistake (accepted (handle_in names) now line) (first_mistake (handle_in names) line))
 
-pub step_of_line : {Z S : Type 0} → (names : HashMap (String Z) ℕ S) → (now : ℕ) → (line : List ℕ) → step_line (handle_in names) line ≡ step_in (command_of names now line)
+step_of_line : {Z S : Type 0} → (names : HashMap (String Z) ℕ S) → (now : ℕ) → (line : List ℕ) → step_line (handle_in names) line ≡ step_in (command_of names now line)
 step_of_line names now line = text_step names now line _ refl
+
+-- what is read of a line as a change of a step is what its command changes, whatever the moment is
+pub step_read : {Z S : Type 0} → {step : Option (ℕ × StepChange)} → (names : HashMap (String Z) ℕ S) → (line : List ℕ) → step ≡ step_line (handle_in names) line → (now : ℕ) → step ≡ step_in (command_of names now line)
+step_read names line read now = read ∙ step_of_line names now line
