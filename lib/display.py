@@ -2,8 +2,6 @@
 import os
 import select
 
-import job
-
 # How many bytes are read at a time, as many as a pipe has.
 READ = 65536
 MARK = b"\0"
@@ -15,11 +13,11 @@ class Display:
     """The program that draws. Whatever becomes of it, its lines are taken."""
 
     def __init__(self, program, words):
-        """Starts the program in a process group of its own, with signals as by default."""
+        """Starts the program in a process group of its own, with no signal blocked."""
         lines, self.to = os.pipe()
         self.frames, writes = os.pipe()
         moves = [(os.POSIX_SPAWN_DUP2, fd, at) for fd, at in ((lines, 0), (writes, 1), (writes, 2))]
-        how = {"file_actions": moves, "setpgroup": 0, "setsigmask": (), "setsigdef": job.defaults()}
+        how = {"file_actions": moves, "setpgroup": 0, "setsigmask": ()}
         # lines that it has not taken, the beginning of a line, and parts of its next frame
         self.lines, self.rest, self.parts = bytearray(), b"", []
         # how it ended, why it was given up, and what it said at its end
@@ -115,7 +113,6 @@ class Display:
         self.close()
         os.close(self.frames)
         self.lines.clear()
-        self.drop_rest()
         if not self.pid:
             return
         self.status = os.waitpid(self.pid, 0)[1]

@@ -241,8 +241,6 @@ def pass_rest(fd, to, kept):
         os.dup2(source, at)
     if kept is not None:
         os.set_inheritable(kept, True)
-    for it in (*PASSED, signals.SIGPIPE):
-        signals.signal(it, signals.SIG_DFL)
     os.execvp("cat", ["cat"])
 
 

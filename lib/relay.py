@@ -191,13 +191,12 @@ class Relay:
         return times
 
     def step(self):
-        """Does what can be done. Returns what was ready."""
+        """Does what can be done."""
         ready = self.wait()
         self.hear_all(ready)
         self.look()
         self.flush(ready)
         self.pass_lines(ready)
-        return ready
 
     def hear_all(self, ready):
         """Handles the signals that have come."""
@@ -223,8 +222,7 @@ class Relay:
 
     def watch(self):
         """Gives the display up if it has taken nothing for too long."""
-        is_late = self.clock() > self.taken + STUCK
-        if is_late and self.display.is_alive() and not self.terminal.left:
+        if self.display.is_alive() and self.clock() > self.taken + STUCK:
             self.display.give_up("the display was stuck", signals.SIGKILL)
             self.paint(self.screen.clear())
 
@@ -252,7 +250,7 @@ class Relay:
         size = self.terminal.size()
         if size is None or size == (self.screen.columns, self.screen.height):
             return None
-        self.paint(self.screen.resize(*size))
+        self.screen.columns, self.screen.height = size
         if self.follows_size:
             self.display.resize(*size_to_draw_on(*size))
         self.paint(self.screen.draw())

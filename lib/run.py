@@ -178,31 +178,26 @@ class Run(Relay):
         times += [it.until - now for it in self.own]
         if self.holds_keys():
             times.append(LOOK)
-        if self.status is not None and not self.terminal.left and not self.is_ending:
+        if self.status is not None:
             times.append(QUIET)
         return times
 
-    def step(self):
-        """Does what can be done, output before lines. Returns what was ready."""
-        ready = self.wait()
+    def hear_all(self, ready):
+        """Handles the signals that have come, here or at the sentinel."""
         if self.sentinel and self.sentinel.told in ready:
             self.hear_sentinel()
-        self.hear_all(ready)
+        super().hear_all(ready)
         self.pass_on()
-        self.look()
-        self.pass_keys(ready)
-        self.flush(ready)
-        if self.output in ready:
-            self.read_output()
-        self.pass_lines(ready)
-        return ready
 
-    def pass_keys(self, ready):
-        """Passes keys on to the job, if they are held."""
+    def pass_lines(self, ready):
+        """Passes on keys, output, lines and frames."""
         if self.holds_keys() and self.keys.stream in ready:
             self.keys.read()
         if self.keys and self.keys.left and self.output is not None:
             self.keys.write()
+        if self.output in ready:
+            self.read_output()
+        super().pass_lines(ready)
 
     def hear(self, numbers):
         """Handles signals."""
@@ -314,9 +309,9 @@ class Run(Relay):
         """Returns whether the job has ended and all is read, or what is left is of others."""
         if self.status is None or self.is_hurried:
             return self.is_hurried
-        now, is_taken = self.clock(), not (self.terminal.left or self.display.lines)
-        rests = ((self.output, self.output_rest), (self.events, self.events_rest))
-        return all(fd is None or rest.is_over(now, is_taken) for fd, rest in rests)
+        now, output = self.clock(), (self.output, self.output_rest, self.terminal.left)
+        rests = output, (self.events, self.events_rest, self.display.lines)
+        return all(fd is None or rest.is_over(now, not left) for fd, rest, left in rests)
 
     def end(self):
         """Ends the display, and leaves the terminal to others. Returns how the job ended."""

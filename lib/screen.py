@@ -87,7 +87,7 @@ class Messages:
     def nothing(self, *_):
         return b""
 
-    erase = draw = clear = resize = nothing
+    erase = draw = clear = nothing
 
 
 class Screen:
@@ -206,8 +206,3 @@ class Screen:
         """Returns what erases the rows for good and prints all messages."""
         self.frame, self.count = b"", 0
         return self.tell() + self.erase()
-
-    def resize(self, columns, rows):
-        """Sets the size. Returns what erases rows that may have been wrapped."""
-        self.columns, self.height = columns, rows
-        return self.erase()

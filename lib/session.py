@@ -51,10 +51,6 @@ class Session:
         os.close(tells)
         os.close(ends)
 
-    def end(self):
-        """Has the monitor end, unless others keep it."""
-        os.close(self.alive)
-
 
 class SessionRun(Run):
     """A job in a session of its own, whose terminal gets all keys in the foreground."""
@@ -88,12 +84,11 @@ class SessionRun(Run):
     def reads(self):
         return [*super().reads(), self.session.told if self.status is None else None]
 
-    def step(self):
-        """Does what can be done, and hears what becomes of the job."""
-        ready = super().step()
+    def hear_all(self, ready):
+        """Handles the signals that have come, and hears what becomes of the job."""
+        super().hear_all(ready)
         if self.status is None and self.session.told in ready:
             self.hear_report(os.read(self.session.told, REPORT.size))
-        return ready
 
     def hear_report(self, report):
         """Stops with the job, or notes that it has ended."""
@@ -125,8 +120,7 @@ class SessionRun(Run):
         return self.session.alive
 
     def end(self):
-        """Ends the display and the monitor."""
+        """Ends the display. The monitor ends with this process, unless others keep it."""
         status = super().end()
         self.ends_group = self.terminal.is_foreground()
-        self.session.end()
         return status

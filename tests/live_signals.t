@@ -135,7 +135,7 @@ SIGTERM and SIGHUP end the input: the lines that have arrived are taken, and an 
 left out. The signal and the lines are there when it goes on.
 
   $ for it in TERM HUP; do
-  >   live --stdout <lines >output &
+  >   rm -f output; live --stdout <lines >output &
   >   exec 3>lines
   >   printf 'add @a 0 alpha\ninfo @a 0 one\n' >&3
   >   until grep -qs one output; do sleep 0.01; done

@@ -133,17 +133,39 @@ on.
   from the child
   $ until grep -qs alive file; do :; done; rm file
 
+Nor is it ended by a Ctrl-C for what runs after the job.
+
+  $ mkfifo never
+  $ cat >after <<'.'
+  > prodash-run -- sh leaves; echo "the job has ended"; read _ <never
+  > .
+  $ { echo 'run sh after'; cat <<'.'; } | on-terminal 40 8
+  > until the job has ended
+  > keys \x03
+  > ended
+  > tell go
+  > until from the child
+  > file file
+  > .
+  signal SIGINT
+  $ until grep -qs alive file; do :; done; rm file
+
 One that writes without a pause is not waited for either.
 
-  $ run 'sh -c "yes \# >&\$PRODASH_FD & echo \$! >>yes.pids"' 'ended
-  > screen'
+  $ cat >endless <<'.'
+  > yes '#' >&$PRODASH_FD & echo $! >pid
+  > .
+  $ for kind in -- '--no-pty --' '--pty --'; do
+  >   { echo "run prodash-run --no-color $kind sh endless"; printf 'ended\nscreen\n'; } |
+  >     on-terminal 40 8
+  >   kill $(cat pid)
+  > done
   status 0
   
   status 0
   
   status 0
   
-  $ kill $(cat yes.pids)
 
 Each signal reaches the job exactly once, whether it is sent to its group or to `prodash run` alone.
 `counts` counts them until SIGUSR2. Between two of a kind for the group is one for `prodash run`: two
@@ -232,6 +254,39 @@ So they do if that process is killed: another takes its place.
   1 SIGUSR1
   2 SIGINT
   3 SIGUSR2
+
+No signal is ignored or blocked in the job.
+
+  $ cat >ignored <<'.'
+  > exec sed -nE 's/^(SigBlk|SigIgn).*(.{7})$/\1 \2/p' /proc/self/status
+  > .
+  $ run 'sh ignored' 'ended
+  > screen'
+  status 0
+  SigBlk 0000000
+  SigIgn 0000000
+  status 0
+  SigBlk 0000000
+  SigIgn 0000000
+  status 0
+  SigBlk 0000000
+  SigIgn 0000000
+
+One that ends the job ends `prodash run` also if it is blocked there, and never dumps its memory.
+
+  $ cat >blocked.py <<'.'
+  > import os, resource, signal, subprocess, sys
+  > signal.pthread_sigmask(signal.SIG_BLOCK, [signal.SIGQUIT])
+  > most = resource.getrlimit(resource.RLIMIT_CORE)[1]
+  > resource.setrlimit(resource.RLIMIT_CORE, (most, most))
+  > ends = "import os, resource, signal as s; resource.setrlimit(resource.RLIMIT_CORE, (0, 0)); "
+  > ends += "s.pthread_sigmask(s.SIG_UNBLOCK, [s.SIGQUIT]); os.kill(os.getpid(), s.SIGQUIT)"
+  > pid = os.spawnlp(os.P_NOWAIT, "prodash-run", "prodash-run", sys.executable, "-c", ends)
+  > status = os.waitpid(pid, 0)[1]
+  > print(os.WTERMSIG(status), os.WCOREDUMP(status))
+  > .
+  $ python3 blocked.py
+  3 False
 
 What is ignored from the start stays so, as below `nohup`.
 

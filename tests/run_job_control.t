@@ -174,6 +174,36 @@ Ctrl-C ends the job, and `prodash run` ends by the same signal, so a script arou
   $ { echo 'run prodash-run -- sh one'; cat interrupted; } | on-terminal 40 8 | grep signal
   signal SIGINT
 
+That is for the script only if it is in the foreground, and if the job was ended as a terminal would.
+
+  $ cat >goes_on <<'.'
+  > prodash-run --pty -- sh -c '. ./job; echo one; next; kill -'$1' $$'
+  > echo "goes on $?" >status
+  > .
+  $ { echo 'run bash goes_on INT'; cat <<'.'; } | on-terminal 40 8
+  > until one
+  > until 3/10
+  > keys \x1a
+  > stopped
+  > bg
+  > tell go
+  > file status
+  > fg
+  > ended
+  > .
+  stopped
+  status 0
+  $ cat status; rm status
+  goes on 130
+  $ { echo 'run bash goes_on TERM'; cat <<'.'; } | on-terminal 40 8
+  > until one
+  > tell go
+  > ended
+  > .
+  status 0
+  $ cat status
+  goes on 143
+
 So it is with Ctrl-Z.
 
   $ { echo 'run env KIND=--pty bash around'; cat <<'.'; } | on-terminal 40 8
@@ -189,6 +219,21 @@ So it is with Ctrl-Z.
   > .
   stopped
   signal SIGINT
+
+With a terminal of its own all processes of the job are stopped with it.
+
+  $ cat >child <<'.'
+  > . ./job
+  > sh -c 'echo $$ >pid; exec sleep 60' & until [ -s pid ]; do :; done; echo one; next; kill $(cat pid)
+  > .
+  $ until ps -o stat= -p "$(cat pid 2>/dev/null)" 2>/dev/null | grep -q T; do sleep 0.1; done >halts &
+  $ { echo 'run prodash-run --pty -- sh child'; cat <<'.'; } | on-terminal 40 8
+  > until one
+  > one TSTP
+  > stopped
+  > .
+  stopped
+  $ wait $!
 
 The job may handle it.
 

@@ -66,6 +66,31 @@ A program that reads keys of the terminal that its output is gets them, too.
   read a line
   same modes
 
+The terminal passes on lines again soon after the program has set the modes back, also if nothing is
+written then.
+
+  $ cat >quiet <<'.'
+  > . ./job
+  > python3 reads.py; read line; echo "read $line"
+  > .
+  $ begun=$(date +%s)
+  $ { echo "run prodash-run --no-color -- sh quiet"; cat <<'.'; } | on-terminal 40 8
+  > until press
+  > raw
+  > keys k
+  > until pressed k
+  > cooked
+  > keys a line\n
+  > ended
+  > screen
+  > .
+  status 0
+  press
+  pressed k
+  a line
+  read a line
+  $ [ $(($(date +%s) - begun)) -lt 15 ]
+
 While it is stopped, the user's terminal has its own modes.
 
   $ { echo "run prodash-run --no-color -- sh keys"; cat <<'.'; } | on-terminal 40 8
@@ -170,7 +195,8 @@ On a terminal without rows they are the job's, too.
   a line
   read a line
 
-A terminal of the job's own has the modes of the user's.
+A terminal of the job's own has the modes of the user's, but not those that a shell sets for its own
+keys while the job is in the background. A key is passed on at once whatever MIN was.
 
   $ cat >stty <<'.'
   > stty kill ^G; prodash-run --pty -- sh -c 'stty -a | grep -o "kill = .G"'
@@ -178,6 +204,25 @@ A terminal of the job's own has the modes of the user's.
   $ { echo "run sh stty"; echo ended; echo screen; } | on-terminal 40 8
   status 0
   kill = ^G
+  $ cat >behind <<'.'
+  > stty -icrnl; set -m
+  > prodash-run --pty -- sh -c 'stty -a >modes' & wait
+  > .
+  $ { echo "run sh behind"; echo ended; } | on-terminal 40 8
+  status 0
+  $ grep -o ' -*icrnl' modes
+   icrnl
+  $ { echo "run sh -c 'stty min 5; exec prodash-run --pty -- sh keys'"; cat <<'.'; } | on-terminal 40 8
+  > until press
+  > raw
+  > keys k
+  > until pressed k
+  > tell go
+  > until and
+  > keys \n
+  > ended
+  > .
+  status 0
 
 What is typed stays for the next program, unless the job has a terminal of its own.
 

@@ -285,17 +285,17 @@ Colours and other styles of the job go on behind the rows, and a sequence is nev
 
   $ cat >styles <<'.'
   > . ./job
-  > next; printf 'b\033]0;ti'; next; printf 'tle\007ack '; next
+  > next; printf 'one\033]0;ti'; next; printf 'tle\007two '; next
   > printf 'a\033[3'; next; printf '1mred\n'; next; printf 'still red\033[m\303'; next; printf '\244\n'; next
   > .
   $ { echo 'run prodash-run --no-color -- sh styles'; cat <<'.'; } | on-terminal 40 8
   > until 3/10
   > tell go
-  > until b
+  > until one
   > tell go
-  > until ack
+  > until onetwo
   > tell go
-  > until back a
+  > until onetwo a
   > tell go
   > until red
   > until 3/10
@@ -314,12 +314,12 @@ Colours and other styles of the job go on behind the rows, and a sequence is nev
   plain
   31
   31
-  back ared
+  onetwo ared
   still red\xc3\xa4 (esc)
   
    build 3/10 files [=====>--------------]
   status 0
-  back ared
+  onetwo ared
   still red\xc3\xa4 (esc)
 
 On the page of a full screen there are no rows and no messages until it is left.

@@ -126,7 +126,9 @@ def run(commands, programs, **variables):
         env = {"PATH": f"{room}/bin:{os.environ['PATH']}", **TERMINAL, **variables}
         how = {"cwd": f"{room}/work", "env": env, "stdin": subprocess.DEVNULL}
         how |= {"stdout": subprocess.PIPE, "stderr": subprocess.STDOUT}
-        with subprocess.Popen(["sh", f"{room}/script"], start_new_session=True, **how) as shell:
+        # also below nohup
+        words = ["env", "--default-signal", "sh", f"{room}/script"]
+        with subprocess.Popen(words, start_new_session=True, **how) as shell:
             try:
                 for output, status in outputs(end, shell.stdout, len(commands)):
                     lines = [shown(it) for it in re.findall(rb"[^\n]*\n|[^\n]+", output)]

@@ -18,7 +18,7 @@ The steps are lines of standard input:
   kill NAME P    sends a signal to the first child of the job's process whose words begin with P
   updates        says whether all rows were drawn in synchronized updates, which have ended
   modes          says whether the modes of the terminal are those of the start
-  raw            waits until it passes on each key at once
+  raw            waits until it passes on each key at once, or `cooked` until it passes on lines
   file NAME      waits until there is a file
   close          closes the window
   ended          waits until the job has ended, and says how
@@ -174,6 +174,10 @@ class Play:
         found = subprocess.run(words, capture_output=True)
         return int(found.stdout.split()[0])
 
+    def has_lines(self):
+        """Returns whether the terminal passes on lines."""
+        return bool(termios.tcgetattr(self.theirs)[3] & termios.ICANON)
+
     def same_modes(self):
         """Returns whether the modes of the terminal are those of the start."""
         is_same = termios.tcgetattr(self.theirs) == self.modes_before
@@ -215,8 +219,8 @@ class Play:
                     self.send("one", words, "")
                 self.read()
             self.report(name)
-        elif name == "raw":
-            self.wait(lambda: not termios.tcgetattr(self.theirs)[3] & termios.ICANON, "raw")
+        elif name in ("raw", "cooked"):
+            self.wait(lambda: self.has_lines() == (name == "cooked"), name)
         elif name == "file":
             self.wait(lambda: os.path.exists(words), f"there: {words}")
         elif name == "close":
