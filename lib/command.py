@@ -43,6 +43,7 @@ The manual says all of it: man prodash
 SHORT = {
     "run": "runs a command with rows below its output, which any of its processes may add",
     "each": "runs a command for each line of its input, with rows for those that run",
+    "pipe": "passes standard input on to standard output, with a row that counts it",
     "live": "shows the event lines of standard input",
     "replay": "writes the frames of a recording, or the page that they leave",
     "picture": "makes an animated picture of a recording",
@@ -53,7 +54,7 @@ LIBRARIES = {"sh": "/prodash.sh", "python": ""}
 
 def text(scripts):
     """Returns the help, with the commands that there are."""
-    names = ("run", "each", *scripts)
+    names = ("run", "each", "pipe", *scripts)
     return HELP.format(commands="\n".join(f"  {it:8} {SHORT[it]}" for it in names))
 
 
@@ -68,9 +69,9 @@ def say_library(words, folder):
 
 
 def main(words, program, scripts, libraries):
-    """Runs a command. `program` returns the path of prodash-live, or None if there is none.
+    """Runs a command. `program` returns the path of a program, or None if there is none.
 
-    The other commands are the scripts at these paths. The libraries for scripts are in a folder.
+    It is that of prodash-live, unless another one is named. The other commands are the scripts at these paths. The libraries for scripts are in a folder.
     """
     name, *rest = words or ["help"]
     if name == "run":
@@ -83,6 +84,10 @@ def main(words, program, scripts, libraries):
         import each
 
         return each.main(program, rest)
+    if name == "pipe":
+        import pipe
+
+        return pipe.main(program, rest)
     if name in scripts:
         os.execv(scripts[name], [scripts[name], *rest])
     if name in ("--version", "-V"):
@@ -92,6 +97,6 @@ def main(words, program, scripts, libraries):
     if name in ("help", "--help", "-h"):
         os.write(1, text(scripts).encode())
         return 0
-    said = f"prodash: no command {name}: run, each, {', '.join(scripts)} or help\n"
+    said = f"prodash: no command {name}: run, each, pipe, {', '.join(scripts)} or help\n"
     os.write(2, said.encode())
     return 2

@@ -17,7 +17,9 @@ a folder that was moved, with only Python on the path.
   prefix/lib/prodash/job.py
   prefix/lib/prodash/keys.py
   prefix/lib/prodash/live.py
+  prefix/lib/prodash/pipe.py
   prefix/lib/prodash/prodash-live
+  prefix/lib/prodash/prodash-pipe
   prefix/lib/prodash/relay.py
   prefix/lib/prodash/run.py
   prefix/lib/prodash/screen.py
@@ -54,10 +56,12 @@ a folder that was moved, with only Python on the path.
   got one
   $ printf 'add @a 0 alpha\ninfo @a 0 two\n' | alone moved/bin/prodash live --stdout
    alpha two
+  $ echo passed | alone moved/bin/prodash pipe
+  passed
   $ alone moved/bin/prodash help | head -n 1
   Progress on the terminal, for a job, a script or a recording
   $ alone moved/bin/prodash picture
-  prodash: no command picture: run, each, live, replay or help
+  prodash: no command picture: run, each, pipe, live, replay or help
   [2]
 
 A script finds the libraries, and the shells their completions.

@@ -35,6 +35,7 @@ PROGRAMS = {
     "prodash_bench": "prodash-bench",
     "prodash_examples": "prodash-examples",
     "prodash_live": "prodash-live",
+    "prodash_pipe": "prodash-pipe",
     "prodash_replay": "prodash-replay",
 }
 
