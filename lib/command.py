@@ -45,9 +45,11 @@ SHORT = {
     "each": "runs a command for each line of its input, with rows for those that run",
     "pipe": "passes standard input on to standard output, with a row that counts it",
     "live": "shows the event lines of standard input",
-    "replay": "writes the frames of a recording, or the page that they leave",
+    "replay": "plays a recording, or writes its frames or the page that they leave",
     "picture": "makes an animated picture of a recording",
 }
+# Words by which prodash-replay writes frames; without one a file is played.
+FRAMES = ("bytes", "page", "--help", "-h", "--version", "-V")
 # What a script loads, below the folder of the libraries.
 LIBRARIES = {"sh": "/prodash.sh", "python": ""}
 
@@ -88,6 +90,10 @@ def main(words, program, scripts, libraries):
         import pipe
 
         return pipe.main(program, rest)
+    if name == "replay" and rest and not any(it in FRAMES for it in rest):
+        import play
+
+        return play.main(program, rest)
     if name in scripts:
         os.execv(scripts[name], [scripts[name], *rest])
     if name in ("--version", "-V"):

@@ -18,6 +18,7 @@ a folder that was moved, with only Python on the path.
   prefix/lib/prodash/keys.py
   prefix/lib/prodash/live.py
   prefix/lib/prodash/pipe.py
+  prefix/lib/prodash/play.py
   prefix/lib/prodash/prodash-live
   prefix/lib/prodash/prodash-pipe
   prefix/lib/prodash/relay.py
