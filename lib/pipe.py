@@ -57,9 +57,11 @@ def size_to_come():
     """Returns the size of what is left of standard input, if that is a file."""
     try:
         it = os.fstat(0)
-        return max(it.st_size - os.lseek(0, 0, os.SEEK_CUR), 0) if stat.S_ISREG(it.st_mode) else None
+        if stat.S_ISREG(it.st_mode):
+            return max(it.st_size - os.lseek(0, 0, os.SEEK_CUR), 0)
     except OSError:
-        return None
+        pass
+    return None
 
 
 class Given:
