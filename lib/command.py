@@ -90,10 +90,14 @@ def main(words, program, scripts, libraries):
         import pipe
 
         return pipe.main(program, rest)
-    if name == "replay" and rest and not any(it in FRAMES for it in rest):
+    if name == "replay":
         import play
 
-        return play.main(program, rest)
+        if rest and not any(it in FRAMES for it in rest):
+            return play.main(program, rest)
+        if "-h" in rest or "--help" in rest:
+            # that of the other words follows
+            os.write(1, f"{play.HELP}\n".encode())
     if name in scripts:
         os.execv(scripts[name], [scripts[name], *rest])
     if name in ("--version", "-V"):

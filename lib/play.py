@@ -147,9 +147,6 @@ def run(program, words):
 
 def main(program, words):
     """Plays the recording of these words. `program` returns the path of a program, or None."""
-    if "-h" in words or "--help" in words:
-        os.write(1, HELP.encode())
-        return 0
     try:
         return run(program, words)
     except Wrong as wrong:

@@ -26,7 +26,7 @@ The manual has each command that is installed, each line and each option of the 
   $ ! command -v mandoc >/dev/null || mandoc -Tlint "$manual"
   $ grep -x drop words
   drop
-  $ { prodash run --help; prodash live --help; prodash-replay --help; } >helps
+  $ { prodash run --help; prodash live --help; prodash replay --help; } >helps
   $ grep -oE '^ +(-., )?--[a-z-]+' helps | sed 's/.* --//' | while read -r it; do
   >     grep -qE "Fl -$it( |$)" "$manual" || echo "$it"
   > done
