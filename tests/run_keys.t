@@ -69,9 +69,10 @@ A program that reads keys of the terminal that its output is gets them, too.
 The terminal passes on lines again soon after the program has set the modes back, also if nothing is
 written then.
 
+  $ sed 's/^termios.*before)$/os.read(3, 9); &/' reads.py >later.py
   $ cat >quiet <<'.'
   > . ./job
-  > python3 reads.py; read line; echo "read $line"
+  > python3 later.py; read line; echo "read $line"
   > .
   $ begun=$(date +%s)
   $ { echo "run prodash-run --no-color -- sh quiet"; cat <<'.'; } | on-terminal 40 8
@@ -79,6 +80,7 @@ written then.
   > raw
   > keys k
   > until pressed k
+  > tell go
   > cooked
   > keys a line\n
   > ended
@@ -174,13 +176,17 @@ typed isn't shown.
 The modes of the user's terminal are given back also if it doesn't set its own back.
 
   $ sed '$d' reads.py >ends.py
-  $ { echo "run prodash-run --no-color -- python3 ends.py"; cat <<'.'; } | on-terminal 40 8
-  > until press
+  $ for it in raw 'kill KILL prodash-live'; do
+  >   { echo "run prodash-run --no-color -- python3 ends.py"; printf 'until press\nraw\n%s\n' "$it"
+  >   cat <<'.'; } | on-terminal 60 8
   > keys k
   > ended
   > modes
   > .
+  > done
   status 0
+  same modes
+  status 1
   same modes
 
 On a terminal without rows they are the job's, too.
