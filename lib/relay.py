@@ -134,8 +134,6 @@ class Relay:
     def read_events(self):
         """Passes on lines to the display. Returns how many bytes they have, 0 at their end."""
         lines = os.read(self.events, READ)
-        if not self.display.lines:
-            self.taken = self.clock()
         self.display.send(lines)
         if not lines:
             self.events = None
@@ -181,6 +179,9 @@ class Relay:
         ready = dict(poll.poll(max(min(times) + 0.001, 0) * 1000 if times else None))
         if self.terminal.left:
             self.stopped += time.monotonic() - begun
+        if not (self.display.lines or self.is_ending):
+            # the display had nothing to take
+            self.taken = self.clock()
         return ready
 
     def times(self):

@@ -117,6 +117,22 @@ One that takes lines slowly isn't stuck, and one that takes none is given up in 
   137
   $ [ $(($(date +%s) - begun)) -lt 10 ]
 
+Nor is one that had nothing to take for as long, at a new size of the terminal.
+
+  $ cat >rests <<'.'
+  > . ./job
+  > sleep 2.2; echo >rested; next
+  > .
+  $ { echo 'run prodash-run --no-color -- sh rests'; cat <<'.'; } | on-terminal 60 8
+  > until 3/10
+  > file rested
+  > size 40 8
+  > until 3/10 files [=====>--------------]
+  > tell go
+  > ended
+  > .
+  status 0
+
 How long this is stopped counts nowhere. On this clock it is a hundred seconds.
 
   $ cat >clock.py <<'.'
