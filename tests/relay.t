@@ -66,8 +66,10 @@ A script waits for an output that nobody reads, and a second SIGTERM ends what w
 
 So does a job for a terminal that stops.
 
-  $ { echo 'run prodash-run --no-color -- sh -c "echo one; read _ <go; exec python3 writes.py 2>said"'
-  >   cat <<'.'; } | on-terminal 60 8
+  $ cat >fast <<'.'
+  > echo one; read _ <go; python3 writes.py 2>saying; mv saying said
+  > .
+  $ { echo 'run prodash-run --no-color -- sh fast'; cat <<'.'; } | on-terminal 60 8
   > until one
   > keys \x13
   > tell go
