@@ -73,14 +73,18 @@ impl<'a, R: Wait + Threads + Clone + Drop, W: Write + Drop, K: Clock> Feed<'a, R
                 break;
             }
             let line = without_return(lines.line());
-            let Some(text) = self.serve_bytes(number, next, line)? else {
+            let text = str::from_utf8(line).ok();
+            if self.change_step(next, text)? {
+                continue;
+            }
+            let Some(fault) = self.serve_bytes(number, next, line, text)? else {
                 continue;
             };
             if is_strict {
-                return Ok(Outcome::Stopped(text));
+                return Ok(Outcome::Stopped(fault));
             }
             faults = faults.saturating_add(1);
-            self.report_fault(text)?;
+            self.report_fault(fault)?;
         }
         Ok(Outcome::Ended(faults))
     }
@@ -100,19 +104,30 @@ impl<'a, R: Wait + Threads + Clone + Drop, W: Write + Drop, K: Clock> Feed<'a, R
         Ok(next)
     }
 
-    /// Does what a line asks for, with U+FFFD in place of what isn't UTF-8. Returns what is said of
-    /// the line, if it is faulty.
+    /// Changes the step of an item, if a line is UTF-8 and asks for that, as most do. Returns
+    /// whether it did.
+    fn change_step(&mut self, next: Next, text: Option<&str>) -> Result<bool, Failure> {
+        match text {
+            Some(text) if next == Next::Line => Ok(self.items.change_step(text)?),
+            _ => Ok(false),
+        }
+    }
+
+    /// Does what a line asks for, with U+FFFD in place of what isn't UTF-8. `text` is the line if
+    /// all of it is. Returns what is said of the line, if it is faulty.
+    #[inline(never)]
     fn serve_bytes(
         &mut self,
         number: u64,
         next: Next,
         line: &[u8],
+        text: Option<&str>,
     ) -> Result<Option<String>, Failure> {
-        match str::from_utf8(line) {
-            Ok(line) => self.serve_text(number, next, line),
-            Err(_) => {
-                let line = String::from_utf8_lossy(self.alloc, line)?;
-                self.serve_text(number, next, line.as_str())
+        match text {
+            Some(text) => self.serve_text(number, next, text),
+            None => {
+                let text = String::from_utf8_lossy(self.alloc, line)?;
+                self.serve_text(number, next, text.as_str())
             }
         }
     }
@@ -124,9 +139,6 @@ impl<'a, R: Wait + Threads + Clone + Drop, W: Write + Drop, K: Clock> Feed<'a, R
         next: Next,
         line: &str,
     ) -> Result<Option<String>, Failure> {
-        if next == Next::Line && self.items.change_step(line)? {
-            return Ok(None);
-        }
         match self.serve(next, line) {
             Ok(()) => Ok(None),
             Err(Unserved::Fault(fault)) => Ok(Some(fault_text(self.alloc, number, &fault, line)?)),
