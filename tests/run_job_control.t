@@ -226,11 +226,13 @@ With a terminal of its own all processes of the job are stopped with it.
   > . ./job
   > sh -c 'echo $$ >pid; exec sleep 60' & until [ -s pid ]; do :; done; echo one; next; kill $(cat pid)
   > .
-  $ until ps -o stat= -p "$(cat pid 2>/dev/null)" 2>/dev/null | grep -q T; do sleep 0.1; done >halts &
+  $ { until ps -o stat= -p "$(cat pid 2>/dev/null)" 2>/dev/null | grep -q T; do sleep 0.1; done
+  >   echo T >halts; } &
   $ { echo 'run prodash-run --pty -- sh child'; cat <<'.'; } | on-terminal 40 8
   > until one
   > one TSTP
   > stopped
+  > file halts
   > .
   stopped
   $ wait $!
