@@ -9,7 +9,8 @@ use Rattle.prodash_line.specs.declared.render.line.draw.layout.Layout.{Layout}
 use Rattle.prodash_line.specs.declared.render.line.draw.layout.Layout.TheVariants.{Overwriting, Erasing}
 use Rattle.prodash_line.specs.Lines.{Line}
 use Rattle.prodash_line.specs.Frames.{overwrite_line, message_layout, lines_over, unwrapped, erasing_start, erasing_end, blank_below, has_lines, messages_start, cursor_up, erased_rows, left_over, redraw, Body, Unchanged, Draws, Closes, Frame, frame_signs}
-use Rattle.prodash_line.specs.CellRows.{Cell, blank_cells, blank_row}
+use Rattle.prodash_line.specs.CellRows.{blank_cells, blank_row}
+use Rattle.prodash_line.specs.declared.render.line.page.cell.Cell.{Cell}
 use Rattle.prodash_line.specs.Terminals.{Terminal, terminal_after_sign, terminal_after}
 use Rattle.prodash_line.specs.ErasedPages.{HasSize, line_row, line_rows, message_rows, ShowsErased, ShowsBody}
 use Rattle.prodash_line.proofs.TerminalRows.{at, terminal_after-append, erase_at, below_or, next_on, erased_line_at, rows_after, length-rows_after, some_is, below_at, cursor_up_at}

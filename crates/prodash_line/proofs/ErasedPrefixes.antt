@@ -13,8 +13,9 @@ use Rattle.prodash_line.specs.declared.render.line.draw.input.Answer.{Answer}
 use Rattle.prodash_line.specs.declared.render.line.draw.input.Options.{Options}
 use Rattle.prodash_line.specs.Lines.{Line, line_text}
 use Rattle.prodash_line.specs.DrawnLines.{erases_rows}
-use Rattle.prodash_line.specs.Frames.{Body, Unchanged, Draws, Closes, Frame, body_lines, lines_after, frame_signs, all_lines_after, printed_lines}
-use Rattle.prodash_line.specs.CellRows.{Cell, blank_cells, wrapped}
+use Rattle.prodash_line.specs.Frames.{Body, Unchanged, Draws, Closes, body_lines, lines_after, frame_signs, all_lines_after, printed_lines}
+use Rattle.prodash_line.specs.CellRows.{blank_cells, wrapped}
+use Rattle.prodash_line.specs.declared.render.line.page.cell.Cell.{Cell}
 use Rattle.prodash_line.specs.Terminals.{Terminal, terminal_after}
 use Rattle.prodash_line.specs.Reading.{AreProper}
 use Rattle.prodash_line.specs.Renderer.{Renderer, Renders, remember, frame_at, frame_bytes, next_renderer}

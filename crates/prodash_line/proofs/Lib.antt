@@ -1,6 +1,7 @@
 pub mod ScreenTaken
 pub mod PairedTexts
 pub mod PlainRows
+pub mod PlainPages
 pub mod PlainProgress
 pub mod Prefixes
 pub mod Cutting

@@ -4,7 +4,9 @@ use Rattle.std.specs.Prelude.{min}
 use Rattle.std.specs.List.{AllByRecursion}
 use Rattle.prodash_line.specs.Lines.{Line, columns_of, line_text}
 use Rattle.prodash_line.specs.Fits.{IsPlainChar, IsPlainPiece, IsPlain}
-use Rattle.prodash_line.specs.CellRows.{Cell, Holds, blank_cells, text_columns, or_none, char_columns, joined_with, joined, cells_with, shown}
+use Rattle.prodash_line.specs.CellRows.{blank_cells, text_columns, or_none, char_columns, joined_with, joined, cells_with, shown}
+use Rattle.prodash_line.specs.declared.render.line.page.cell.Cell.{Cell}
+use Rattle.prodash_line.specs.declared.render.line.page.cell.Cell.TheVariants.{Holds}
 use Rattle.prodash_line.specs.ErasedPages.{line_row}
 use Rattle.prodash_line.proofs.Lists.{AllByRecursion-append}
 use Rattle.prodash_line.proofs.WholeTexts.{shows_whole}

@@ -9,7 +9,8 @@ use Rattle.prodash_line.specs.declared.render.line.page.sign.Sign.TheVariants.{C
 use Rattle.prodash_line.specs.declared.render.line.page.style.Style.{Style}
 use Rattle.prodash_line.specs.Lines.{Line, columns_of, line_text}
 use Rattle.prodash_line.specs.Frames.{styled_signs, piece_signs, line_signs, overwrite_line, cursor_up}
-use Rattle.prodash_line.specs.CellRows.{Cell, CellRow, blank_cells, blank_row, put, typed}
+use Rattle.prodash_line.specs.CellRows.{CellRow, blank_cells, blank_row, put, typed}
+use Rattle.prodash_line.specs.declared.render.line.page.cell.Cell.{Cell}
 use Rattle.prodash_line.specs.Terminals.{Terminal, with_cells, next_line, put_in, blank_rows_below, terminal_after_sign, terminal_after}
 use Rattle.prodash_line.specs.ErasedPages.{line_row}
 

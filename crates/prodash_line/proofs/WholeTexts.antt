@@ -3,7 +3,9 @@ use Rattle.std.proofs.Common.{◌≡◌, ℕ, zero, suc, ◌+◌, ◌-◌, ◌�
 use Rattle.std.specs.Prelude.{min}
 use Rattle.std.proofs.lemmas.Bool.{le-ltb}
 use Rattle.std.proofs.lemmas.List.{append-nil, get_or_at, set_at, get_or-drop, drop_at, length_push}
-use Rattle.prodash_line.specs.CellRows.{Cell, Holds, Half, CellRow, blank_cell, blank_cells, blank_row, is_half, blank_if_half, write, join, joined_by, put, typed, played, wrapped, wrapped_from, text_columns, joined_with, joined, cells_with, shown}
+use Rattle.prodash_line.specs.CellRows.{CellRow, blank_cell, blank_cells, blank_row, is_half, blank_if_half, write, join, joined_by, put, typed, played, wrapped, wrapped_from, text_columns, joined_with, joined, cells_with, shown}
+use Rattle.prodash_line.specs.declared.render.line.page.cell.Cell.{Cell}
+use Rattle.prodash_line.specs.declared.render.line.page.cell.Cell.TheVariants.{Holds, Half}
 
 -- these cells, then blank ones, with the cursor between them
 abbrev filled : List Cell → ℕ → CellRow

@@ -4,7 +4,7 @@ use Rattle.std.specs.Prelude.{codes}
 use Rattle.std.specs.Str.{chars}
 use Rattle.std.specs.List.{AllByRecursion}
 use Rattle.unicode_width.specs.Width.{str_width, step, past_emoji}
-use Rattle.prodash_base.specs.Rows.{PathRow, unknown_id}
+use Rattle.prodash_base.specs.Rows.{unknown_id}
 use Rattle.prodash_base.specs.Messages.{message_of}
 use Rattle.prodash_base.specs.declared.messages.Message.{Message}
 use Rattle.prodash_base.specs.declared.messages.MessageLevel.TheVariants.{Info}
@@ -12,7 +12,9 @@ use Rattle.prodash_base.specs.declared.refusal.Refusal.TheVariants.{Memory}
 use Rattle.prodash_line.specs.declared.render.line.draw.input.Input.{Input}
 use Rattle.prodash_line.specs.declared.render.line.draw.input.Input.TheVariants.{Tick, Resize}
 use Rattle.prodash_line.specs.declared.render.line.draw.input.Answer.TheVariants.{Drawn}
-use Rattle.prodash_line.specs.CellRows.{Cell, Holds, Half, blank_cell, blank_cells}
+use Rattle.prodash_line.specs.CellRows.{blank_cell, blank_cells}
+use Rattle.prodash_line.specs.declared.render.line.page.cell.Cell.{Cell}
+use Rattle.prodash_line.specs.declared.render.line.page.cell.Cell.TheVariants.{Holds, Half}
 use Rattle.prodash_line.specs.Terminals.{Terminal, terminal_after}
 use Rattle.prodash_line.specs.Renderer.{Renderer, default_options, new_renderer}
 use Rattle.prodash_line.specs.Renderings.{Rendering}

@@ -6,7 +6,9 @@ use Rattle.prodash_line.specs.declared.render.line.draw.layout.Layout.TheVariant
 use Rattle.prodash_line.specs.declared.render.line.draw.layout.Layout.{Layout}
 use Rattle.prodash_line.specs.Lines.{piece}
 use Rattle.prodash_line.specs.Frames.{Draws, Frame, frame_signs}
-use Rattle.prodash_line.specs.CellRows.{Cell, Holds, Half, blank_cell, blank_cells, played, wrapped, shown}
+use Rattle.prodash_line.specs.CellRows.{blank_cell, blank_cells, played, wrapped, shown}
+use Rattle.prodash_line.specs.declared.render.line.page.cell.Cell.{Cell}
+use Rattle.prodash_line.specs.declared.render.line.page.cell.Cell.TheVariants.{Holds, Half}
 use Rattle.prodash_line.specs.Terminals.{Terminal, terminal_after}
 use Rattle.prodash_line.specs.ErasedPages.{HasSize}
 

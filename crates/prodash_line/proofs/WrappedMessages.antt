@@ -9,7 +9,8 @@ use Rattle.prodash_line.specs.declared.render.line.page.style.Style.{Style}
 use Rattle.prodash_line.specs.declared.render.line.draw.layout.Layout.TheVariants.{Overwriting}
 use Rattle.prodash_line.specs.Lines.{Line, columns_of, line_text}
 use Rattle.prodash_line.specs.Frames.{styled_signs, piece_signs, line_signs, overwrite_line, lines_over, blank_below}
-use Rattle.prodash_line.specs.CellRows.{Cell, CellRow, blank_cells, blank_row, put, wrapped, wrapped_from}
+use Rattle.prodash_line.specs.CellRows.{CellRow, blank_cells, blank_row, put, wrapped, wrapped_from}
+use Rattle.prodash_line.specs.declared.render.line.page.cell.Cell.{Cell}
 use Rattle.prodash_line.specs.Terminals.{Terminal, next_line, put_in, terminal_after_sign, terminal_after}
 use Rattle.prodash_line.specs.ErasedPages.{message_rows}
 use Rattle.prodash_line.proofs.TerminalRows.{at, on, terminal_after-append, put_on, erase_at, below_or, next_on, below_at, cursor_up_at}

@@ -1,11 +1,8 @@
 -- Rows of cells on a terminal, for any widths of characters: what writing characters of no, one or two columns into them leaves.
 use Rattle.std.specs.Prelude.{ℕ, zero, suc, ◌+◌, ◌-◌, min, Bool, true, false, List, [], ◌∷◌, ◌++◌, replicate, slice_index_or, slice_set, nat_lt, if◌then◌else◌, Option, Some, None}
 use Rattle.unicode_width.specs.Width.{char_width}
-
--- a character with those that joined it, or the second half of a wide one
-pub data Cell : Type 0 where
-  Holds : ℕ → List ℕ → Cell
-  Half : Cell
+use Rattle.prodash_line.specs.declared.render.line.page.cell.Cell.{Cell}
+use Rattle.prodash_line.specs.declared.render.line.page.cell.Cell.TheVariants.{Holds, Half}
 
 -- a blank cell is a space
 abbrev pub blank_cell : Cell

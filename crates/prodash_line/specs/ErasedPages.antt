@@ -11,7 +11,8 @@ use Rattle.prodash_line.specs.Signs.{spelling}
 use Rattle.prodash_line.specs.Lines.{Line, columns_of, line_text}
 use Rattle.prodash_line.specs.DrawnLines.{erases_rows, prints_whole}
 use Rattle.prodash_line.specs.Frames.{Body, Unchanged, Draws, Closes, Frame, body_lines, frame_signs, all_lines_after, printed_lines}
-use Rattle.prodash_line.specs.CellRows.{Cell, blank_cells, played, wrapped, text_columns, shown}
+use Rattle.prodash_line.specs.CellRows.{blank_cells, played, wrapped, text_columns, shown}
+use Rattle.prodash_line.specs.declared.render.line.page.cell.Cell.{Cell}
 use Rattle.prodash_line.specs.Terminals.{Terminal, terminal_after}
 use Rattle.prodash_line.specs.Reading.{AreProper}
 use Rattle.prodash_line.specs.Renderer.{Renderer, remember, frame_at}

@@ -1,5 +1,5 @@
 -- A page: all rows ever, of which the last are the window, and a cursor.
-use Rattle.std.specs.Prelude.{◌≡◌, ◌<◌, Bool, true, false, ◌&&◌, nat_le, ℕ, ◌+◌, ◌-◌, max, List, [], ◌∷◌, ◌++◌, length, take, replicate, slice_index_or, slice_set, nat_lt, if◌then◌else◌}
+use Rattle.std.specs.Prelude.{Bool, true, false, ℕ, ◌+◌, ◌-◌, max, List, [], ◌∷◌, ◌++◌, length, take, replicate, slice_index_or, slice_set, nat_lt, if◌then◌else◌}
 use Rattle.prodash_line.specs.declared.render.line.page.sign.Sign.{Sign}
 use Rattle.prodash_line.specs.declared.render.line.page.sign.Sign.TheVariants.{Char, LineFeed, CarriageReturn, Up, EraseLine, EraseBelow, HideCursor, ShowCursor, NoWrap, Wrap, BeginUpdate, EndUpdate, Open, Reset}
 
@@ -16,10 +16,6 @@ pub record Canvas : Type 0 where
 -- a row of spaces
 abbrev pub blank : ℕ → List ℕ
 blank columns = replicate columns 32
-
--- row n of all rows is this one
-abbrev pub IsRow : List (List ℕ) → ℕ → List ℕ → Type 0
-IsRow rows n row = (n < length rows) × (row ≡ slice_index_or rows n [])
 
 -- a page of blank rows, with the cursor at its beginning
 abbrev pub blank_page : ℕ → ℕ → Canvas
@@ -74,23 +70,6 @@ after_sign BeginUpdate p = p
 after_sign EndUpdate p = p
 after_sign (Open style) p = p
 after_sign Reset p = p
-
--- does the sign lead to a row that isn't there yet?
-abbrev pub adds_row : Sign → Canvas → Bool
-adds_row (Char c) p = p.wraps && nat_le p.columns p.column && nat_le (length p.rows) (p.row + 1)
-adds_row LineFeed p = nat_le (length p.rows) (p.row + 1)
-adds_row CarriageReturn p = false
-adds_row (Up n) p = false
-adds_row EraseLine p = false
-adds_row EraseBelow p = false
-adds_row HideCursor p = false
-adds_row ShowCursor p = false
-adds_row NoWrap p = false
-adds_row Wrap p = false
-adds_row BeginUpdate p = false
-adds_row EndUpdate p = false
-adds_row (Open style) p = false
-adds_row Reset p = false
 
 -- the page after these signs
 abbrev pub page_after : List Sign → Canvas → Canvas

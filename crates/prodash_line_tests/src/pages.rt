@@ -1,7 +1,7 @@
 use crate::fixtures::{MESSAGE_FRAME, TASK_FRAME, assert_distinct, assert_same};
 use crate::styles::{assert_fault, assert_spelled};
 use prodash_line::render::line::draw::Answer;
-use prodash_line::render::line::page::{Fault, Page, Sign, read};
+use prodash_line::render::line::page::{Cell, CharColumns, Fault, Page, Sign, UnicodeWidth, read};
 use std::alloc::Global;
 use std::process::Abort;
 
@@ -47,22 +47,36 @@ const WRITTEN: &[Written] = &[
 ];
 
 /// A page of this many columns and rows, with the signs of all parts written to it.
-fn page_after(rt: &impl Abort, alloc: Global, columns: u16, height: u16, parts: &[&str]) -> Page {
+pub(crate) fn page_after<W: CharColumns>(
+    rt: &impl Abort,
+    alloc: Global,
+    widths: &W,
+    (columns, height): (u16, u16),
+    parts: &[&str],
+) -> Page {
     assert!(rt; columns > 0 && height > 0);
     let mut page = Page::new(alloc, columns, height).expect(rt, "memory");
     for part in parts {
         for sign in &read(alloc, part.as_bytes()).expect(rt, "no refusal") {
-            page.apply(alloc, sign).expect(rt, "no refusal");
+            page.apply(alloc, widths, sign).expect(rt, "no refusal");
         }
     }
     page
 }
 
-/// The characters of a row.
-fn row_text(rt: &impl Abort, alloc: Global, page: &Page, n: usize) -> String {
+/// The characters of a row, with `<` for the second half of a wide one.
+pub(crate) fn row_text(rt: &impl Abort, alloc: Global, page: &Page, n: usize) -> String {
     let mut text = String::new(alloc);
-    for c in page.row(n).expect(rt, "a row") {
-        text.push(*c).expect(rt, "memory");
+    for cell in page.row(n).expect(rt, "a row") {
+        match cell {
+            Cell::Holds(c, joined) => {
+                text.push(*c).expect(rt, "memory");
+                for other in joined.as_slice() {
+                    text.push(*other).expect(rt, "memory");
+                }
+            }
+            Cell::Half => text.push('<').expect(rt, "memory"),
+        }
     }
     text
 }
@@ -80,9 +94,9 @@ fn assert_rows(rt: &impl Abort, alloc: Global, page: &Page, columns: u16, rows: 
 
 #[test]
 fn pages_show_what_is_written(rt: HostRuntime) {
-    for ((columns, height), parts, rows, top, cursor) in WRITTEN {
-        let page = page_after(&rt, rt.alloc(), *columns, *height, parts);
-        assert_rows(&rt, rt.alloc(), &page, *columns, rows);
+    for (size, parts, rows, top, cursor) in WRITTEN {
+        let page = page_after(&rt, rt.alloc(), &UnicodeWidth, *size, parts);
+        assert_rows(&rt, rt.alloc(), &page, size.0, rows);
         assert_same(&rt, (page.top(), page.cursor()), (*top, *cursor), *parts);
     }
 }
@@ -93,7 +107,7 @@ fn pages_have_thousands_of_rows(rt: HostRuntime) {
     assert_same(&rt, (high.rows(), high.top()), (2000, 0), "high page");
     let mut page = Page::new(rt.alloc(), 1, 1).expect(&rt, "memory");
     for _ in 0..2000 {
-        page.apply(rt.alloc(), &Sign::LineFeed)
+        page.apply(rt.alloc(), &UnicodeWidth, &Sign::LineFeed)
             .expect(&rt, "no refusal");
     }
     assert_same(&rt, (page.rows(), page.top()), (2001, 2000), "long page");

@@ -3,7 +3,7 @@ ghost use Rattle.std.specs.Prelude.{◌<◌};
 use prodash_base::Refusal;
 use prodash_core::tree::{Event, Reply, RootOptions, SessionOptions, run};
 use prodash_line::render::line::draw::{self, MemoryScreen};
-use prodash_line::render::line::page::{Page, read};
+use prodash_line::render::line::page::{Cell, Page, UnicodeWidth, read};
 use prodash_programs::{Fault, dimension, report, version_line, write_all};
 use prodash_script::{Labels, parse};
 use std::alloc::{AllocError, Global};
@@ -252,7 +252,7 @@ fn is_out_of_memory(reply: &Reply) -> bool {
 fn rows_written(alloc: Global, options: &ReplayOptions, bytes: &[u8]) -> Result<Vec<u8>, Fault> {
     let mut page = Page::new(alloc, options.columns, options.rows)?;
     for sign in &read(alloc, bytes)? {
-        page.apply(alloc, sign)?;
+        page.apply(alloc, &UnicodeWidth, sign)?;
     }
     let mut text = String::new(alloc);
     for n in 0..page.rows() {
@@ -264,13 +264,26 @@ fn rows_written(alloc: Global, options: &ReplayOptions, bytes: &[u8]) -> Result<
 }
 
 /// Appends a row without trailing blanks, and a line feed.
-fn push_trimmed(out: &mut String, row: &[char]) -> Result<(), AllocError> {
+fn push_trimmed(out: &mut String, row: &[Cell]) -> Result<(), AllocError> {
     let shown = row
         .iter()
-        .rposition(|c| *c != ' ')
+        .rposition(|cell| !is_blank(cell))
         .map_or(0, |last| last + 1);
-    for c in &row[..shown] {
-        out.push(*c)?;
+    for cell in &row[..shown] {
+        if let Cell::Holds(c, joined) = cell {
+            out.push(*c)?;
+            for other in joined.as_slice() {
+                out.push(*other)?;
+            }
+        }
     }
     out.push('\n')
+}
+
+/// Whether a cell is blank.
+fn is_blank(cell: &Cell) -> bool {
+    match cell {
+        Cell::Holds(c, joined) => *c == ' ' && joined.as_slice().is_empty(),
+        Cell::Half => false,
+    }
 }

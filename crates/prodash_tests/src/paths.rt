@@ -60,7 +60,9 @@ mod engine {
 }
 
 mod page {
-    pub use prodash::render::line::page::{Color, Fault, Page, Sign, Style, read, spell};
+    pub use prodash::render::line::page::{
+        Cell, CharColumns, Color, Fault, Joined, Page, Sign, Style, UnicodeWidth, read, spell,
+    };
 }
 
 mod plain {

@@ -1,7 +1,7 @@
--- Rows of characters, without where they lie in memory.
-use Rattle.std.specs.Prelude.{ℕ, List, map}
-use Rattle.std.specs.Global.{Vec}
+-- A row of cells, with the cursor at a column.
+use Rattle.std.specs.Prelude.{ℕ, List}
+use Rattle.prodash_line.specs.CellRows.{CellRow}
+use Rattle.prodash_line.specs.declared.render.line.page.cell.Cell.{Cell}
 
--- the characters of each row
-abbrev pub cells : List (Vec ℕ) → List (List ℕ)
-cells rows = map (λ row. row.items) rows
+abbrev pub at_column : List Cell → ℕ → CellRow
+at_column cells column = record { cells = cells; column = column }

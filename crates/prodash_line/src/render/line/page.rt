@@ -1,17 +1,22 @@
 //! Signs, the bytes that spell them, and a page on which they are written.
-ghost use Rattle.std.specs.Prelude.{◌≡◌, ◌+◌, ◌-◌, ◌<◌, ◌≤◌, [], length, slice_index_or, slice_set, IfOk, IsOkUnless, OnOk, OnErr, MatchOption, IsTrue};
-ghost use Rattle.prodash_line.specs.plumbing.Cells.{cells};
+ghost use Rattle.std.specs.Prelude.{◌≡◌, ◌+◌, ◌-◌, ◌<◌, ◌≤◌, length, slice_index, IfOk, IsOkUnless, OnOk, OnErr, MatchOption, IsTrue};
 ghost use Rattle.std.specs.List.{All};
-ghost use Rattle.prodash_line.specs.Page.{blank, blank_page, blank_below, with_blank_from, IsRow, with_row, with_char, after_sign, adds_row};
+ghost use Rattle.prodash_line.specs.Terminals.{blank_terminal, with_cells, next_line, put_char, blank_rows_from, terminal_after_sign, adds_line, adds_char, needs_memory, IsRow};
 
+mod cell;
+mod char_columns;
 mod codes;
 mod reading;
+mod row_cells;
 mod sign;
 mod style;
 mod writing;
 
+pub use cell::{Cell, Joined};
+pub use char_columns::{CharColumns, UnicodeWidth};
 use prodash_base::Refusal;
 pub use reading::{Fault, read};
+use row_cells::RowCells;
 pub use sign::Sign;
 use std::alloc::{AllocError, Global};
 use std::marker::Model;
@@ -22,11 +27,16 @@ pub(crate) use writing::{push_open, push_reset, push_sign};
 /// A page on which signs are written: all rows ever, of which the last are the window, and a
 /// cursor.
 ///
+/// A character of one column takes a cell, and one of two columns takes two. One of no column joins
+/// the character before the cursor; at the beginning of a row it isn't shown. A character without
+/// room goes to the next row. Without wrapping it stays in the row: in the last cell if it has one
+/// column, while one of two columns blanks the last cell.
+///
 /// ```rust
 /// // 40 columns, and a window of 4 rows.
 /// let mut page = Page::new(alloc, 40, 4)?;
 /// for sign in &read(alloc, b"ab\n\x1b[1A")? {
-///     page.apply(alloc, sign)?;
+///     page.apply(alloc, &UnicodeWidth, sign)?;
 /// }
 /// // The row `ab` and 38 blanks, with the cursor back at its beginning.
 /// let row = page.row(0);
@@ -36,88 +46,49 @@ pub(crate) use writing::{push_open, push_reset, push_sign};
 pub struct Page {
     columns: u16,
     height: u16,
-    rows: Vec<Vec<char>>,
+    rows: Vec<RowCells>,
     row: usize,
     column: u16,
     wraps: bool,
 }
 
 impl Model for Page {
-    ghost use Rattle.prodash_line.specs.Page.{Canvas};
+    ghost use Rattle.prodash_line.specs.Terminals.{Terminal};
+    ghost use Rattle.prodash_line.specs.plumbing.PageInside.{terminal, IsPage};
 
-    ghost Value = { Canvas };
+    ghost Value = { Terminal };
 
-    ghost use Rattle.prodash_line.specs.plumbing.PageInside.{canvas, IsPage};
-
-    ghost view = { canvas };
+    ghost view = { terminal };
 
     ghost invariant = { IsPage };
-}
-
-/// Returns a blank row. Fails if out of memory.
-fn blank_row(alloc: Global, columns: u16) -> Result<Vec<char>, AllocError>
-    ensures { IfOk result (λ row. row.items ≡ blank columns) }
-{
-    Ok(vec![in alloc; ' '; columns as usize]?)
 }
 
 /// Adds a blank row below the last if the row isn't there. Fails if out of memory.
 fn add_row(
     alloc: Global,
-    rows: &mut Vec<Vec<char>>,
+    rows: &mut Vec<RowCells>,
     columns: u16,
     row: usize,
 ) -> Result<(), AllocError>
-    ensures ok { OnOk result (cells rows.new.items ≡ with_row columns row (cells rows.old.items)) }
+    ensures ok { OnOk result (rows.new.items ≡ with_cells columns row rows.old.items) }
     ensures err { OnErr result (rows.new.items ≡ rows.old.items) }
     ensures needed { OnErr result (length rows.old.items ≤ row) }
 {
     if row < rows.len() {
         return Ok(());
     }
-    let blank = blank_row(alloc, columns)?;
+    let blank = RowCells::blank(alloc, columns)?;
     rows.push(blank)?;
     Ok(())
 }
 
-/// Writes a character into a cell.
-fn write_cell(rows: &mut Vec<Vec<char>>, row: usize, column: usize, c: char)
-    requires row { row < length rows.old.items }
-    requires column { column < length (slice_index_or (cells rows.old.items) row []) }
-    ensures { cells rows.new.items ≡ with_char row column c (cells rows.old.items) }
-{
-    let cells = &mut rows[row];
-    cells[column] = c;
-}
-
-/// Blanks a row.
-fn erase_row(rows: &mut Vec<Vec<char>>, columns: u16, row: usize)
-    requires row { row < length rows.old.items }
-    requires width { length (slice_index_or (cells rows.old.items) row []) ≡ columns }
-    ensures { cells rows.new.items ≡ slice_set (cells rows.old.items) row (blank columns) }
-{
-    let cells = &mut rows[row];
-    cells.fill(' ');
-}
-
-/// Blanks a row from a column on.
-fn erase_row_from(rows: &mut Vec<Vec<char>>, columns: u16, row: usize, column: usize)
-    requires row { row < length rows.old.items }
-    requires column { column ≤ columns }
-    requires width { length (slice_index_or (cells rows.old.items) row []) ≡ columns }
-    ensures { cells rows.new.items ≡ with_blank_from columns row column (cells rows.old.items) }
-{
-    let cells = &mut rows[row];
-    cells[column..].fill(' ');
-}
-
 /// Blanks all rows from row `first` on.
-fn erase_rows(rows: &mut Vec<Vec<char>>, columns: u16, first: usize)
-    requires width { All (λ row. length row ≡ columns) (cells rows.old.items) }
-    ensures { cells rows.new.items ≡ blank_below columns first (cells rows.old.items) }
+fn blank_rows(alloc: Global, rows: &mut Vec<RowCells>, columns: u16, first: usize)
+    requires { All (λ row. length row ≡ columns) rows.old.items }
+    ensures { rows.new.items ≡ blank_rows_from columns first rows.old.items }
 {
     for row in first..rows.len() {
-        erase_row(rows, columns, row);
+        rows[row].blank_from(alloc, 0);
     }
 }
 
@@ -128,12 +99,12 @@ impl Page {
     pub fn new(alloc: Global, columns: u16, rows: u16) -> Result<Self, Refusal>
         requires wide { 0 < columns }
         requires high { 0 < rows }
-        ensures page { IfOk result (λ page. page ≡ blank_page columns rows) }
+        ensures page { IfOk result (λ page. page ≡ blank_terminal columns rows) }
         ensures reason { IsOkUnless result Refusal.Memory }
     {
         let mut blanks = Vec::new(alloc);
         for _ in 0..rows {
-            let blank = blank_row(alloc, columns)?;
+            let blank = RowCells::blank(alloc, columns)?;
             blanks.push(blank)?;
         }
         Ok(Page {
@@ -146,43 +117,33 @@ impl Page {
         })
     }
 
-    /// Writes one sign.
+    /// Writes one sign, on a terminal that gives characters these columns.
     ///
     /// `Memory`: out of memory. The page is unchanged.
-    pub fn apply(&mut self, alloc: Global, sign: &Sign) -> Result<(), Refusal>
-        ensures ok { OnOk result (self.new ≡ after_sign sign.now self.old) }
+    pub fn apply<W: CharColumns>(
+        &mut self,
+        alloc: Global,
+        widths: &W,
+        sign: &Sign,
+    ) -> Result<(), Refusal>
+        ensures ok { OnOk result
+            (self.new ≡ terminal_after_sign (W.given widths.now) sign.now self.old) }
         ensures err { OnErr result (self.new ≡ self.old) }
         ensures reason { IsOkUnless result Refusal.Memory }
 
-        // Only a new row needs memory.
-        ensures needed { OnErr result (IsTrue (adds_row sign.now self.old)) }
+        // Only a new row and a character that joins another one need memory.
+        ensures needed { OnErr result
+            (IsTrue (needs_memory (W.given widths.now) sign.now self.old)) }
     {
         match *sign {
-            Sign::Char(c) => {
-                if self.column < self.columns {
-                    write_cell(&mut self.rows, self.row, self.column as usize, c);
-                    self.column += 1;
-                } else if self.wraps {
-                    add_row(alloc, &mut self.rows, self.columns, self.row + 1)?;
-                    write_cell(&mut self.rows, self.row + 1, 0, c);
-                    self.row += 1;
-                    self.column = 1;
-                } else {
-                    write_cell(&mut self.rows, self.row, self.columns as usize - 1, c);
-                    self.column = self.columns;
-                }
-            }
-            Sign::LineFeed => {
-                add_row(alloc, &mut self.rows, self.columns, self.row + 1)?;
-                self.row += 1;
-                self.column = 0;
-            }
+            Sign::Char(c) => self.put_char(alloc, widths.columns(c), c)?,
+            Sign::LineFeed => self.next_row(alloc)?,
             Sign::CarriageReturn => self.column = 0,
             Sign::Up(n) => self.row = self.row.saturating_sub(n as usize).max(self.top()),
-            Sign::EraseLine => erase_row(&mut self.rows, self.columns, self.row),
+            Sign::EraseLine => self.rows[self.row].blank_from(alloc, 0),
             Sign::EraseBelow => {
-                erase_row_from(&mut self.rows, self.columns, self.row, self.column as usize);
-                erase_rows(&mut self.rows, self.columns, self.row + 1);
+                self.rows[self.row].blank_from(alloc, self.column);
+                blank_rows(alloc, &mut self.rows, self.columns, self.row + 1);
             }
             Sign::NoWrap => self.wraps = false,
             Sign::Wrap => self.wraps = true,
@@ -196,8 +157,41 @@ impl Page {
         Ok(())
     }
 
+    /// Puts the cursor at the beginning of the next row. Fails if out of memory.
+    fn next_row(&mut self, alloc: Global) -> Result<(), AllocError>
+        ensures ok { OnOk result (self.new ≡ next_line self.old) }
+        ensures err { OnErr result (self.new ≡ self.old) }
+        ensures needed { OnErr result (IsTrue (adds_line self.old)) }
+    {
+        add_row(alloc, &mut self.rows, self.columns, self.row + 1)?;
+        self.row += 1;
+        self.column = 0;
+        Ok(())
+    }
+
+    /// Writes a character of so many columns. Fails if out of memory.
+    fn put_char(&mut self, alloc: Global, columns: usize, c: char) -> Result<(), AllocError>
+        ensures ok { OnOk result (self.new ≡ put_char columns c self.old) }
+        ensures err { OnErr result (self.new ≡ self.old) }
+        ensures needed { OnErr result (IsTrue (adds_char columns self.old)) }
+    {
+        if columns == 0 {
+            return self.rows[self.row].join(self.column, c);
+        }
+        if self.wraps && ((self.columns - self.column) as usize) < columns.min(2) {
+            self.next_row(alloc)?;
+        }
+        let row = &mut self.rows[self.row];
+        self.column = if columns == 1 {
+            row.put_narrow(alloc, self.columns, self.column, c)
+        } else {
+            row.put_wide(alloc, self.columns, self.column, c)
+        };
+        Ok(())
+    }
+
     /// Returns row `n`, counted from the first row ever, or `None` if there are fewer rows.
-    pub fn row(&self, n: usize) -> Option<&[char]>
+    pub fn row(&self, n: usize) -> Option<&[Cell]>
         ensures { MatchOption result (length self.now.rows ≤ n)
             (λ row. IsRow self.now.rows n row.now) }
     {
