@@ -20,7 +20,7 @@ from screen import Messages, Screen
 HELP = """\
 Runs a command with rows below its output, which any of its processes may add
 
-Usage: prodash run [OPTIONS] -- COMMAND [WORD ..]
+Usage: prodash run [OPTIONS] [--] COMMAND [WORD ..]
        prodash run COMMAND [WORD ..]
 
 The command has PRODASH_FD in its environment: a descriptor that reads event lines, as
@@ -35,6 +35,8 @@ Options:
 # How many seconds: until a signal was for this process alone; without anything of a job that has
 # ended, until what others still write is left.
 ALONE, QUIET = 0.05, 0.2
+# The options of prodash-live that take a value, which may be the next word.
+VALUED = "--columns --rows --bar-columns --fps --delay --terminal --record".split()
 # What the job's output is: a terminal, that of a session of its own, or a pipe.
 TERMINAL, SESSION, PIPE = KINDS = ("", "--pty", "--no-pty")
 
@@ -332,10 +334,13 @@ class Run(Relay):
 
 def split(words):
     """Returns the options and the command among the words, or None if there is no command."""
-    if words and not words[0].startswith("-"):
-        return [], words
-    at = words.index("--") if "--" in words else len(words)
-    return (words[:at], words[at + 1 :]) if words[at + 1 :] else None
+    options, rest = [], list(words)
+    while rest and rest[0].startswith("-") and rest[0] != "--":
+        options.append(rest.pop(0))
+        if options[-1] in VALUED and rest and not rest[0].startswith("--"):
+            options.append(rest.pop(0))
+    command = rest[1:] if rest[:1] == ["--"] else rest
+    return (options, command) if command else None
 
 
 def stream_to_draw_on(options):
@@ -427,8 +432,8 @@ def main(program, words):
         return 0
     given = split(words)
     if given is None:
-        os.write(2, b"prodash run: no command behind --\n\n")
-        os.write(2, b"Usage: prodash run [OPTIONS] -- COMMAND [WORD ..]\n")
+        os.write(2, b"prodash run: no command\n\n")
+        os.write(2, b"Usage: prodash run [OPTIONS] [--] COMMAND [WORD ..]\n")
         return 2
     options, command = given
     if job.is_nested():

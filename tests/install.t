@@ -86,7 +86,8 @@ A script finds the libraries, and the shells their completions.
   > . moved/share/bash-completion/completions/prodash
   > compopt() { COMPREPLY=("by $*"); }
   > for words in "prodash r" "prodash run --pt" "prodash run --strict --term" \
-  >     "prodash run --pty -- seq" "prodash run seq" \
+  >     "prodash run --pty -- seq" "prodash run seq" "prodash run --pty seq" \
+  >     "prodash run --fps 30 seq" "prodash run --fps = 30 seq" "prodash run --terminal n" \
   >     "prodash live --term" "prodash live --terminal n" "prodash live --terminal = n" \
   >     "prodash live --record x" "prodash replay p" "prodash replay page 80 24 --d" \
   >     "prodash --lib p" "prodash-live --marks --str" "prodash-replay p" \
@@ -102,6 +103,10 @@ A script finds the libraries, and the shells their completions.
   prodash run --strict --term: --terminal
   prodash run --pty -- seq: seq
   prodash run seq: seq
+  prodash run --pty seq: seq
+  prodash run --fps 30 seq: seq
+  prodash run --fps = 30 seq: seq
+  prodash run --terminal n: never
   prodash live --term: --terminal
   prodash live --terminal n: never
   prodash live --terminal = n: never

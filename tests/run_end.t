@@ -63,25 +63,43 @@ The status is that of the job, also if a signal has ended it.
 Without a command nothing begins.
 
   $ prodash-run
-  prodash run: no command behind --
+  prodash run: no command
   
-  Usage: prodash run [OPTIONS] -- COMMAND [WORD ..]
+  Usage: prodash run [OPTIONS] [--] COMMAND [WORD ..]
   [2]
   $ prodash-run --no-color
-  prodash run: no command behind --
+  prodash run: no command
   
-  Usage: prodash run [OPTIONS] -- COMMAND [WORD ..]
+  Usage: prodash run [OPTIONS] [--] COMMAND [WORD ..]
   [2]
-  $ prodash-run --no-color true
-  prodash run: no command behind --
+  $ prodash-run --no-color --columns 40
+  prodash run: no command
   
-  Usage: prodash run [OPTIONS] -- COMMAND [WORD ..]
+  Usage: prodash run [OPTIONS] [--] COMMAND [WORD ..]
   [2]
   $ prodash-run --no-color --
-  prodash run: no command behind --
+  prodash run: no command
   
-  Usage: prodash run [OPTIONS] -- COMMAND [WORD ..]
+  Usage: prodash run [OPTIONS] [--] COMMAND [WORD ..]
   [2]
+
+The `--` may be left out, also behind options and their values.
+
+  $ prodash-run sh -c 'exit 3'
+  [3]
+  $ prodash-run --no-color --columns 40 --rows=20 sh -c 'exit 3'
+  [3]
+  $ prodash live --help | sed -n 's/.* \(--[a-z-]*\) <.*/\1/p' | while read -r option; do
+  >     prodash-run "$option" 7 sh -c 'exit 3' >said 2>&1
+  >     echo "$option $?"
+  > done
+  --columns 3
+  --rows 3
+  --bar-columns 3
+  --fps 3
+  --delay 3
+  --terminal 2
+  --record 3
 
 What is left on the terminal is what the job wrote. A line that isn't whole is not ended.
 
