@@ -116,6 +116,22 @@ names_with names (Duration duration) = names
 names_with names (Human human) = names
 names_with names (Range range) = names
 
+-- whether a kind of unit is a label whose name isn't kept yet
+abbrev pub is_new_label : List (List ℕ) → Kind → Bool
+is_new_label names (Label name) = not (is_among name.now names)
+is_new_label names (Bytes bytes) = false
+is_new_label names (Duration duration) = false
+is_new_label names (Human human) = false
+is_new_label names (Range range) = false
+
+-- whether what was parsed is a unit whose name isn't kept yet
+abbrev pub is_new_name : List (List ℕ) → Option (Option Unit) → Bool
+is_new_name names parsed =
+    option_map_or
+    (λ unit. option_map_or (λ it. is_new_label names it.kind) unit false)
+    parsed
+    false
+
 -- the names that are kept once a unit was parsed, or none, or what is no unit
 abbrev pub names_after : List (List ℕ) → Option (Option Unit) → List (List ℕ)
 names_after names parsed =

@@ -1,7 +1,7 @@
 //! The words of units, whose names are arbitrary.
-ghost use Rattle.std.specs.Prelude.{◌≡◌, ℕ, IfOk, List, [], OnErr, map, option_map};
+ghost use Rattle.std.specs.Prelude.{◌≡◌, ℕ, IfOk, List, [], OnErr, map, option_map, true, false};
 ghost use Rattle.std.specs.List.{list_all};
-ghost use Rattle.prodash_script.specs.Units.{is_name_byte, is_unit_name, is_unit_word, kind_in, line_name, name_and_mode, names_after, names_with, script_unit_in, stripped_by, unit_in, with_name};
+ghost use Rattle.prodash_script.specs.Units.{is_among, is_name_byte, is_new_label, is_new_name, is_unit_name, is_unit_word, kind_in, line_name, name_and_mode, names_after, names_with, script_unit_in, stripped_by, unit_in, with_name};
 ghost use Rattle.prodash_script.specs.Words.{after_prefix, before_suffix, plain_kind, plain_unit};
 ghost use Rattle.prodash_script.specs.plumbing.Names.{FindsName, KeepsName};
 
@@ -40,12 +40,13 @@ impl Labels {
     ///
     /// # Errors
     ///
-    /// `AllocError`, if there is no memory for the name of the unit.
+    /// `AllocError`, if there is no memory for the name of the unit, which isn't kept yet.
     pub fn unit_of(&mut self, alloc: Global, word: &str) -> Result<Option<Option<Unit>>, AllocError>
         ensures ok { IfOk result (λ found.
             option_map (option_map plain_unit) found ≡ unit_in word.now) }
         ensures names { IfOk result (λ _. self.new ≡ names_after self.old (unit_in word.now)) }
         ensures err { OnErr result (self.new ≡ self.old) }
+        ensures refused { OnErr result (is_new_name self.old (unit_in word.now) ≡ true) }
     {
         if word == "-" {
             return Ok(Some(None));
@@ -63,7 +64,7 @@ impl Labels {
     ///
     /// # Errors
     ///
-    /// `AllocError`, if there is no memory for the name of the unit.
+    /// `AllocError`, if there is no memory for the name of the unit, which isn't kept yet.
     pub fn script_unit_of(
         &mut self,
         alloc: Global,
@@ -74,6 +75,7 @@ impl Labels {
         ensures names { IfOk result (λ _.
             self.new ≡ names_after self.old (script_unit_in word.now)) }
         ensures err { OnErr result (self.new ≡ self.old) }
+        ensures refused { OnErr result (is_new_name self.old (script_unit_in word.now) ≡ true) }
     {
         if word == "-" {
             return Ok(Some(None));
@@ -91,6 +93,7 @@ impl Labels {
         ensures ok { IfOk result (λ kind. plain_kind kind ≡ kind_in name.now) }
         ensures names { IfOk result (λ _. self.new ≡ names_with self.old (kind_in name.now)) }
         ensures err { OnErr result (self.new ≡ self.old) }
+        ensures refused { OnErr result (is_new_label self.old (kind_in name.now) ≡ true) }
     {
         Ok(match name {
             "steps" => Kind::Range(Range::new("steps")),
@@ -107,6 +110,7 @@ impl Labels {
         ensures ok { IfOk result (λ kept. kept.now ≡ name.now) }
         ensures names { IfOk result (λ _. self.new ≡ with_name name.now self.old) }
         ensures err { OnErr result (self.new ≡ self.old) }
+        ensures refused { OnErr result (is_among name.now self.old ≡ false) }
     {
         if let Some(kept) = find(&self.names, name) {
             return Ok(kept);
