@@ -45,7 +45,7 @@ SHORT = {
     "each": "runs a command for each line of its input, with rows for those that run",
     "pipe": "passes standard input on to standard output, with a row that counts it",
     "live": "shows the event lines of standard input",
-    "replay": "plays a recording, or writes its frames or the page that they leave",
+    "replay": "plays a recording, or writes its last rows, its frames or the page that they leave",
     "picture": "makes an animated picture of a recording",
 }
 # Words by which prodash-replay writes frames; without one a file is played.
@@ -93,7 +93,7 @@ def main(words, program, scripts, libraries):
     if name == "replay":
         import play
 
-        if rest and not any(it in FRAMES for it in rest):
+        if not any(it in FRAMES for it in rest):
             return play.main(program, rest)
         if "-h" in rest or "--help" in rest:
             # that of the other words follows

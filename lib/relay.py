@@ -303,7 +303,8 @@ def text_of(error):
 def say(stream, text):
     """Writes a line to a stream, and returns whether that could be written."""
     try:
-        os.write(stream, f"{text}\n".encode())
+        # the name of a file needn't be UTF-8
+        os.write(stream, f"{text}\n".encode(errors="surrogateescape"))
         return True
     except OSError:
         # as where the terminal is gone
