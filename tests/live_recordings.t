@@ -1,11 +1,12 @@
 prodash-live: recordings
 ========================
 
-A recording has what a run did as event lines, which `prodash-replay` reads. `events` shows a
-recording without its ticks and the moments of the run.
+A recording has what a run did as event lines, which `prodash-replay` reads. The first one says what
+it is, and changes nothing. `events` shows a recording without that line, its ticks and the moments of
+the run.
 
   $ unset COLUMNS LINES NO_COLOR
-  $ events() { grep -v -e '^tick' "$1" | sed -E 's/[0-9]{19}/NOW/'; }
+  $ events() { sed -E '1d; /^tick/d; s/[0-9]{19}/NOW/' "$1"; }
   $ cat >script <<END
   > # two items, and a third in the place of the second
   > add @a 0 alpha
@@ -30,6 +31,8 @@ recording without its ticks and the moments of the run.
   > END
   $ prodash-live --replace-words --record recording <script 2>said
   [2]
+  $ head -n 1 recording
+  name 0 prodash recording 1
   $ events recording
   add 0 alpha
   add 1 beta
@@ -76,11 +79,15 @@ A replay has the messages of the run, and its closing frame erases the rows.
   $ prodash-replay page 80 20 --any-unit --defensive <recording | sed '/^$/d' | cmp said -
   $ prodash-replay page 80 20 --any-unit <recording | sed '/^$/d' | cmp said -
 
+So has one without the first line, as an older recording is.
+
+  $ sed 1d recording | prodash-replay page 80 20 --any-unit | sed '/^$/d' | cmp said -
+
 With colours there are no signs, neither in the run nor in the replay.
 
   $ prodash-live --replace-words --record recording --terminal always <script 2>frames
   [2]
-  $ grep -c '^name' recording
+  $ grep -c '^name [1-9]' recording
   1
   $ prodash-replay page 80 20 --any-unit <recording | sed '/^$/d'
    beta one
@@ -194,7 +201,7 @@ one at the end. At ten frames a second, all but the last are whole tenths of a s
   $ {
   >   for it in 1 2 3 4; do echo "add 0 $it"; sleep 0.25; done
   > } | prodash-live --record recording --fps 10
-  $ sed -E 's/^tick .*/tick/' recording | sed '/^quit/d' | uniq
+  $ sed -E '1d; s/^tick .*/tick/; /^quit/d' recording | uniq
   tick
   add 0 1
   tick

@@ -217,9 +217,11 @@ Tasks that were removed have no rows, and of a run that was killed all is there.
 
 A recording of prodash run.
 
-  $ prodash-run --record record --no-color --no-summary -- sh -c '
+  $ prodash-run --record record --no-color -- sh -c '
   >     echo "add @a 0 a" >&$PRODASH_FD; echo "init @a 4 steps" >&$PRODASH_FD; echo output
   >     echo "set @a 4" >&$PRODASH_FD; echo "done @a is done" >&$PRODASH_FD' >said 2>&1
+  $ head -n 1 record
+  name 0 prodash recording 1
   $ prodash replay --last record
    \xe2\x9c\x93 a is done (esc)
    a 4/4 steps [================================================================>]

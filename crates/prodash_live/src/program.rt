@@ -44,12 +44,12 @@ pub fn live<
     }
     .create(rt.clone()?, alloc)?;
     let rendering = options.render(is_terminal);
+    let interval = rendering.nanoseconds_per_frame;
+    let recording = Recording::new(alloc, recording, clock.now(), interval)?;
     let mut out = Watched::new(out, Arc::try_clone(&output)?, options.has_marks);
     // what fails here is told below
     let _ = out.mark();
     let display = show(&rt, alloc, out, &root, &clock, rendering, &output)?;
-    let interval = rendering.nanoseconds_per_frame;
-    let recording = Recording::new(alloc, recording, clock.now(), interval);
     let signs = Signs::for_rendering(&rendering);
     let items = Items::new(alloc, root, signs, options.replaces_words, recording);
     let mut feed = Feed::new(&rt, alloc, &*clock, items, display);

@@ -9,6 +9,10 @@ use std::alloc::{AllocError, Global};
 use std::io;
 use std::io::Write;
 
+/// The first line of a recording, which says what it is. In a replay it changes nothing, since the
+/// root has no name.
+static BEGIN: &str = "name 0 prodash recording 1\n";
+
 /// A recording, or none.
 #[derive(Drop)]
 pub struct Recording<W: Write + Drop> {
@@ -31,17 +35,30 @@ pub struct Recording<W: Write + Drop> {
 
 impl<W: Write + Drop> Recording<W> {
     /// Returns a recording that begins now, with `interval` nanoseconds between frames.
-    pub fn new(alloc: Global, out: Option<W>, now: Moment, interval: u64) -> Recording<W> {
-        Recording {
+    ///
+    /// # Errors
+    ///
+    /// `AllocError`, if there is no memory for its first line.
+    pub fn new(
+        alloc: Global,
+        out: Option<W>,
+        now: Moment,
+        interval: u64,
+    ) -> Result<Recording<W>, AllocError> {
+        let mut lines = String::new(alloc);
+        if out.is_some() {
+            lines.push_str(BEGIN)?;
+        }
+        Ok(Recording {
             alloc,
             out,
             error: None,
-            lines: String::new(alloc),
+            lines,
             made: 0,
             due: now,
             interval,
             messages: 0,
-        }
+        })
     }
 
     /// Returns why a write has failed, if one has. Nothing is recorded after it.
