@@ -21,6 +21,7 @@ a folder that was moved, with only Python on the path.
   prefix/lib/prodash/play.py
   prefix/lib/prodash/prodash-live
   prefix/lib/prodash/prodash-pipe
+  prefix/lib/prodash/recording.py
   prefix/lib/prodash/relay.py
   prefix/lib/prodash/run.py
   prefix/lib/prodash/screen.py
