@@ -3,7 +3,7 @@
 The commands are run by xargs, below a process of this module that is the job of `prodash run`. It
 reads ahead of xargs, so that the row of the whole has a bound, and hands xargs the words of each
 command. A shell between xargs and the command writes the event lines: it starts ten times as fast
-as Python.
+as Python. Commands on other hosts are those of hosts.py.
 """
 import _signal as signals
 import os
@@ -15,27 +15,55 @@ import job
 HELP = """\
 Runs a command for each line of standard input, with a row for each that runs
 
-Usage: prodash each [-P N] [-0] [-n NAME] COMMAND [WORD ..]
-       prodash each [-P N] [-0] [-n NAME] [OPTIONS] -- COMMAND [WORD ..]
+Usage: prodash each [-P N] [-0] [-n NAME] [-S HOSTS] COMMAND [WORD ..]
+       prodash each [-P N] [-0] [-n NAME] [-S HOSTS] [OPTIONS] -- COMMAND [WORD ..]
 
 The line is where {} stands in the words of the command, or is the last of them, as
   find . -name '*.log' | prodash each -P 4 gzip
 
 The commands are run by xargs, whose exit status this is: 123 if a command failed.
 
+With -S they run on other hosts, as
+  ls packages | prodash each -S build1,build2 -P 4 make -C
+ssh has to reach a host without asking anything, and the host needs nothing but sh. The rows that a
+command adds there are below its own.
+
 Options:
-  -P N         how many commands run at a time; 1 by default, 0 for as many as possible
+  -P N         how many commands run at a time, with -S on each host; 1 by default, 0 for as many as
+               possible
   -0           a NUL ends each line, as in the output of find -print0
   -n NAME      the name of the row for the whole; that of the command by default
+  -S HOSTS     the hosts, with commas between them: each as ssh takes it, or : for this one. 8/HOST
+               runs 8 commands at a time
+      --sshlogin <HOSTS>     as -S
+      --sshloginfile <FILE>  as -S, with a host on each line of a file
   -h, --help   print help
   and those of prodash run: prodash run --help
 """
-USAGE = "Usage: prodash each [-P N] [-0] [-n NAME] [OPTIONS --] COMMAND [WORD ..]"
-# How Python begins as the job. Its words are the folder of this module, and those of `become_job`.
-JOB = "import sys; sys.path.insert(0, sys.argv[1]); import each; each.become_job(*sys.argv[2:])"
+USAGE = "Usage: prodash each [-P N] [-0] [-n NAME] [-S HOSTS] [OPTIONS --] COMMAND [WORD ..]"
+# How Python begins as the job. Its words are the folder of the modules, the one of them that has
+# `become_job`, and the words of that.
+JOB = (
+    "from sys import argv, path; path.insert(0, argv[1]); "
+    "__import__(argv[2]).become_job(*argv[3:])"
+)
 # What the options take.
-TAKES = {"-P": "a number, 0 for as many as possible", "-n": "a name", "-0": "no value"}
+TAKES = {
+    "-P": "a number, 0 for as many as possible",
+    "-n": "a name",
+    "-0": "no value",
+    "-S": "hosts, as build1,build2",
+    "--sshlogin": "hosts, as build1,build2",
+    "--sshloginfile": "a file of hosts",
+}
+# Why these programs are needed.
+XARGS = "runs the commands, and is part of findutils"
+SSH = "runs the commands on other hosts, and is part of OpenSSH"
 READ = 65536
+# The options that add hosts.
+HOSTS = ("-S", "--sshlogin", "--sshloginfile")
+# What ends a line.
+ENDS = {"newline": b"\n", "nul": b"\0"}
 # How many bytes are read ahead of xargs, and how many an argument can have.
 AHEAD, LONGEST = 1 << 26, 1 << 17
 # How many characters a name has. An event line is written at once if it has 4096 bytes.
@@ -93,15 +121,19 @@ class Row:
             self.say(b"drop %s" % self.word)
 
 
-class Feed:
-    """Lines on their way from standard input to xargs, which gets words for each."""
+class Lines:
+    """Lines of standard input, which are read ahead."""
 
-    def __init__(self, to, end, words_of, row):
-        self.to, self.end, self.words_of, self.row = to, end, words_of, row
-        # whole lines, the beginning of one, and words that wait for room
-        self.lines, self.rest, self.words = bytearray(), b"", memoryview(b"")
+    def __init__(self, end, row):
+        self.end, self.row = end, row
+        # whole lines, and the beginning of one
+        self.lines, self.rest = bytearray(), b""
         # whether no more is read, and why, if that is a fault
         self.is_over, self.fault = False, ""
+
+    def wants_more(self):
+        """Returns whether more may be read."""
+        return not self.is_over and len(self.lines) < AHEAD
 
     def read(self):
         """Reads what is there, or notes that there is no more."""
@@ -121,6 +153,23 @@ class Feed:
         self.is_over = not more or bool(self.fault)
         self.lines += whole + end
         self.row.add((whole + end).count(self.end))
+
+    def take(self):
+        """Takes the next line of those that are there."""
+        at = self.lines.find(self.end)
+        line = bytes(self.lines[:at])
+        del self.lines[: at + 1]
+        return line
+
+
+class Feed(Lines):
+    """Lines on their way from standard input to xargs, which gets words for each."""
+
+    def __init__(self, to, end, words_of, row):
+        super().__init__(end, row)
+        self.to, self.words_of = to, words_of
+        # words that wait for room
+        self.words = memoryview(b"")
 
     def fill(self):
         """Takes the words of the next lines."""
@@ -145,7 +194,7 @@ class Feed:
                 self.fill()
             poll = select.poll()
             poll.register(self.to, select.POLLOUT if self.words else 0)
-            if not self.is_over and len(self.lines) < AHEAD:
+            if self.wants_more():
                 poll.register(0, select.POLLIN)
             ready = dict(poll.poll())
             if ready.get(self.to, 0) & (select.POLLERR | select.POLLHUP):
@@ -182,6 +231,11 @@ def shell_of(word):
     return SHELL.format(row=word, lines=lines, out=free[0], err=free[1]), lines
 
 
+def words_for(line, command):
+    """Returns the words of the command for a line."""
+    return [it.replace(b"{}", line) for it in command]
+
+
 def start(words, reads):
     """Starts xargs with this input. It gets the signals of this process."""
     passed = [it for it in job.handled() if it != signals.SIGTSTP]
@@ -216,7 +270,7 @@ def become_job(end, most, name, *command):
     begin, command = ([os.fsencode(it) for it in words] for words in (unkept(), command))
 
     def words_of(line):
-        return name_of(line), *begin, *(it.replace(b"{}", line) for it in command)
+        return name_of(line), *begin, *words_for(line, command)
 
     reads, to = os.pipe()
     count = str(len(words_of(b"")))
@@ -224,7 +278,7 @@ def become_job(end, most, name, *command):
     pid = start([*xargs, "sh", "-c", script, "prodash-each"], reads)
     os.set_blocking(to, False)
     row = Row(lines, word.encode(), name_of(os.fsencode(name)))
-    feed = Feed(to, b"\0" if end == "nul" else b"\n", words_of, row)
+    feed = Feed(to, ENDS[end], words_of, row)
     feed.run()
     os.close(to)
     status = os.waitpid(pid, 0)[1]
@@ -241,14 +295,17 @@ class Given:
 
     def __init__(self):
         self.end, self.most, self.name = "newline", "1", None
+        # the hosts, none for this one with xargs
+        self.hosts = []
         # the options of prodash run, and the command
         self.options, self.command = [], []
 
     def read(self, words):
         """Reads the words. Returns what is wrong with them, or nothing."""
         words = list(words)
-        while words and words[0][:2] in ("-0", "-P", "-n"):
-            option, value = words[0][:2], words.pop(0)[2:]
+        while words and (split := split_option(words[0])):
+            option, value = split
+            del words[0]
             if option == "-0" and not value:
                 self.end = "nul"
                 continue
@@ -257,9 +314,29 @@ class Given:
                 self.most = value
             elif option == "-n" and value:
                 self.name = value
+            elif option in HOSTS and value:
+                wrong = self.add_hosts(option, value)
+                if wrong:
+                    return wrong
             else:
                 return f"{option} takes {TAKES[option]}, not {value!r}"
         return self.read_command(words)
+
+    def add_hosts(self, option, value):
+        """Adds hosts. Returns what is wrong with them, or nothing."""
+        # most calls name none
+        import hosts
+
+        is_file = option == "--sshloginfile"
+        try:
+            found = hosts.in_file(value) if is_file else value.split(",")
+        except OSError as error:
+            return f"{option} {value}: {error.strerror}"
+        self.hosts += found
+        wrong = [it for it in found if not hosts.is_host(it)]
+        if is_file and (wrong or not found):
+            return f"{option} {value}: {f'{wrong[0]!r} is no host' if wrong else 'no host in it'}"
+        return f"{option} takes {TAKES[option]}, not {wrong[0]!r}" if wrong else ""
 
     def read_command(self, words):
         """Reads the options of prodash run and the command."""
@@ -275,17 +352,36 @@ class Given:
         self.command = words if has_place else [*words, "{}"]
         return ""
 
+    def needed(self):
+        """Returns the programs that have to be here, and what those that aren't the command do."""
+        if not self.hosts:
+            return ("xargs", XARGS), (self.command[0], "")
+        import hosts
 
-def missing(program):
-    """Says why a program can't be run, and returns the exit status, or None if it can be."""
+        return (("ssh", SSH),) if hosts.need_ssh(self.hosts) else ()
+
+
+def split_option(word):
+    """Returns the option that a word is or begins with, and the rest, or None if it has none."""
+    name, _, value = word.partition("=")
+    if name.startswith("--"):
+        return (name, value) if name in TAKES else None
+    return (word[:2], word[2:]) if word[:2] in TAKES else None
+
+
+def missing(program, why):
+    """Says why a program can't be run, and why it is needed.
+
+    Returns the exit status, or None if it can be run.
+    """
     folders = [""] if "/" in program else [f"{it}/" for it in os.get_exec_path()]
     there = [f"{it}{program}" for it in folders if os.path.exists(f"{it}{program}")]
     if any(os.path.isfile(it) and os.access(it, os.X_OK) for it in there):
         return None
     said = "Permission denied" if there else "No such file or directory"
     os.write(2, f"prodash each: {program}: {said}\n".encode(errors="surrogateescape"))
-    if program == "xargs":
-        os.write(2, b"prodash each: xargs runs the commands, and is part of findutils\n")
+    if why:
+        os.write(2, f"prodash each: {program} {why}\n".encode())
     return job.NOT_RUN if there else job.NOT_FOUND
 
 
@@ -299,8 +395,8 @@ def main(program, words):
     if wrong:
         os.write(2, f"prodash each: {wrong}\n\n{USAGE}\n".encode(errors="surrogateescape"))
         return 2
-    for it in ("xargs", given.command[0]):
-        status = None if "{}" in it else missing(it)
+    for it, why in given.needed():
+        status = None if "{}" in it else missing(it, why)
         if status:
             return status
     found = program()
@@ -312,5 +408,6 @@ def main(program, words):
 
     folder = os.path.dirname(os.path.realpath(__file__))
     python = [sys.executable, "-I", "-S", "-B", "-c", JOB, folder]
+    python += ["hosts", ",".join(given.hosts)] if given.hosts else ["each"]
     words = [*python, given.end, given.most, given.name, *given.command]
     return run.main(found, [*given.options, "--", *words])

@@ -121,7 +121,7 @@ Words that are wrong, and xargs that isn't there.
   $ prodash each
   prodash each: no command
   
-  Usage: prodash each [-P N] [-0] [-n NAME] [OPTIONS --] COMMAND [WORD ..]
+  Usage: prodash each [-P N] [-0] [-n NAME] [-S HOSTS] [OPTIONS --] COMMAND [WORD ..]
   [2]
   $ prodash each --no-color echo 2>&1 | head -n 1
   prodash each: no command behind --

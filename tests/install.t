@@ -14,6 +14,7 @@ a folder that was moved, with only Python on the path.
   prefix/lib/prodash/command.py
   prefix/lib/prodash/display.py
   prefix/lib/prodash/each.py
+  prefix/lib/prodash/hosts.py
   prefix/lib/prodash/job.py
   prefix/lib/prodash/keys.py
   prefix/lib/prodash/live.py
@@ -23,6 +24,7 @@ a folder that was moved, with only Python on the path.
   prefix/lib/prodash/prodash-pipe
   prefix/lib/prodash/recording.py
   prefix/lib/prodash/relay.py
+  prefix/lib/prodash/remote.py
   prefix/lib/prodash/run.py
   prefix/lib/prodash/screen.py
   prefix/lib/prodash/session.py
@@ -55,6 +57,8 @@ a folder that was moved, with only Python on the path.
   $ alone moved/bin/prodash run -- sh -c 'echo add 0 alpha >&$PRODASH_FD; echo info 1 - one >&$PRODASH_FD'
    alpha one
   $ echo one | alone moved/bin/prodash each echo got
+  got one
+  $ echo one | alone moved/bin/prodash each -S : echo got
   got one
   $ printf 'add @a 0 alpha\ninfo @a 0 two\n' | alone moved/bin/prodash live --stdout
    alpha two
