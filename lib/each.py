@@ -15,8 +15,7 @@ import job
 HELP = """\
 Runs a command for each line of standard input, with a row for each that runs
 
-Usage: prodash each [-P N] [-0] [-n NAME] [-S HOSTS] COMMAND [WORD ..]
-       prodash each [-P N] [-0] [-n NAME] [-S HOSTS] [OPTIONS] -- COMMAND [WORD ..]
+Usage: prodash each [-P N] [-0] [-n NAME] [-S HOSTS] [OPTIONS] [--] COMMAND [WORD ..]
 
 The line is where {} stands in the words of the command, or is the last of them, as
   find . -name '*.log' | prodash each -P 4 gzip
@@ -40,7 +39,7 @@ Options:
   -h, --help   print help
   and those of prodash run: prodash run --help
 """
-USAGE = "Usage: prodash each [-P N] [-0] [-n NAME] [-S HOSTS] [OPTIONS --] COMMAND [WORD ..]"
+USAGE = "Usage: prodash each [-P N] [-0] [-n NAME] [-S HOSTS] [OPTIONS] [--] COMMAND [WORD ..]"
 # How Python begins as the job. Its words are the folder of the modules, the one of them that has
 # `become_job`, and the words of that.
 JOB = (
@@ -302,9 +301,15 @@ class Given:
 
     def read(self, words):
         """Reads the words. Returns what is wrong with them, or nothing."""
+        # which no command needs
+        import run
+
         words = list(words)
-        while words and (split := split_option(words[0])):
-            option, value = split
+        while run.begins_with_option(words):
+            option, value = split_option(words[0])
+            if option is None:
+                self.options += run.take_option(words)
+                continue
             del words[0]
             if option == "-0" and not value:
                 self.end = "nul"
@@ -320,7 +325,7 @@ class Given:
                     return wrong
             else:
                 return f"{option} takes {TAKES[option]}, not {value!r}"
-        return self.read_command(words)
+        return self.set_command(run.command_of(words))
 
     def add_hosts(self, option, value):
         """Adds hosts. Returns what is wrong with them, or nothing."""
@@ -338,13 +343,8 @@ class Given:
             return f"{option} {value}: {f'{wrong[0]!r} is no host' if wrong else 'no host in it'}"
         return f"{option} takes {TAKES[option]}, not {wrong[0]!r}" if wrong else ""
 
-    def read_command(self, words):
-        """Reads the options of prodash run and the command."""
-        if words and words[0].startswith("-"):
-            at = words.index("--") if "--" in words else len(words)
-            self.options, words = words[:at], words[at + 1 :]
-            if not words:
-                return "no command behind --"
+    def set_command(self, words):
+        """Sets the command. Returns what is wrong with it, or nothing."""
         if not words:
             return "no command"
         self.name = self.name or os.path.basename(words[0])
@@ -362,11 +362,11 @@ class Given:
 
 
 def split_option(word):
-    """Returns the option that a word is or begins with, and the rest, or None if it has none."""
+    """Returns the option that a word is or begins with, and the rest; None for another option."""
     name, _, value = word.partition("=")
-    if name.startswith("--"):
-        return (name, value) if name in TAKES else None
-    return (word[:2], word[2:]) if word[:2] in TAKES else None
+    if not name.startswith("--"):
+        name, value = word[:2], word[2:]
+    return (name, value) if name in TAKES else (None, word)
 
 
 def missing(program, why):

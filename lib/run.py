@@ -332,14 +332,30 @@ class Run(Relay):
         """Returns a descriptor that stays open as long as others write to the job's output."""
 
 
+def begins_with_option(words):
+    """Returns whether the first of the words is an option."""
+    return bool(words) and words[0].startswith("-") and words[0] != "--"
+
+
+def take_option(words):
+    """Takes the option off the beginning of the words, and its value. Returns the two."""
+    option = [words.pop(0)]
+    if option[0] in VALUED and words and not words[0].startswith("--"):
+        option.append(words.pop(0))
+    return option
+
+
+def command_of(words):
+    """Returns the command behind the options."""
+    return words[1:] if words[:1] == ["--"] else words
+
+
 def split(words):
     """Returns the options and the command among the words, or None if there is no command."""
     options, rest = [], list(words)
-    while rest and rest[0].startswith("-") and rest[0] != "--":
-        options.append(rest.pop(0))
-        if options[-1] in VALUED and rest and not rest[0].startswith("--"):
-            options.append(rest.pop(0))
-    command = rest[1:] if rest[:1] == ["--"] else rest
+    while begins_with_option(rest):
+        options += take_option(rest)
+    command = command_of(rest)
     return (options, command) if command else None
 
 

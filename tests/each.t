@@ -121,18 +121,18 @@ Words that are wrong, and xargs that isn't there.
   $ prodash each
   prodash each: no command
   
-  Usage: prodash each [-P N] [-0] [-n NAME] [-S HOSTS] [OPTIONS --] COMMAND [WORD ..]
+  Usage: prodash each [-P N] [-0] [-n NAME] [-S HOSTS] [OPTIONS] [--] COMMAND [WORD ..]
   [2]
-  $ prodash each --no-color echo 2>&1 | head -n 1
-  prodash each: no command behind --
+  $ prodash each --no-color --columns 40 2>&1 | head -n 1
+  prodash each: no command
   $ prodash each -P x echo 2>&1 | head -n 1
   prodash each: -P takes a number, 0 for as many as possible, not 'x'
   $ prodash each -n 2>&1 | head -n 1
   prodash each: -n takes a name, not ''
   $ prodash each -0P 2>&1 | head -n 1
   prodash each: -0 takes no value, not 'P'
-  $ prodash each --fsp 3 -- echo <lines 2>&1 | head -n 1
-  error: unexpected argument '--fsp'
+  $ prodash each --fsp=3 echo <lines 2>&1 | head -n 1
+  error: unexpected argument '--fsp=3'
   $ python=$(python3 -c 'import sys; print(sys.executable)')
   $ PATH=nowhere "$python" -I -S "$(command -v prodash)" each echo <lines
   prodash each: xargs: No such file or directory

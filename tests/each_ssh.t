@@ -262,7 +262,7 @@ A signal for `prodash each` alone ends them, too.
 Words that are wrong, and ssh that isn't there.
 
   $ prodash each -S one -x 2>&1 | head -n 1
-  prodash each: no command behind --
+  prodash each: no command
   $ prodash each -S 2>&1 | head -n 1
   prodash each: -S takes hosts, as build1,build2, not ''
   $ prodash each -S one,,two echo 2>&1 | head -n 1
