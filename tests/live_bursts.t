@@ -34,7 +34,7 @@ So are lines that are printed.
   $ prints() { seq 20000 | sed 's/^/print /; s/$/ of a burst of lines/' && touch taken; }
   $ prints | timeout 60 prodash-live --stdout --fps 1 | late >output
   $ rm taken
-  $ seq 20000 | sed 's/^/  /; s/$/ of a burst of lines/' | cmp output -
+  $ seq 20000 | sed 's/$/ of a burst of lines/' | cmp output -
 
 Faulty lines are messages too. These are so long that few of them fit in the pipe.
 

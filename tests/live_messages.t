@@ -90,10 +90,22 @@ A line `print` has its text alone, without a row, an origin or a severity.
   > print  two
   > print 
   > END
-    3 files, of no item
+  3 files, of no item
    \xe2\x9c\x93 alpha one (esc)
-            two
-           
+   two
+  
+
+With times it stands behind its own.
+
+  $ printf 'print one\n' | prodash-live --timestamps 2>&1 | sed 's/^[0-9:]\{8\} /TIME /'
+  TIME one
+
+In colour it has the style of an information. So has a message of an item without a name, which is
+its text alone, too.
+
+  $ printf 'print one\nadd @a 0 \ninfo @a two\n' | CLICOLOR_FORCE=1 prodash-live 2>&1
+  \x1b[1;37mone\x1b[0m (esc)
+  \x1b[1;37mtwo\x1b[0m (esc)
 
 Without the root there is nothing to print above.
 

@@ -170,8 +170,8 @@ dropped.
 
   $ printf 'print one\nadd 0 a\nprint two\n' | prodash-live --record recording 2>said
   $ cat said
-    one
-    two
+  one
+  two
   $ events recording | sed 's/ *$//'
   add 0
   add 1
@@ -190,7 +190,7 @@ dropped.
   add 0 a
   info 6 NOW two
   quit NOW
-  $ prodash-replay page 80 20 <recording | sed '/^$/d' | cmp said -
+  $ prodash-replay page 80 20 <recording | sed '/^$/d; s/^  //' | cmp said -
 
 Ticks
 =====

@@ -6,7 +6,6 @@ pub mod Logs
 pub mod Wrappers
 pub mod Reporters
 pub mod Journals
-pub mod Times
 pub mod PlainLines
 pub mod plumbing
 pub use Rattle.prodash_base.specs.Path
@@ -28,6 +27,8 @@ pub use Rattle.prodash_base.specs.Trackers
 pub use Rattle.prodash_base.specs.FrameTrackers
 pub use Rattle.prodash_base.specs.Held
 pub use Rattle.prodash_base.specs.Moments
+pub use Rattle.prodash_base.specs.Times
+pub use Rattle.prodash_base.specs.Timers
 pub use Rattle.prodash_line.specs.Signs
 pub use Rattle.prodash_line.specs.Reading
 pub use Rattle.prodash_line.specs.Page

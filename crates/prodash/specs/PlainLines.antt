@@ -12,7 +12,7 @@ use Rattle.prodash_base.specs.Displays.{amount, all_text}
 use Rattle.prodash_base.specs.Quantities.{percentage_of}
 use Rattle.prodash_line.specs.DrawnLines.{drawn_chars}
 use Rattle.prodash_line.specs.ProgressRows.{fraction_of}
-use Rattle.prodash.specs.Times.{duration_text, seconds_text, stopwatch_text, remaining_seconds}
+use Rattle.prodash_base.specs.Times.{duration_text, stopwatch_text, remaining_seconds, is_past, left_text, finished_at}
 use Rattle.prodash.specs.declared.render.plain.told.Reached.{Reached}
 use Rattle.prodash.specs.declared.render.plain.told.Told.{Told}
 use Rattle.prodash.specs.declared.render.plain.Outcome.{Outcome}
@@ -47,11 +47,6 @@ label_of tasks row =
 abbrev pub reached_of : RowProgress → Reached
 reached_of p = record { step = p.counter; done_at = p.bound }
 
--- a step at its bound or past it is done
-abbrev pub is_past : ℕ → Option ℕ → Bool
-is_past step None = false
-is_past step (Some bound) = nat_le bound step
-
 -- has a task reached its bound?
 abbrev pub is_done : Option Reached → Bool
 is_done None = false
@@ -80,11 +75,6 @@ percentage_text step (Some bound) =
 -- how far a progress is, as ` 3/4 75%`
 abbrev pub progress_text : RowProgress → List ℕ
 progress_text p = codes " " ++ values_in p.unit p ++ percentage_text p.counter p.bound
-
--- how long the rest takes, as `, 12s left`; nothing if that isn't known
-abbrev pub left_text : Option ℕ → List ℕ
-left_text None = []
-left_text (Some seconds) = codes ", " ++ seconds_text seconds ++ codes " left"
 
 -- the seconds that the rest of a progress takes, by what was done since the task was first seen
 abbrev pub remaining_of : Told → ℕ → ℕ → Option ℕ → Option ℕ
@@ -136,11 +126,6 @@ abbrev pub said_of : Option Told → ℕ → Option RowProgress → Option (List
 said_of None now p = Some (codes " started")
 said_of (Some told) now None = None
 said_of (Some told) now (Some p) = said_again told now p
-
--- when a task was first seen at its bound, if it is there: when it was before, or now
-abbrev pub finished_at : Bool → Option ℕ → ℕ → Option ℕ
-finished_at false before now = None
-finished_at true before now = Some (unwrap_or before now)
 
 -- what is known of a task once it was seen: of a new one no progress counts as said
 abbrev pub told_after : Option Told → ℕ → List ℕ → Option RowProgress → Told

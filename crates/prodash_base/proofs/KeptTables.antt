@@ -18,7 +18,7 @@ use Rattle.prodash_base.specs.declared.throughput.kept.Kept.{Kept}
 use Rattle.prodash_base.proofs.BranchLaws.{turned}
 use Rattle.prodash_base.proofs.PathMaps.{same_path, same_table}
 
-is_less : (o : Ordering) → T (is_lt o) → o ≡ Less
+pub is_less : (o : Ordering) → T (is_lt o) → o ≡ Less
 is_less Less h = refl
 is_less Equal h = absurd h
 is_less Greater h = absurd h
@@ -31,7 +31,7 @@ pub second : (a b : Bool) → T (a && b) → T b
 second true b p = p
 second false b p = absurd p
 
-same : (p q : Path) → p ≡ q → path_cmp p q ≡ Equal
+pub same : (p q : Path) → p ≡ q → path_cmp p q ≡ Equal
 same p q e = ap (path_cmp p) (sym e) ∙ tied_itself nat_list_cmp_total p
 
 -- the keys before an index are less than this one
@@ -157,7 +157,7 @@ abbrev pub IsNewPlace : List Kept → Path → ℕ → Type 0
 IsNewPlace kept key index = IsPartitionPoint (λ k. path_cmp k.key key ≡ Less) (λ k. path_cmp k.key key ≡ Greater) kept index
 
 -- the order of paths, turned back
-turned_back : (p q : Path) → path_cmp p q ≡ Greater → path_cmp q p ≡ Less
+pub turned_back : (p q : Path) → path_cmp p q ≡ Greater → path_cmp q p ≡ Less
 turned_back p q h = nat_list_cmp_total.antisymm q p ∙ ap ordering_reverse h
 
 is_before : (kept : List Kept) (key : Path) (index : ℕ) (x : Kept) → IsNewPlace kept key index → index < length kept → path_cmp key (get_or kept index x).key ≡ Less

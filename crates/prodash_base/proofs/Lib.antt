@@ -26,3 +26,7 @@ pub mod DayNumbers
 pub mod CalendarLaws
 pub mod ClockTexts
 pub mod WorkedMoments
+pub mod WorkedTimes
+pub mod WorkedTimers
+pub mod TimedTables
+pub mod Marks

@@ -21,4 +21,6 @@ pub mod Samples
 pub mod Held
 pub mod Trackers
 pub mod FrameTrackers
+pub mod Times
+pub mod Timers
 pub mod plumbing

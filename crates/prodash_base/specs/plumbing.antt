@@ -10,5 +10,6 @@ pub mod Pushing
 pub mod Dates
 pub mod Changes
 pub mod Summaries
+pub mod TimedTables
 pub mod KeptSamples
 pub mod KeptTables

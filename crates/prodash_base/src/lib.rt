@@ -10,8 +10,11 @@ mod refusal;
 pub mod text;
 pub mod throughput;
 pub mod time;
+pub mod times;
+pub mod timing;
 pub mod unit;
 
 pub use refusal::Refusal;
 pub use text::Text;
 pub use throughput::Throughput;
+pub use timing::Timer;

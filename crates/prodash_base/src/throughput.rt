@@ -21,7 +21,7 @@ pub use frames::FrameThroughput;
 use history::{Change, History, Listed};
 use kept::Kept;
 use keys::{add_observation, kept_samples, retain_listed};
-use rate::ONE_SECOND;
+pub(crate) use rate::ONE_SECOND;
 use sample::Observation;
 use std::alloc::Global;
 use std::fmt::{self, Debug, Formatter};

@@ -33,8 +33,10 @@ pub const TERMINAL: Options = Options {
     defensive: false,
     synchronized: false,
     whole_messages: false,
+    bare_without_origin: false,
     bar_columns: None,
     ascii: false,
+    times: false,
 };
 
 /// A step, and a bound if there is one.

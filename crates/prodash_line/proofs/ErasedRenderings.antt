@@ -21,7 +21,7 @@ use Rattle.prodash_line.specs.declared.render.line.page.sign.Sign.{Sign}
 use Rattle.prodash_line.specs.declared.render.line.page.sign.Sign.TheVariants.{CarriageReturn, EraseLine, ShowCursor}
 use Rattle.prodash_line.specs.Lines.{Line, columns_of, line_text}
 use Rattle.prodash_line.specs.DrawnLines.{as_drawn, erases_rows, layout_of, prints_whole}
-use Rattle.prodash_line.specs.ProgressRows.{DrawnRow, drawn_row_line, row_lines, fitting_count, fitting, more_line, more_lines}
+use Rattle.prodash_line.specs.ProgressRows.{DrawnRow, Times, times_at, drawn_row_line, row_lines, fitting_count, fitting, more_line, more_lines}
 use Rattle.prodash_line.specs.MessageLines.{message_lines}
 use Rattle.prodash_line.specs.Frames.{Body, Unchanged, Draws, Closes, Frame, body_lines, frame_signs}
 use Rattle.prodash_line.specs.UnsafeCharacters.{is_unsafe, is_bidi_control}
@@ -62,15 +62,15 @@ few_by : (n height count : ℕ) → count ≡ min (cond (nat_lt n height) n (hei
     → count + cond (nat_eq (n - count) 0 || nat_lt height 2) 0 1 < height
 few_by n height count e i = grind (arith, nat_tests)
 
-few_lines : (options : Options) (layout : Layout) (midpoint : ℕ) (rows : List DrawnRow) → layout ≡ Erasing options.terminal_dimensions.1 options.synchronized options.whole_messages → 0 < options.terminal_dimensions.1
-    → length (row_lines options midpoint (fitting layout rows) ++ more_lines options (length rows - length (fitting layout rows))) < options.terminal_dimensions.1
-few_lines options layout midpoint rows e i =
+few_lines : (options : Options) (layout : Layout) (midpoint : ℕ) (times : Times) (rows : List DrawnRow) → layout ≡ Erasing options.terminal_dimensions.1 options.synchronized options.whole_messages → 0 < options.terminal_dimensions.1
+    → length (row_lines options midpoint times (fitting layout rows) ++ more_lines options (length rows - length (fitting layout rows))) < options.terminal_dimensions.1
+few_lines options layout midpoint times rows e i =
     let height = options.terminal_dimensions.1 in
     let fit = fitting layout rows in
     let others = length rows - length fit in
     let none = nat_eq others 0 || nat_lt height 2 in
-    let size : length (row_lines options midpoint fit ++ more_lines options others) ≡ length (row_lines options midpoint fit) + length (more_lines options others) = length-append (row_lines options midpoint fit) (more_lines options others) in
-    let mapped : length (row_lines options midpoint fit) ≡ length fit = length-map fit (drawn_row_line options midpoint) in
+    let size : length (row_lines options midpoint times fit ++ more_lines options others) ≡ length (row_lines options midpoint times fit) + length (more_lines options others) = length-append (row_lines options midpoint times fit) (more_lines options others) in
+    let mapped : length (row_lines options midpoint times fit) ≡ length fit = length-map fit (drawn_row_line options midpoint times) in
     let more : length (more_lines options others) ≡ cond none 0 1 = one_if none (as_drawn options (more_line options.ascii others)) in
     let taken : length fit ≡ min (cond (nat_lt (length rows) height) (length rows) (height - 2)) (length rows) =
     length-take (fitting_count layout (length rows)) rows ∙ ap (λ (l : Layout). min (fitting_count l (length rows)) (length rows)) e in
@@ -81,7 +81,7 @@ erasing_layout : (options : Options) → erases_rows options ≡ true → layout
 erasing_layout options e = ap (λ (b : Bool). cond b (Erasing options.terminal_dimensions.1 options.synchronized options.whole_messages) Overwriting) e
 
 pub few_drawn : (r : Renderer) (at : ℕ) (rows : List PathRow) → erases_rows r.options ≡ true → 0 < r.options.terminal_dimensions.1 → length (drawn_lines r at rows) < r.options.terminal_dimensions.1
-few_drawn r at rows e i = few_lines r.options (layout_of r.options) r.midpoint (drawn_rows r at rows) (erasing_layout r.options e) i
+few_drawn r at rows e i = few_lines r.options (layout_of r.options) r.midpoint (times_at r.timer at) (drawn_rows r at rows) (erasing_layout r.options e) i
 
 erases_still : (r : Renderer) (input : Input) → erases_rows (remember r input).options ≡ erases_rows r.options
 erases_still r (Tick at show (Some seen)) = refl

@@ -13,7 +13,7 @@ use Rattle.prodash_line.specs.declared.render.line.draw.action.Action.TheVariant
 use Rattle.prodash_line.specs.declared.render.line.page.sign.Sign.{Sign}
 use Rattle.prodash_line.specs.Lines.{Line, columns_of, cut, in_color}
 use Rattle.prodash_line.specs.DrawnLines.{limit_of, as_drawn, layout_of, prints_whole}
-use Rattle.prodash_line.specs.ProgressRows.{DrawnRow, row_line, row_lines, more_line, more_lines}
+use Rattle.prodash_line.specs.ProgressRows.{DrawnRow, Times, times_at, row_line, row_lines, more_line, more_lines}
 use Rattle.prodash_line.specs.MessageLines.{message_line, message_lines, origin_width, greatest_width}
 use Rattle.prodash_line.specs.Frames.{Body, Unchanged, Draws, Closes, Frame}
 use Rattle.prodash_line.specs.Fits.{LineFits, LinesFit, BodyFits, FrameFits}
@@ -56,10 +56,10 @@ drawn_within cut columns options line h =
     (subst (λ b. IsWithin b options.terminal_dimensions.0 (as_drawn options line)) h.terminal
     (cut_by options.output_is_terminal options.terminal_dimensions.0 (in_color options.colored line)))
 
-rows_within : (cut : Bool) (columns : ℕ) (options : Options) (midpoint : ℕ) (rows : List DrawnRow) → HasWidth cut columns options → AreWithin cut columns (row_lines options midpoint rows)
-rows_within cut columns options midpoint [] h = tt
-rows_within cut columns options midpoint (row ∷ rows) h =
-    (drawn_within cut columns options (row_line options.defensive options.terminal_dimensions.0 options.bar_columns midpoint row) h, rows_within cut columns options midpoint rows h)
+rows_within : (cut : Bool) (columns : ℕ) (options : Options) (midpoint : ℕ) (times : Times) (rows : List DrawnRow) → HasWidth cut columns options → AreWithin cut columns (row_lines options midpoint times rows)
+rows_within cut columns options midpoint times [] h = tt
+rows_within cut columns options midpoint times (row ∷ rows) h =
+    (drawn_within cut columns options (row_line options.defensive options.terminal_dimensions.0 options.bar_columns midpoint row (times row.0)) h, rows_within cut columns options midpoint times rows h)
 
 none_or_within : (cut : Bool) (columns : ℕ) (b : Bool) (line : Line) → IsWithin cut columns line → AreWithin cut columns (cond b [] (line ∷ []))
 none_or_within cut columns true line h = tt
@@ -72,8 +72,8 @@ more_within cut columns options n h =
 drawn_lines_within : (cut : Bool) (columns : ℕ) (r : Renderer) (at : ℕ) (rows : List PathRow) → HasWidth cut columns r.options → AreWithin cut columns (drawn_lines r at rows)
 drawn_lines_within cut columns r at rows h =
     let more = length (drawn_rows r at rows) - length (fitting_rows r at rows) in
-    AllByRecursion-append (IsWithin cut columns) (row_lines r.options r.midpoint (fitting_rows r at rows)) (more_lines r.options more)
-    (rows_within cut columns r.options r.midpoint (fitting_rows r at rows) h) (more_within cut columns r.options more h)
+    AllByRecursion-append (IsWithin cut columns) (row_lines r.options r.midpoint (times_at r.timer at) (fitting_rows r at rows)) (more_lines r.options more)
+    (rows_within cut columns r.options r.midpoint (times_at r.timer at) (fitting_rows r at rows) h) (more_within cut columns r.options more h)
 
 -- a message is cut unless messages are written whole
 message_within : (whole : Bool) (limit : Option ℕ) (cuts : Bool) (columns : ℕ) (line : Line) → whole ≡ false → IsWithin cuts columns (cut limit line) → IsWithin cuts columns (cut (cond whole None limit) line)

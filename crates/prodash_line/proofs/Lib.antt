@@ -56,4 +56,5 @@ pub mod WorkedResizes
 pub mod WorkedSigns
 pub mod WorkedTerminals
 pub mod WorkedUnits
+pub mod WorkedTimes
 pub mod WrappedMessages

@@ -12,7 +12,7 @@ use Rattle.prodash_line.specs.declared.render.line.draw.action.Action.{Action}
 use Rattle.prodash_line.specs.declared.render.line.draw.action.Action.TheVariants.{Leave, Redraw, Erase, Close}
 use Rattle.prodash_line.specs.Renderer.{Renderer, Drawing, hides_cursor, is_cursor_hidden, erases_at_end, ending_of, drawn_rows, fitting_rows, drawn_lines, latest_rows, remember, moment_of, drawing_at, action_at, printed_at, body_of, frame_at}
 use Rattle.prodash_line.specs.Renderings.{Rendering, renderer_after, attempts_of, drawn_frames}
-use Rattle.prodash_line.specs.ProgressRows.{row_lines, more_lines}
+use Rattle.prodash_line.specs.ProgressRows.{times_at, row_lines, more_lines}
 use Rattle.prodash_line.proofs.Lists.{AllByRecursion-append}
 use Rattle.prodash_line.proofs.Renderings.{frames_after}
 use Rattle.prodash_line.proofs.StyledLines.{HasCodes, HaveCodes, rows_have, more_have, messages_have}
@@ -53,8 +53,8 @@ closes r = ends (is_cursor_hidden r) (erases_at_end r.options)
 lines_have : (r : Renderer) (at : ℕ) (rows : List PathRow) → HaveCodes (drawn_lines r at rows)
 lines_have r at rows =
     let more = length (drawn_rows r at rows) - length (fitting_rows r at rows) in
-    AllByRecursion-append HasCodes (row_lines r.options r.midpoint (fitting_rows r at rows)) (more_lines r.options more)
-    (rows_have r.options r.midpoint (fitting_rows r at rows)) (more_have r.options more)
+    AllByRecursion-append HasCodes (row_lines r.options r.midpoint (times_at r.timer at) (fitting_rows r at rows)) (more_lines r.options more)
+    (rows_have r.options r.midpoint (times_at r.timer at) (fitting_rows r at rows)) (more_have r.options more)
 
 -- whatever a frame does after its messages
 body_ends : (action : Action) (drawing : Drawing) (r : Renderer) → HaveCodes drawing.lines → EndsOrderly (body_of action drawing (ending_of r))

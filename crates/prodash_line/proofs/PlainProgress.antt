@@ -8,6 +8,7 @@ use Rattle.std.specs.Option.{option_map}
 use Rattle.prodash_base.specs.Rows.{RowProgress, progress_of}
 use Rattle.prodash_base.specs.Units.{measure_of}
 use Rattle.prodash_base.specs.declared.progress.Value.{Value}
+use Rattle.prodash_base.specs.declared.timing.task_time.TaskTime.{TaskTime}
 use Rattle.prodash_base.specs.declared.unit.display.Throughput.{Throughput}
 use Rattle.prodash_base.specs.declared.unit.units.Unit.{Unit}
 use Rattle.prodash_line.specs.declared.render.line.draw.input.Options.{Options}
@@ -128,9 +129,9 @@ drawn_as (Some own) old new draws tells f h = f own h
 spaced : (pad : ℕ) (text : List ℕ) → replicate (1 + pad) 32 ++ text ≡ replicate 1 32 ++ (replicate pad 32 ++ text)
 spaced pad text = ap (λ t. t ++ text) (sym (replicate-append-replicate 1 pad 32)) ∙ append_assoc (replicate 1 32) (replicate pad 32) text
 
-appends_progress : (old new : LineWriter) (width : ℕ) (most : Option ℕ) (midpoint own : ℕ) (text x : List ℕ) (xs : List (List ℕ)) (values : Line) (p : RowProgress)
+appends_progress : {defensive : Bool} (old new : LineWriter) (width : ℕ) (most : Option ℕ) (midpoint own : ℕ) (text x : List ℕ) (xs : List (List ℕ)) (values : Line) (p : RowProgress)
     → is_printable x ≡ true → ArePrintable xs → text ≡ joined x xs → in_color false values ≡ piece x ∷ map piece xs
-    → end_of_values old.width (piece text ∷ []) ≡ end_of_values old.width values → AppendsText width most midpoint text p own old new → AppendsProgress false width most midpoint values p own old new
+    → end_of_values old.width (piece text ∷ []) ≡ end_of_values old.width values → AppendsText width most midpoint text p own old new → AppendsProgress false defensive width most midpoint values p None own old new
 appends_progress old new width most midpoint own text x xs values p h all is shown same given =
     let pad : ℕ = midpoint - own in
     let ends = given.ends ∙ same in
@@ -140,20 +141,22 @@ appends_progress old new width most midpoint own text x xs values p h all is sho
       padded = appends_as (λ i. spaces 1 ∷ spaces (midpoint - ends i) ∷ sym shown i)
           (appends_apart (replicate 1 32) (replicate pad 32 ∷ x ∷ xs) (printable-spaces 1) (printable-spaces pad, (h, all))
           (appends_as (ap (λ t. piece t ∷ []) (spaced pad text ∙ ap (λ t. replicate 1 32 ++ (replicate pad 32 ++ t)) is)) given.padded));
+      timed = given.between;
+      time_follows = refl;
       bar = given.bar;
     }
 
 -- a fraction
-pub appends_fraction : (old new : LineWriter) (width : ℕ) (most : Option ℕ) (midpoint own : ℕ) (text : List ℕ) (p : RowProgress) → is_printable text ≡ true → text ≡ fraction_of p.counter p.bound
-    → AppendsText width most midpoint text p own old new → AppendsProgress false width most midpoint (fraction_values p.counter p.bound) p own old new
+pub appends_fraction : {defensive : Bool} (old new : LineWriter) (width : ℕ) (most : Option ℕ) (midpoint own : ℕ) (text : List ℕ) (p : RowProgress) → is_printable text ≡ true → text ≡ fraction_of p.counter p.bound
+    → AppendsText width most midpoint text p own old new → AppendsProgress false defensive width most midpoint (fraction_values p.counter p.bound) p None own old new
 appends_fraction old new width most midpoint own text p h is given =
     appends_progress old new width most midpoint own text text [] (fraction_values p.counter p.bound) p h tt refl (ap (λ t. piece t ∷ []) (sym is))
     (ap (λ t. end_of_values old.width (piece t ∷ [])) is) given
 
 -- values and a unit
-pub appends_unit : (old new : LineWriter) (width : ℕ) (most : Option ℕ) (midpoint own : ℕ) (text first second : List ℕ) (values : Line) (p : RowProgress) → is_printable text ≡ true
+pub appends_unit : {defensive : Bool} (old new : LineWriter) (width : ℕ) (most : Option ℕ) (midpoint own : ℕ) (text first second : List ℕ) (values : Line) (p : RowProgress) → is_printable text ≡ true
     → text ≡ (first ++ codes " ") ++ second → in_color false values ≡ piece first ∷ piece (codes " ") ∷ piece second ∷ []
-    → AppendsText width most midpoint text p own old new → AppendsProgress false width most midpoint values p own old new
+    → AppendsText width most midpoint text p own old new → AppendsProgress false defensive width most midpoint values p None own old new
 appends_unit old new width most midpoint own text first second values p h is shown given =
     let apart : text ≡ first ++ (codes " " ++ second) = is ∙ append_assoc first (codes " ") second in
     let one = printable-parts first (codes " " ++ second) (ap is_printable (sym apart) ∙ h) in
@@ -166,13 +169,15 @@ appends_unit old new width most midpoint own text first second values p h is sho
     appends_progress old new width most midpoint own text first (codes " " ∷ second ∷ []) values p one.0 (refl, (two.1, tt)) apart shown same given
 
 -- of a progress in this unit, if it has one
-pub draws_by : (options : Options) (midpoint : ℕ) (value : Value) (unit : Option Unit) (throughput : Option Throughput) (own : ℕ) (old new : LineWriter)
-    → options.colored ≡ false → value.unit ≡ unit
-    → AppendsProgress false options.terminal_dimensions.0 options.bar_columns midpoint (values_by options.defensive (option_map measure_of unit) (progress_of value) throughput) (progress_of value) own old new
-    → AppendsProgress options.colored options.terminal_dimensions.0 options.bar_columns midpoint (values_of options.defensive (progress_of value) throughput) (progress_of value) own old new
-draws_by options midpoint value unit throughput own old new plain is h =
+pub draws_by : (options : Options) (midpoint : ℕ) (value : Value) (unit : Option Unit) (throughput : Option Throughput) (time : Option TaskTime) (own : ℕ) (old new : LineWriter)
+    → options.colored ≡ false → time ≡ None → value.unit ≡ unit
+    → AppendsProgress false options.defensive options.terminal_dimensions.0 options.bar_columns midpoint (values_by options.defensive (option_map measure_of unit) (progress_of value) throughput) (progress_of value) None own old new
+    → AppendsProgress options.colored options.defensive options.terminal_dimensions.0 options.bar_columns midpoint (values_of options.defensive (progress_of value) throughput) (progress_of value) time own old new
+draws_by options midpoint value unit throughput time own old new plain untimed is h =
     let p = progress_of value in
     let width = options.terminal_dimensions.0 in
     let most = options.bar_columns in
-    subst (λ (u : Option Unit). AppendsProgress options.colored width most midpoint (values_by options.defensive (option_map measure_of u) p throughput) p own old new) (sym is)
-    (subst (λ (colored : Bool). AppendsProgress colored width most midpoint (values_by options.defensive (option_map measure_of unit) p throughput) p own old new) (sym plain) h)
+    let values = λ (u : Option Unit). values_by options.defensive (option_map measure_of u) p throughput in
+    subst (λ (u : Option Unit). AppendsProgress options.colored options.defensive width most midpoint (values u) p time own old new) (sym is)
+    (subst (λ (t : Option TaskTime). AppendsProgress options.colored options.defensive width most midpoint (values unit) p t own old new) (sym untimed)
+    (subst (λ (colored : Bool). AppendsProgress colored options.defensive width most midpoint (values unit) p None own old new) (sym plain) h))

@@ -1,14 +1,15 @@
 -- The line of a row, from what was appended to it.
-use Rattle.std.proofs.Common.{◌≡◌, ℕ, zero, suc, ◌+◌, ◌-◌, Bool, false, true, List, [], ◌∷◌, ◌++◌, Option, Some, length, take, replicate, append_assoc, ap, sym, ◌∙◌, arith, length-append}
+use Rattle.std.proofs.Common.{◌≡◌, ℕ, zero, suc, ◌+◌, ◌-◌, Bool, false, true, List, [], ◌∷◌, ◌++◌, Option, Some, None, length, take, replicate, append_assoc, ap, sym, subst, ◌∙◌, arith, length-append}
 use Rattle.unicode_width.specs.Width.{str_width}
 use Rattle.prodash_base.specs.Rows.{PathRow, RowProgress}
 use Rattle.prodash_base.specs.declared.unit.display.Throughput.{Throughput}
+use Rattle.prodash_base.specs.declared.timing.task_time.TaskTime.{TaskTime}
 use Rattle.prodash_line.specs.declared.render.line.draw.line_writer.LineWriter.{LineWriter}
 use Rattle.prodash_line.specs.declared.render.line.page.style.Style.{Style}
 use Rattle.prodash_line.specs.Lines.{Line, piece, spaces, capped, columns_of, in_color}
 use Rattle.prodash_line.specs.TextStyles.{row_style}
-use Rattle.prodash_line.specs.ProgressRows.{values_of, head_of, padded, bar, bar_columns, midpoint_with, row_line_with}
-use Rattle.prodash_line.specs.plumbing.RowWriting.{end_of_values, padded_values}
+use Rattle.prodash_line.specs.ProgressRows.{time_line, with_time, values_of, head_of, padded, bar, bar_columns, midpoint_with, row_line_with}
+use Rattle.prodash_line.specs.plumbing.RowWriting.{end_of_values, padded_values, AppendsTime}
 use Rattle.prodash_line.specs.plumbing.Writing.{is_printable, Appends, Begun}
 use Rattle.prodash_line.proofs.Columns.{columns_of-append, printable-append, width-printable, width-repeated}
 use Rattle.prodash_line.proofs.Coloring.{in_color-append, columns_of-in_color}
@@ -73,12 +74,21 @@ pub padded_begun : {limit : Option ℕ} {old w1 w2 : LineWriter} (colored defens
 padded_begun colored defensive row p t midpoint h values =
     begun_as (ap (λ n. in_color colored (head_of defensive row ++ (spaces 1 ∷ spaces (midpoint - n) ∷ values_of defensive p t))) (row_midpoint colored defensive row p t h)) (begun_then h values)
 
+-- with the time
+pub timed_begun : {limit : Option ℕ} {old w1 w2 : LineWriter} (colored defensive : Bool) (width : ℕ) (values : Line) (time : Option TaskTime) → Begun limit old (in_color colored values) w1
+    → AppendsTime colored defensive width time w1 w2 → Begun limit old (in_color colored (with_time defensive width values time)) w2
+timed_begun {limit} {old} colored defensive width values None h s = subst (Begun limit old (in_color colored values)) (sym s) h
+timed_begun colored defensive width values (Some t) h s =
+    let columns = ap (λ n. width - n) (h.writes.width ∙ columns_of-in_color colored values) in
+    begun_as (sym (in_color-append colored values (time_line defensive (width - columns_of values) t)))
+    (begun_then h (appends_as (ap (λ n. in_color colored (time_line defensive n t)) columns) s))
+
 -- with the bar
-pub row_begun : {limit : Option ℕ} {old w1 w2 : LineWriter} (colored defensive : Bool) (row : PathRow) (p : RowProgress) (t : Option Throughput) (width : ℕ) (most : Option ℕ) (midpoint left : ℕ) (style : Style)
-    → Begun limit old (in_color colored (padded defensive midpoint row p t)) w1 → left ≡ bar_columns most (width - w1.width) → style ≡ row_style p
-    → Appends w1 (in_color colored (bar style left p.counter p.bound)) w2 → Begun limit old (in_color colored (row_line_with defensive width most midpoint row (Some p) t)) w2
-row_begun colored defensive row p t width most midpoint left style h l s b =
-    let values = padded defensive midpoint row p t in
+pub row_begun : {limit : Option ℕ} {old w1 w2 : LineWriter} (colored defensive : Bool) (row : PathRow) (p : RowProgress) (t : Option Throughput) (time : Option TaskTime) (width : ℕ) (most : Option ℕ) (midpoint left : ℕ) (style : Style)
+    → Begun limit old (in_color colored (with_time defensive width (padded defensive midpoint row p t) time)) w1 → left ≡ bar_columns most (width - w1.width) → style ≡ row_style p
+    → Appends w1 (in_color colored (bar style left p.counter p.bound)) w2 → Begun limit old (in_color colored (row_line_with defensive width most midpoint row (Some p) t time)) w2
+row_begun colored defensive row p t time width most midpoint left style h l s b =
+    let values = with_time defensive width (padded defensive midpoint row p t) time in
     let columns = l ∙ ap (λ n. bar_columns most (width - n)) (h.writes.width ∙ columns_of-in_color colored values) in
     begun_as (sym (in_color-append colored values (bar (row_style p) (bar_columns most (width - columns_of values)) p.counter p.bound)))
     (begun_then h (appends_as (ap (λ x. in_color colored (bar x left p.counter p.bound)) s ∙ ap (λ n. in_color colored (bar (row_style p) n p.counter p.bound)) columns) b))

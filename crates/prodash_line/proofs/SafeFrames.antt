@@ -14,6 +14,7 @@ use Rattle.prodash_base.specs.Units.{Measure}
 use Rattle.prodash_base.specs.declared.messages.Message.{Message}
 use Rattle.prodash_base.specs.declared.refusal.Refusal.{Refusal}
 use Rattle.prodash_base.specs.declared.unit.display.Throughput.{Throughput}
+use Rattle.prodash_base.specs.declared.timing.task_time.TaskTime.{TaskTime}
 use Rattle.prodash_line.specs.declared.render.line.draw.input.Options.{Options}
 use Rattle.prodash_line.specs.declared.render.line.draw.input.Answer.{Answer}
 use Rattle.prodash_line.specs.declared.render.line.draw.input.Input.{Input}
@@ -22,11 +23,11 @@ use Rattle.prodash_line.specs.declared.render.line.draw.action.Action.{Action}
 use Rattle.prodash_line.specs.declared.render.line.draw.action.Action.TheVariants.{Leave, Redraw, Erase, Close}
 use Rattle.prodash_line.specs.declared.render.line.page.sign.Sign.{Sign}
 use Rattle.prodash_line.specs.declared.render.line.page.style.Style.{Style}
-use Rattle.prodash_line.specs.Lines.{Piece, Line, styled, in_color, width_of, columns_of, longest_prefix_of, longest_prefix, cut_to, cut}
+use Rattle.prodash_line.specs.Lines.{Piece, Line, styled, spaces, in_color, width_of, columns_of, longest_prefix_of, longest_prefix, cut_to, cut}
 use Rattle.prodash_line.specs.DrawnLines.{safe_char, drawn_chars, limit_of, message_limit_of, as_drawn}
-use Rattle.prodash_line.specs.ProgressRows.{DrawnRow, fraction_of, values_by, numbered_cell, bounded_bar, unbounded_bar, bar, bar_columns, padded, row_line_with, row_lines, ellipsis, more_line, more_lines}
+use Rattle.prodash_line.specs.ProgressRows.{DrawnRow, Times, times_at, time_line, with_time, fraction_of, values_by, numbered_cell, bounded_bar, unbounded_bar, bar, bar_columns, padded, row_line_with, row_lines, ellipsis, more_line, more_lines}
 use Rattle.prodash_line.specs.TextStyles.{row_style}
-use Rattle.prodash_line.specs.MessageLines.{time_of, text_of, message_line, message_lines, origin_width, greatest_width}
+use Rattle.prodash_line.specs.MessageLines.{time_of, bare_text_of, text_of, is_bare, message_line, message_lines, origin_width, greatest_width}
 use Rattle.prodash_line.specs.Frames.{body_lines}
 use Rattle.prodash_line.specs.SafeFrames.{IsSafe, HasSafeLines, DrawsSafely, DrawsSafelyOf}
 use Rattle.prodash_line.specs.Renderer.{Renderer, Drawing, drawn_rows, fitting_rows, drawn_lines, latest_rows, remember, moment_of, drawing_at, action_at, printed_at, ending_of, body_of, Renders, frame_at}
@@ -168,19 +169,23 @@ bar_clean style columns step None = one_or_none (columns == 0) (unbounded_bar st
 bar_clean style columns step (Some bound) = one_or_none (columns == 0) (bounded_bar style columns step bound)
     ((refl, (refl, tt)), (copies _ 61 refl, ((refl, tt), (copies _ 45 refl, ((refl, tt), tt)))))
 
-row_clean : (defensive : Bool) (width : ℕ) (most : Option ℕ) (midpoint : ℕ) (row : PathRow) (progress : Option RowProgress) (t : Option Throughput) → defensive ≡ true
-    → IsSafe (row_line_with defensive width most midpoint row progress t)
-row_clean defensive width most midpoint row None t e = (copies _ 32 refl, (drawn_clean defensive row.1.name e, tt))
-row_clean defensive width most midpoint row (Some p) t e =
-    let values = padded defensive midpoint row p t in
+timed_clean : (defensive : Bool) (width : ℕ) (values : Line) (time : Option TaskTime) → defensive ≡ true → IsSafe values → IsSafe (with_time defensive width values time)
+timed_clean defensive width values None e h = h
+timed_clean defensive width values (Some t) e h = pieces values (time_line defensive (width - columns_of values) t) h (drawn_clean defensive _ e, tt)
+
+row_clean : (defensive : Bool) (width : ℕ) (most : Option ℕ) (midpoint : ℕ) (row : PathRow) (progress : Option RowProgress) (t : Option Throughput) (time : Option TaskTime) → defensive ≡ true
+    → IsSafe (row_line_with defensive width most midpoint row progress t time)
+row_clean defensive width most midpoint row None t time e = (copies _ 32 refl, (drawn_clean defensive row.1.name e, tt))
+row_clean defensive width most midpoint row (Some p) t time e =
+    let values = with_time defensive width (padded defensive midpoint row p t) time in
     pieces values (bar (row_style p) (bar_columns most (width - columns_of values)) p.counter p.bound)
-    (copies _ 32 refl, (drawn_clean defensive row.1.name e, ((refl, tt), (copies _ 32 refl, values_clean defensive p.unit p t e))))
+    (timed_clean defensive width (padded defensive midpoint row p t) time e (copies _ 32 refl, (drawn_clean defensive row.1.name e, ((refl, tt), (copies _ 32 refl, values_clean defensive p.unit p t e)))))
     (bar_clean (row_style p) (bar_columns most (width - columns_of values)) p.counter p.bound)
 
-rows_clean : (options : Options) (midpoint : ℕ) (rows : List DrawnRow) → options.defensive ≡ true → AllByRecursion IsSafe (row_lines options midpoint rows)
-rows_clean options midpoint [] e = tt
-rows_clean options midpoint (row ∷ rows) e =
-    (as_drawn_clean options _ (row_clean options.defensive options.terminal_dimensions.0 options.bar_columns midpoint row.0 row.0.1.progress row.1 e), rows_clean options midpoint rows e)
+rows_clean : (options : Options) (midpoint : ℕ) (times : Times) (rows : List DrawnRow) → options.defensive ≡ true → AllByRecursion IsSafe (row_lines options midpoint times rows)
+rows_clean options midpoint times [] e = tt
+rows_clean options midpoint times (row ∷ rows) e =
+    (as_drawn_clean options _ (row_clean options.defensive options.terminal_dimensions.0 options.bar_columns midpoint row.0 row.0.1.progress row.1 (times row.0) e), rows_clean options midpoint times rows e)
 
 none_or_one : (b : Bool) (line : Line) → IsSafe line → AllByRecursion IsSafe (cond b [] (line ∷ []))
 none_or_one true line h = tt
@@ -198,8 +203,8 @@ more_clean options n =
 lines_clean : (r : Renderer) (at : ℕ) (rows : List PathRow) → r.options.defensive ≡ true → AllByRecursion IsSafe (drawn_lines r at rows)
 lines_clean r at rows e =
     let more = length (drawn_rows r at rows) - length (fitting_rows r at rows) in
-    AllByRecursion-append IsSafe (row_lines r.options r.midpoint (fitting_rows r at rows)) (more_lines r.options more)
-    (rows_clean r.options r.midpoint (fitting_rows r at rows) e) (more_clean r.options more)
+    AllByRecursion-append IsSafe (row_lines r.options r.midpoint (times_at r.timer at) (fitting_rows r at rows)) (more_lines r.options more)
+    (rows_clean r.options r.midpoint (times_at r.timer at) (fitting_rows r at rows) e) (more_clean r.options more)
 
 -- ---- messages
 
@@ -207,11 +212,27 @@ time_clean : (timestamp : Bool) (m : Message) → IsSafe (time_of timestamp m)
 time_clean true m = (subst Clean (sym (chars-printable (time_text m.time) (printable-time m.time))) (printable_clean (time_text m.time) (printable-time m.time)), ((refl, tt), tt))
 time_clean false m = tt
 
+bare_text_clean : (defensive : Bool) (m : Message) → defensive ≡ true → IsSafe (bare_text_of defensive m)
+bare_text_clean defensive m e = (drawn_clean defensive m.message e, tt)
+
 text_clean : (defensive : Bool) (width : ℕ) (m : Message) → defensive ≡ true → IsSafe (text_of defensive width m)
 text_clean defensive width m e = (
   both (replicate (width - origin_width defensive m.origin) 32) (drawn_chars defensive m.origin) (copies _ 32 refl) (drawn_clean defensive m.origin e),
-  ((refl, tt), (drawn_clean defensive m.message e, tt)),
+  ((refl, tt), bare_text_clean defensive m e),
 )
+
+one_of_lines : (b : Bool) (xs ys : Line) → IsSafe xs → IsSafe ys → IsSafe (cond b xs ys)
+one_of_lines true xs ys h i = h
+one_of_lines false xs ys h i = i
+
+message_line_clean : (options : Options) (width : ℕ) (m : Message) → options.defensive ≡ true → IsSafe (message_line options width m)
+message_line_clean options width m e =
+    let time = time_of options.timestamp m in
+    let bare_text = bare_text_of options.defensive m in
+    let text = text_of options.defensive width m in
+    one_of_lines (is_bare options m) (time ++ bare_text) (spaces 1 ∷ time ++ text)
+    (pieces time bare_text (time_clean options.timestamp m) (bare_text_clean options.defensive m e))
+    ((refl, tt), pieces time text (time_clean options.timestamp m) (text_clean options.defensive width m e))
 
 message_clean : (options : Options) (line : Line) → IsSafe line → IsSafe (cut (message_limit_of options) (in_color options.colored line))
 message_clean options line h = cut_clean (message_limit_of options) (in_color options.colored line) (in_color_clean options.colored line h)
@@ -220,11 +241,7 @@ messages_clean : (options : Options) (widths : List ℕ) (messages : List Messag
 messages_clean options widths [] e = tt
 messages_clean options widths (m ∷ messages) e =
     let all = widths ++ origin_width options.defensive m.origin ∷ [] in (
-      message_clean options (message_line options (greatest_width all) m) (
-        (refl, tt),
-        pieces (time_of options.timestamp m) (text_of options.defensive (greatest_width all) m)
-            (time_clean options.timestamp m) (text_clean options.defensive (greatest_width all) m e),
-      ),
+      message_clean options (message_line options (greatest_width all) m) (message_line_clean options (greatest_width all) m e),
       messages_clean options all messages e,
     )
 

@@ -6,14 +6,15 @@ use Rattle.prodash_base.specs.Rows.{Phase, Running, Halted, Blocked, PathRow, Ro
 use Rattle.prodash_base.specs.Units.{Measure}
 use Rattle.prodash_base.specs.declared.messages.Message.{Message}
 use Rattle.prodash_base.specs.declared.unit.display.Throughput.{Throughput}
+use Rattle.prodash_base.specs.declared.timing.task_time.TaskTime.{TaskTime}
 use Rattle.prodash_line.specs.declared.render.line.draw.input.Options.{Options}
 use Rattle.prodash_line.specs.declared.render.line.page.style.Style.{Style}
 use Rattle.prodash_line.specs.Styles.{style_codes}
 use Rattle.prodash_line.specs.TextStyles.{dimmed, name_style, style_in, row_style}
-use Rattle.prodash_line.specs.Lines.{Piece, Line, styled, shown_style, in_color, width_of, columns_of, longest_prefix, cut_to, cut}
+use Rattle.prodash_line.specs.Lines.{Piece, Line, styled, spaces, shown_style, in_color, width_of, columns_of, longest_prefix, cut_to, cut}
 use Rattle.prodash_line.specs.DrawnLines.{limit_of, message_limit_of, as_drawn}
-use Rattle.prodash_line.specs.ProgressRows.{DrawnRow, values_by, bounded_bar, unbounded_bar, bar, bar_columns, padded, row_line_with, row_lines, more_line, more_lines}
-use Rattle.prodash_line.specs.MessageLines.{time_of, text_of, message_line, drawn_message_line, message_lines, origin_width, greatest_width}
+use Rattle.prodash_line.specs.ProgressRows.{DrawnRow, Times, time_line, with_time, values_by, bounded_bar, unbounded_bar, bar, bar_columns, padded, row_line_with, row_lines, more_line, more_lines}
+use Rattle.prodash_line.specs.MessageLines.{time_of, bare_text_of, text_of, is_bare, message_line, drawn_message_line, message_lines, origin_width, greatest_width}
 use Rattle.prodash_line.proofs.Lists.{AllByRecursion-append}
 
 abbrev pub HasCode : Option Style → Type 0
@@ -80,19 +81,23 @@ bar_has : (style : Style) (columns step : ℕ) (bound : Option ℕ) → HasCode 
 bar_has style columns step None h d = one_or_other (columns == 0) [] (unbounded_bar style columns step) tt (tt, (h, (tt, tt)))
 bar_has style columns step (Some bound) h d = one_or_other (columns == 0) [] (bounded_bar style columns step bound) tt (tt, (h, (h, (d, (tt, tt)))))
 
-row_has : (defensive : Bool) (width : ℕ) (most : Option ℕ) (midpoint : ℕ) (row : PathRow) (progress : Option RowProgress) (t : Option Throughput) → HasCodes (row_line_with defensive width most midpoint row progress t)
-row_has defensive width most midpoint row None t = (tt, (name_has row.1.progress, tt))
-row_has defensive width most midpoint row (Some p) t =
-    let values = padded defensive midpoint row p t in
+timed_has : (defensive : Bool) (width : ℕ) (values : Line) (time : Option TaskTime) → HasCodes values → HasCodes (with_time defensive width values time)
+timed_has defensive width values None h = h
+timed_has defensive width values (Some t) h = AllByRecursion-append (λ q. HasCode q.style) values (time_line defensive (width - columns_of values) t) h (tt, tt)
+
+row_has : (defensive : Bool) (width : ℕ) (most : Option ℕ) (midpoint : ℕ) (row : PathRow) (progress : Option RowProgress) (t : Option Throughput) (time : Option TaskTime) → HasCodes (row_line_with defensive width most midpoint row progress t time)
+row_has defensive width most midpoint row None t time = (tt, (name_has row.1.progress, tt))
+row_has defensive width most midpoint row (Some p) t time =
+    let values = with_time defensive width (padded defensive midpoint row p t) time in
     let styles = style_in_has p.phase p.counter p.bound in
     AllByRecursion-append (λ q. HasCode q.style) values (bar (row_style p) (bar_columns most (width - columns_of values)) p.counter p.bound)
-    (tt, (name_has row.1.progress, (tt, (tt, values_has defensive p.unit p t))))
+    (timed_has defensive width (padded defensive midpoint row p t) time (tt, (name_has row.1.progress, (tt, (tt, values_has defensive p.unit p t)))))
     (bar_has (row_style p) (bar_columns most (width - columns_of values)) p.counter p.bound styles.0 styles.1)
 
-pub rows_have : (options : Options) (midpoint : ℕ) (rows : List DrawnRow) → HaveCodes (row_lines options midpoint rows)
-rows_have options midpoint [] = tt
-rows_have options midpoint (row ∷ rows) =
-    (drawn_has options _ (row_has options.defensive options.terminal_dimensions.0 options.bar_columns midpoint row.0 row.0.1.progress row.1), rows_have options midpoint rows)
+pub rows_have : (options : Options) (midpoint : ℕ) (times : Times) (rows : List DrawnRow) → HaveCodes (row_lines options midpoint times rows)
+rows_have options midpoint times [] = tt
+rows_have options midpoint times (row ∷ rows) =
+    (drawn_has options _ (row_has options.defensive options.terminal_dimensions.0 options.bar_columns midpoint row.0 row.0.1.progress row.1 (times row.0)), rows_have options midpoint times rows)
 
 -- the line that counts the other rows, if it is drawn
 none_or_one : (b : Bool) (line : Line) → HasCodes line → HaveCodes (cond b [] (line ∷ []))
@@ -109,14 +114,30 @@ time_has : (timestamp : Bool) (m : Message) → HasCodes (time_of timestamp m)
 time_has true m = (some_code _ _, (tt, tt))
 time_has false m = tt
 
+bare_text_has : (defensive : Bool) (m : Message) → HasCodes (bare_text_of defensive m)
+bare_text_has defensive m = (some_code _ _, tt)
+
 text_has : (defensive : Bool) (width : ℕ) (m : Message) → HasCodes (text_of defensive width m)
-text_has defensive width m = (some_code _ _, (tt, (some_code _ _, tt)))
+text_has defensive width m = (some_code _ _, (tt, bare_text_has defensive m))
+
+one_of_lines : (b : Bool) (xs ys : Line) → HasCodes xs → HasCodes ys → HasCodes (cond b xs ys)
+one_of_lines true xs ys h i = h
+one_of_lines false xs ys h i = i
+
+message_line_has : (options : Options) (width : ℕ) (m : Message) → HasCodes (message_line options width m)
+message_line_has options width m =
+    let time = time_of options.timestamp m in
+    let bare_text = bare_text_of options.defensive m in
+    let text = text_of options.defensive width m in
+    one_of_lines (is_bare options m) (time ++ bare_text) (spaces 1 ∷ time ++ text)
+    (AllByRecursion-append (λ q. HasCode q.style) time bare_text (time_has options.timestamp m) (bare_text_has options.defensive m))
+    (tt, AllByRecursion-append (λ q. HasCode q.style) time text (time_has options.timestamp m) (text_has options.defensive width m))
 
 message_has : (options : Options) (width : ℕ) (m : Message) → HasCodes (drawn_message_line options width m)
 message_has options width m =
     let line = message_line options width m in
     cut_has (message_limit_of options) (in_color options.colored line)
-    (in_color_has options.colored line (tt, AllByRecursion-append (λ q. HasCode q.style) (time_of options.timestamp m) (text_of options.defensive width m) (time_has options.timestamp m) (text_has options.defensive width m)))
+    (in_color_has options.colored line (message_line_has options width m))
 
 pub messages_have : (options : Options) (widths : List ℕ) (messages : List Message) → HaveCodes (message_lines options widths messages)
 messages_have options widths [] = tt

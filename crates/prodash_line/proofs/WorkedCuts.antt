@@ -26,7 +26,7 @@ abbrev three_of_ten : PathRow
 three_of_ten = (0 ∷ [], record { name = codes "t"; id = unknown_id; progress = Some (record { counter = 3; bound = Some 10; unit = None; phase = Running }) })
 
 abbrev row_on : ℕ → Bool → Line
-row_on columns colored = drawn_row_line (terminal columns colored) 0 (three_of_ten, None)
+row_on columns colored = drawn_row_line (terminal columns colored) 0 (λ row. None) (three_of_ten, None)
 
 -- on eight columns the space of the bar; on seven no bar; on five a part of the values
 eight_columns : line_text (row_on 8 false) ≡ codes " t 3/10 "

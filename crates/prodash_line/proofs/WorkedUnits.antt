@@ -39,7 +39,7 @@ abbrev five_in_a_second : Option Throughput
 five_in_a_second = Some (record { value_change_in_timespan = 5; timespan = 1_000_000_000 })
 
 -- the value, a space and the unit, and a bar on the columns that are left of 20
-pub in_items : line_text (row_line false 20 None 0 (row 2 None (items None), None)) ≡ codes " t 2 i [=   ===   =]"
+pub in_items : line_text (row_line false 20 None 0 (row 2 None (items None), None) None) ≡ codes " t 2 i [=   ===   =]"
 unfolding chars str_width step past_emoji digits
 in_items = refl
 
@@ -49,24 +49,24 @@ unfolding chars str_width step past_emoji digits
 end_of_unit = refl
 
 -- three spaces bring that end to column 9, and the bar is shorter
-pub padded_in_items : line_text (row_line false 20 None 9 (row 2 None (items None), None)) ≡ codes " t    2 i [ ===   =]"
+pub padded_in_items : line_text (row_line false 20 None 9 (row 2 None (items None), None) None) ≡ codes " t    2 i [ ===   =]"
 unfolding chars str_width step past_emoji digits
 padded_in_items = refl
 
-pub with_percentage : line_text (row_line false 30 None 0 (row 2 (Some 10) (items percentage_first), None)) ≡ codes " t [20%] 2/10 i [==>---------]"
+pub with_percentage : line_text (row_line false 30 None 0 (row 2 (Some 10) (items percentage_first), None) None) ≡ codes " t [20%] 2/10 i [==>---------]"
 unfolding chars str_width step past_emoji digits
 with_percentage = refl
 
-pub with_throughput : line_text (row_line false 30 None 0 (row 2 (Some 10) (items throughput_last), five_in_a_second)) ≡ codes " t 2/10 i |5/s| [==>---------]"
+pub with_throughput : line_text (row_line false 30 None 0 (row 2 (Some 10) (items throughput_last), five_in_a_second) None) ≡ codes " t 2/10 i |5/s| [==>---------]"
 unfolding chars str_width step past_emoji digits
 with_throughput = refl
 
 -- a throughput that the unit's mode doesn't show
-pub throughput_not_shown : line_text (row_line false 20 None 0 (row 2 None (items None), five_in_a_second)) ≡ codes " t 2 i [=   ===   =]"
+pub throughput_not_shown : line_text (row_line false 20 None 0 (row 2 None (items None), five_in_a_second) None) ≡ codes " t 2 i [=   ===   =]"
 unfolding chars str_width step past_emoji digits
 throughput_not_shown = refl
 
 -- a unit without a name leaves the space before it
-pub in_bytes : line_text (row_line false 20 None 0 (row 1999 None (record { quantity = Bytes; mode = None }), None)) ≡ codes " t 1.9kB  [===   ==]"
+pub in_bytes : line_text (row_line false 20 None 0 (row 1999 None (record { quantity = Bytes; mode = None }), None) None) ≡ codes " t 1.9kB  [===   ==]"
 unfolding chars str_width step past_emoji digits last_digits
 in_bytes = refl

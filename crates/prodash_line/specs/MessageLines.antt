@@ -1,5 +1,5 @@
 -- The line of a message: its time, its origin, aligned with those of other messages, and its text.
-use Rattle.std.specs.Prelude.{ℕ, ◌-◌, max, List, [], ◌∷◌, ◌++◌, map, replicate, chars, Bool, Some, if◌then◌else◌}
+use Rattle.std.specs.Prelude.{ℕ, ◌-◌, max, List, [], ◌∷◌, ◌++◌, length, map, replicate, chars, nat_eq, Bool, ◌&&◌, Some, if◌then◌else◌}
 use Rattle.prodash_base.specs.Moments.{time_text}
 use Rattle.prodash_base.specs.Rings.{keep_last}
 use Rattle.prodash_base.specs.declared.messages.Message.{Message}
@@ -20,17 +20,24 @@ aligned_origin defensive width origin = replicate (width - origin_width defensiv
 abbrev pub time_of : Bool → Message → Line
 time_of timestamp m = if timestamp then styled (Some (time_style m.level)) (chars (time_text m.time)) ∷ spaces 1 ∷ [] else []
 
+-- the text of a message alone
+abbrev pub bare_text_of : Bool → Message → Line
+bare_text_of defensive m = styled (Some (message_style m.level)) (drawn_chars defensive m.message) ∷ []
+
 -- the origin right-aligned to this width, a space, the text
 abbrev pub text_of : Bool → ℕ → Message → Line
 text_of defensive width m =
-    styled (Some origin_style) (aligned_origin defensive width m.origin)
-    ∷ spaces 1
-    ∷ styled (Some (message_style m.level)) (drawn_chars defensive m.message)
-    ∷ []
+    styled (Some origin_style) (aligned_origin defensive width m.origin) ∷ spaces 1 ∷ bare_text_of defensive m
 
--- a space, the time if times are shown, the origin right-aligned to this width, a space, the text
+-- is a message drawn without what aligns it? if it has no origin, and the options say so
+abbrev pub is_bare : Options → Message → Bool
+is_bare options m = options.bare_without_origin && nat_eq (length m.origin) 0
+
+-- a space, the time if times are shown, the origin right-aligned to this width, a space, the text; of a bare message the time and the text alone
 abbrev pub message_line : Options → ℕ → Message → Line
-message_line options width m = spaces 1 ∷ time_of options.timestamp m ++ text_of options.defensive width m
+message_line options width m =
+    if is_bare options m then time_of options.timestamp m ++ bare_text_of options.defensive m
+    else spaces 1 ∷ time_of options.timestamp m ++ text_of options.defensive width m
 
 -- the line of a message as it is drawn: cut, unless messages are written whole
 abbrev pub drawn_message_line : Options → ℕ → Message → Line

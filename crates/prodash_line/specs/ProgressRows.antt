@@ -1,4 +1,4 @@
--- The line of a row: its name, and with progress its values and a bar.
+-- The line of a row: its name, and with progress its values, its time and a bar.
 use Rattle.std.specs.Prelude.{ℕ, ◌-◌, ◌*◌, ◌/◌, ◌%◌, ◌^◌, min, max, List, [], ◌∷◌, ◌++◌, length, map, take, zip, replicate, reverse, codes, if◌then◌else◌, ◌==◌, nat_eq, nat_lt, nat_le, Bool, true, ◌&&◌, ◌||◌, Option, Some, None}
 use Rattle.std.specs.List.{range_with_len, filter}
 use Rattle.std.specs.Fmt.{decimal}
@@ -7,6 +7,9 @@ use Rattle.prodash_base.specs.Displays.{amount, values_text, unit_text}
 use Rattle.prodash_base.specs.Units.{Measure}
 use Rattle.prodash_base.specs.Rows.{RowProgress, PathRow}
 use Rattle.prodash_base.specs.Trackers.{Tracker, frame_throughputs}
+use Rattle.prodash_base.specs.Times.{time_text}
+use Rattle.prodash_base.specs.Timers.{TimerState, row_time}
+use Rattle.prodash_base.specs.declared.timing.task_time.TaskTime.{TaskTime}
 use Rattle.prodash_base.specs.declared.unit.display.Throughput.{Throughput}
 use Rattle.prodash_line.specs.declared.render.line.draw.input.Options.{Options}
 use Rattle.prodash_line.specs.declared.render.line.page.style.Style.{Style}
@@ -24,6 +27,15 @@ fraction_of step (Some bound) = decimal step ++ (codes "/" ++ decimal bound)
 -- a row that is drawn, with the throughput that is shown in it, if there is one
 abbrev pub DrawnRow : Type 0
 DrawnRow = PathRow × Option Throughput
+
+-- what each row says of its time, if anything
+abbrev pub Times : Type 0
+Times = PathRow → Option TaskTime
+
+-- what rows say of their times at a moment; nothing without a timer
+abbrev pub times_at : Option TimerState → ℕ → Times
+times_at None at row = None
+times_at (Some timer) at row = row_time timer at row
 
 -- the values of a progress in a unit, a space and the unit
 abbrev pub values_in : Bool → Measure → RowProgress → Option Throughput → Line
@@ -119,26 +131,54 @@ padded defensive midpoint row p throughput =
     head_of defensive row
     ++ (spaces 1 ∷ spaces (midpoint - columns_of (unpadded defensive row p throughput)) ∷ values_of defensive p throughput)
 
+-- a time without what remains
+abbrev pub without_remaining : TaskTime → TaskTime
+without_remaining t = record t { remaining = None }
+
+-- how long a task has run or took, alone
+abbrev pub elapsed_alone : TaskTime → TaskTime
+elapsed_alone t = record t { remaining = None; stalled = None }
+
+-- a space and the first of these texts, where both fit on so many columns; nothing if none does
+abbrev pub first_fitting : ℕ → List (List ℕ) → List ℕ
+first_fitting columns [] = []
+first_fitting columns (text ∷ others) = if nat_lt (length text) columns then codes " " ++ text else first_fitting columns others
+
+-- a space and a time, as they fit on so many columns: all of it, or without what remains, or how long the task has run alone
+abbrev pub fitting_time : ℕ → TaskTime → List ℕ
+fitting_time columns t =
+    first_fitting columns (time_text t ∷ time_text (without_remaining t) ∷ time_text (elapsed_alone t) ∷ [])
+
+-- a space and a time, as they fit on the columns that are left
+abbrev pub time_line : Bool → ℕ → TaskTime → Line
+time_line defensive columns t = piece (drawn_chars defensive (fitting_time columns t)) ∷ []
+
+-- the values of a row on a terminal of this width, and its time on the columns that are left; the values alone without a time
+abbrev pub with_time : Bool → ℕ → Line → Option TaskTime → Line
+with_time defensive width values None = values
+with_time defensive width values (Some t) = values ++ time_line defensive (width - columns_of values) t
+
 -- the line of a row with this progress, or without one
-abbrev pub row_line_with : Bool → ℕ → Option ℕ → ℕ → PathRow → Option RowProgress → Option Throughput → Line
-row_line_with defensive width most midpoint row None throughput = head_of defensive row
-row_line_with defensive width most midpoint row (Some p) throughput =
-    let values = padded defensive midpoint row p throughput in
+abbrev pub row_line_with : Bool → ℕ → Option ℕ → ℕ → PathRow → Option RowProgress → Option Throughput → Option TaskTime → Line
+row_line_with defensive width most midpoint row None throughput time = head_of defensive row
+row_line_with defensive width most midpoint row (Some p) throughput time =
+    let values = with_time defensive width (padded defensive midpoint row p throughput) time in
     values ++ bar (row_style p) (bar_columns most (width - columns_of values)) p.counter p.bound
 
--- the line of a row on a terminal of this width: without progress its head alone, else its values, brought to this midpoint, and a bar on the
--- columns that are left, or on as many of them as it takes at most
-abbrev pub row_line : Bool → ℕ → Option ℕ → ℕ → DrawnRow → Line
-row_line defensive width most midpoint drawn = row_line_with defensive width most midpoint drawn.0 drawn.0.1.progress drawn.1
+-- the line of a row on a terminal of this width: without progress its head alone, else its values, brought to this midpoint, its time if it has
+-- one, and a bar on the columns that are left, or on as many of them as it takes at most
+abbrev pub row_line : Bool → ℕ → Option ℕ → ℕ → DrawnRow → Option TaskTime → Line
+row_line defensive width most midpoint drawn time =
+    row_line_with defensive width most midpoint drawn.0 drawn.0.1.progress drawn.1 time
 
 -- the line of a row as it is drawn
-abbrev pub drawn_row_line : Options → ℕ → DrawnRow → Line
-drawn_row_line options midpoint drawn =
-    as_drawn options (row_line options.defensive options.terminal_dimensions.0 options.bar_columns midpoint drawn)
+abbrev pub drawn_row_line : Options → ℕ → Times → DrawnRow → Line
+drawn_row_line options midpoint times drawn =
+    as_drawn options (row_line options.defensive options.terminal_dimensions.0 options.bar_columns midpoint drawn (times drawn.0))
 
 -- the lines of rows as they are drawn
-abbrev pub row_lines : Options → ℕ → List DrawnRow → List Line
-row_lines options midpoint rows = map (drawn_row_line options midpoint) rows
+abbrev pub row_lines : Options → ℕ → Times → List DrawnRow → List Line
+row_lines options midpoint times rows = map (drawn_row_line options midpoint times) rows
 
 -- is a row drawn? without a filter it is; with one if its level is between these two, both included
 abbrev pub is_row_drawn : Option (ℕ × ℕ) → PathRow → Bool

@@ -1,10 +1,12 @@
 -- The renderer: what it keeps, the frame that it draws for an input, and what that frame leaves.
 use Rattle.std.specs.Prelude.{◌≡◌, ℕ, ◌-◌, nat_eq, List, [], ◌∷◌, ◌++◌, length, drop, Bool, true, false, ◌&&◌, ◌||◌, not, Option, Some, None, if◌then◌else◌, Result, Ok, Err, ◌⊎◌}
 use Rattle.std.specs.Option.{option_map}
+use Rattle.std.specs.List.{list_any}
 use Rattle.prodash_base.specs.Rings.{keep_last}
 use Rattle.prodash_base.specs.Rows.{PathRow, same_rows}
 use Rattle.prodash_base.specs.Trackers as trackers
 use Rattle.prodash_base.specs.Trackers.{Tracker, new_tracker}
+use Rattle.prodash_base.specs.Timers.{TimerState, new_timer, timer_after, goes_on}
 use Rattle.prodash_base.specs.declared.messages.Message.{Message}
 use Rattle.prodash_base.specs.declared.refusal.Refusal.{Refusal}
 use Rattle.prodash_base.specs.declared.refusal.Refusal.TheVariants as refusals
@@ -21,7 +23,7 @@ use Rattle.prodash_line.specs.declared.render.line.draw.action.Action.{Action}
 use Rattle.prodash_line.specs.declared.render.line.draw.action.Action.TheVariants.{Leave, Redraw, Erase, Close}
 use Rattle.prodash_line.specs.Frames.{Body, Unchanged, Draws, Closes, Frame, frame_signs, widths_of}
 use Rattle.prodash_line.specs.DrawnLines.{erases_rows, layout_of}
-use Rattle.prodash_line.specs.ProgressRows.{DrawnRow, filtered, with_throughputs, fitting, more_lines, row_lines, greatest_midpoint}
+use Rattle.prodash_line.specs.ProgressRows.{DrawnRow, filtered, with_throughputs, times_at, fitting, more_lines, row_lines, greatest_midpoint}
 use Rattle.prodash_line.specs.MessageLines.{message_lines, latest_origin_widths}
 use Rattle.prodash_line.specs.Screens.{ScreenState, WritesFrame, BreaksDuring}
 
@@ -40,6 +42,8 @@ pub record Renderer : Type 0 where
   pub seen : Option ℕ
   -- the tracker of throughput, if throughput is shown
   pub tracker : Option Tracker
+  -- the timer of tasks after the latest accepted tick with a root, if times are shown
+  pub timer : Option TimerState
   -- whether a frame has erased the rows of tasks since they were last drawn
   pub rows_erased : Bool
   -- whether a frame has hidden the cursor
@@ -60,8 +64,10 @@ default_options = record {
   defensive = false;
   synchronized = false;
   whole_messages = false;
+  bare_without_origin = false;
   bar_columns = None;
   ascii = false;
+  times = false;
 }
 
 -- the refusal of an ended renderer
@@ -72,7 +78,7 @@ IsEndRefusal refusal = (refusal ≡ refusals.Closed) ⊎ (refusal ≡ refusals.B
 abbrev pub Seen : Type 0
 Seen = Option (List PathRow × List Message × ℕ)
 
--- nothing drawn yet, with a tracker if throughput is to be shown
+-- nothing drawn yet, with a tracker if throughput is to be shown, and a timer if times are
 abbrev pub new_renderer : Options → Bool → Renderer
 new_renderer options throughput = record {
   options = options;
@@ -82,6 +88,7 @@ new_renderer options throughput = record {
   origin_widths = [];
   seen = None;
   tracker = if throughput then Some new_tracker else None;
+  timer = if options.times then Some new_timer else None;
   rows_erased = false;
   cursor_hidden = false;
   ended = None;
@@ -120,9 +127,18 @@ has_messages messages = not (nat_eq (length messages) 0)
 abbrev pub draws_again : Renderer → Bool → Bool
 draws_again r printed = erases_rows r.options && (printed || r.rows_erased)
 
--- rows are drawn on a terminal if they are shown and have changed, or must be drawn again
+-- does the time of some row go on that passes the filter?
+abbrev pub any_goes_on : Option (ℕ × ℕ) → List PathRow → Bool
+any_goes_on levels rows = list_any (λ (row : PathRow). goes_on row.1.progress) (filtered levels rows)
+
+-- do times go on that are shown?
+abbrev pub times_go_on : Options → List PathRow → Bool
+times_go_on options rows = options.times && any_goes_on options.level_filter rows
+
+-- rows are drawn on a terminal if they are shown and have changed, or their times go on, or they must be drawn again
 abbrev pub is_drawn : Renderer → Bool → Bool → List PathRow → Bool
-is_drawn r show printed rows = show && (r.options.output_is_terminal && (draws_again r printed || rows_changed r.last_rows rows))
+is_drawn r show printed rows =
+    show && (r.options.output_is_terminal && (draws_again r printed || (times_go_on r.options rows || rows_changed r.last_rows rows)))
 
 -- a tick that sees no rows closes the renderer, unless it is to keep running
 abbrev pub closes_at : Renderer → List PathRow → Bool
@@ -144,7 +160,8 @@ fitting_rows r at rows = fitting (layout_of r.options) (drawn_rows r at rows)
 -- the lines of the rows that fit, and the line that says how many are hidden
 abbrev pub drawn_lines : Renderer → ℕ → List PathRow → List Line
 drawn_lines r at rows =
-    row_lines r.options r.midpoint (fitting_rows r at rows) ++ more_lines r.options (length (drawn_rows r at rows) - length (fitting_rows r at rows))
+    row_lines r.options r.midpoint (times_at r.timer at) (fitting_rows r at rows)
+    ++ more_lines r.options (length (drawn_rows r at rows) - length (fitting_rows r at rows))
 
 -- the tracker after a frame at a moment that draws rows
 abbrev pub tracker_after : Renderer → ℕ → List PathRow → Option Tracker
@@ -173,12 +190,14 @@ resized r columns height = record r {
   origin_widths = keep_last height r.origin_widths;
 }
 
--- the renderer with what it remembers of an input: the rows of a tick, the origins of its messages and how many were pushed; the size of a resize
+-- the renderer with what it remembers of an input: the rows of a tick, the timer that has seen them, the origins of its messages and how many
+-- were pushed; the size of a resize
 abbrev pub remember : Renderer → Input → Renderer
 remember r (Tick at show (Some seen)) = record r {
   last_rows = Some seen.0;
   origin_widths = latest_origin_widths r.options r.origin_widths seen.1;
   seen = Some seen.2;
+  timer = option_map (λ t. timer_after t at seen.0) r.timer;
 }
 remember r (Tick at show None) = r
 remember r (Resize at show columns height) = resized r columns height

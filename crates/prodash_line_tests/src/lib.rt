@@ -30,6 +30,8 @@ mod styles;
 #[cfg(test)]
 mod throughput;
 #[cfg(test)]
+mod times;
+#[cfg(test)]
 mod unit_rows;
 #[cfg(test)]
 mod units;

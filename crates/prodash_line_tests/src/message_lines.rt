@@ -1,5 +1,13 @@
 use crate::drawings::Ask::{Print, PrintHidden, Quit, Resize, Show};
-use crate::drawings::{Drawing, assert_draws};
+use crate::drawings::{Drawing, assert_draws, assert_draws_with};
+use crate::fixtures::TERMINAL;
+use prodash_line::render::line::draw::Options;
+
+/// Messages without an origin are their texts alone.
+const BARE: Options = Options {
+    bare_without_origin: true,
+    ..TERMINAL
+};
 
 #[rattlefmt::skip]
 const LINES: &[Drawing] = &[
@@ -60,9 +68,65 @@ const LINES: &[Drawing] = &[
         (Print(&[("工", "\u{301}!")], &[("abcdefghi", None)]), Ok("  工 \u{301}!    \n")),
         (Show(&[]), Ok("")),
     ]),
+    // one without an origin is aligned too
+    Drawing((40, 20), &[
+        (Print(&[("", "x"), ("task", "y"), ("", "z")], &[]), Ok("  x\n task y\n      z\n")),
+    ]),
+];
+
+#[rattlefmt::skip]
+const BARE_LINES: &[Drawing] = &[
+    // blanks of the text stay, and those that align other messages; an empty text has an empty line
+    Drawing((40, 20), &[
+        (Print(&[("task", "x"), ("", "y"), ("", "  z"), ("c", "z"), ("", "")], &[]), Ok(" task x\ny\n  z\n    c z\n\n")),
+        (PrintHidden(&[("", "y")], &[]), Ok("y\n")),
+    ]),
+    // the width of its origin is 0: with one row it counts alone
+    Drawing((40, 1), &[
+        (Print(&[("task", "x"), ("", "y")], &[]), Ok(" task x\ny\n")),
+        (Print(&[("c", "z")], &[]), Ok(" c z\n")),
+    ]),
+    // it is cut at the terminal's width, and hides the line that it is printed over
+    Drawing((5, 20), &[
+        (Print(&[("", "a long message")], &[("task", None)]), Ok("a lon\n task\n\x1b[1A")),
+        (Print(&[("", "y")], &[("task", None)]), Ok("y    \n")),
+    ]),
+];
+
+#[rattlefmt::skip]
+const TIMED_LINES: &[Drawing] = &[
+    Drawing((40, 20), &[
+        (Print(&[("task", "x"), ("", "y")], &[]), Ok(" 00:00:00 task x\n00:00:00 y\n")),
+    ]),
+];
+
+#[rattlefmt::skip]
+const COLORED_LINES: &[Drawing] = &[
+    Drawing((40, 20), &[
+        (Print(&[("", "y")], &[]), Ok("\x1b[2;37;43m00:00:00\x1b[0m \x1b[1;37my\x1b[0m\n")),
+    ]),
 ];
 
 #[test]
 fn messages_are_printed_in_lines(rt: HostRuntime) {
     assert_draws(&rt, rt.alloc(), LINES)
+}
+
+#[test]
+fn messages_without_an_origin_may_be_bare(rt: HostRuntime) {
+    assert_draws_with(&rt, rt.alloc(), BARE, BARE_LINES)
+}
+
+#[test]
+fn bare_messages_may_have_times_and_styles(rt: HostRuntime) {
+    let timed = Options {
+        timestamp: true,
+        ..BARE
+    };
+    let colored = Options {
+        colored: true,
+        ..timed
+    };
+    assert_draws_with(&rt, rt.alloc(), timed, TIMED_LINES);
+    assert_draws_with(&rt, rt.alloc(), colored, COLORED_LINES)
 }

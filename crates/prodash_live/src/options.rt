@@ -93,6 +93,7 @@ impl<'a> Options<'a> {
             defensive: true,
             synchronized: !self.has_marks,
             whole_messages: true,
+            bare_without_origin: true,
             initial_delay: Some(self.delay.saturating_mul(1_000_000)),
             nanoseconds_per_frame: 1_000_000_000 / self.frames.max(1),
             ..line::Options::default()

@@ -227,6 +227,7 @@ fn drawn(alloc: Global, options: &ReplayOptions, events: &[Event]) -> Result<Mem
             defensive: options.defensive,
             synchronized: false,
             whole_messages: false,
+            bare_without_origin: false,
             bar_columns: None,
             ascii: false,
         },

@@ -22,8 +22,10 @@ draw_options o = record {
   defensive = o.defensive;
   synchronized = o.synchronized;
   whole_messages = o.whole_messages;
+  bare_without_origin = o.bare_without_origin;
   bar_columns = o.bar_columns;
   ascii = o.ascii;
+  times = o.times;
 }
 
 module _ {S W : Type 0} where

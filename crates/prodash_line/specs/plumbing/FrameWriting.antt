@@ -23,7 +23,7 @@ use Rattle.prodash_line.specs.Signs.{spelling}
 use Rattle.prodash_line.specs.Lines.{Line}
 use Rattle.prodash_line.specs.DrawnLines.{layout_of, as_drawn}
 use Rattle.prodash_line.specs.Frames.{Body, covered, erased_rows, lines_start, message_layout, messages_start, erasing_start, erasing_end, left_over, cursor_up, redraw, body_signs, widths_of, Frame, Closes, frame_signs}
-use Rattle.prodash_line.specs.ProgressRows.{DrawnRow, filtered, fitting_count, fitting, more_line, more_lines, row_lines, greatest_midpoint}
+use Rattle.prodash_line.specs.ProgressRows.{DrawnRow, Times, times_at, filtered, fitting_count, fitting, more_line, more_lines, row_lines, greatest_midpoint}
 use Rattle.prodash_line.specs.MessageLines.{message_lines, widths_of_origins}
 use Rattle.prodash_base.specs.declared.refusal.Refusal.TheVariants as refusals
 use Rattle.prodash_line.specs.Renderer.{Renderer, Drawing, FrameState, drawing_of, body_of, opening_of, ending_of, state_after, state_at, action_at, remember, latest_rows, frame_bytes, ended_after, is_cursor_hidden}
@@ -129,6 +129,7 @@ remembering frame rows pushed r = record (keeping frame.drawn r) {
   last_rows = Some rows;
   origin_widths = frame.origin_widths.items;
   seen = Some pushed;
+  timer = frame.timer;
   ended = ended_after frame.drawn.action r.ended;
 }
 
@@ -141,6 +142,7 @@ pub record Leaves (r : Renderer) (input : Input) (drawn : Drawn) (tracker : Opti
 pub record LeavesTick (r : Renderer) (input : Input) (frame : Composed) (tracker : Option FrameTracker) : Type 0 where
   pub drawn : Leaves r input frame.drawn tracker
   pub origin_widths : frame.origin_widths.items ≡ (remember r input).origin_widths
+  pub timer : frame.timer ≡ (remember r input).timer
 
 -- what such a frame leaves if its tracker was `old` and is `new`
 abbrev pub LeftBy : Renderer → Option FrameTracker → Input → Option FrameTracker → Drawn → Type 0
@@ -154,9 +156,13 @@ LeftByTick r old at show seen new frame = LeavesTick (tracked r old) (tick_seein
 abbrev pub resize_to : ℕ → Bool → ℕ × ℕ → Input
 resize_to at show dimensions = Resize at show dimensions.0 dimensions.1
 
--- the renderer of a scene, with its options and this tracker
+-- what the rows of a scene say of their times
+abbrev pub times_in : Scene → Times
+times_in scene = times_at scene.timer.now scene.at
+
+-- the renderer of a scene, with its options, its timer and this tracker
 abbrev pub renderer_in : Scene → Option Tracker → Renderer
-renderer_in scene tracker = record scene.past.now { options = scene.options; tracker = tracker }
+renderer_in scene tracker = record scene.past.now { options = scene.options; timer = scene.timer.now; tracker = tracker }
 
 -- the rows of a scene, drawn at its moment
 abbrev pub drawing_in : Scene → Option Tracker → Drawing
@@ -193,24 +199,24 @@ abbrev pub shown_rows : Options → Option Tracker → List Row → List DrawnRo
 shown_rows options tracker rows = shown_by tracker (filtered options.level_filter (rows_of rows))
 
 -- and their lines
-abbrev pub shown_lines : Options → ℕ → Option Tracker → List Row → List Line
-shown_lines options midpoint tracker rows = row_lines options midpoint (shown_rows options tracker rows)
+abbrev pub shown_lines : Options → ℕ → Times → Option Tracker → List Row → List Line
+shown_lines options midpoint times tracker rows = row_lines options midpoint times (shown_rows options tracker rows)
 
 -- these rows have been drawn besides those of old, aligned to this midpoint
-pub record AddsRows (options : Options) (aligned : ℕ) (tracker : Option Tracker) (rows : List Row) (old new : Drawn) : Type 0 where
-  pub widths : new.widths.items ≡ old.widths.items ++ widths_of (shown_lines options aligned tracker rows)
+pub record AddsRows (options : Options) (aligned : ℕ) (times : Times) (tracker : Option Tracker) (rows : List Row) (old new : Drawn) : Type 0 where
+  pub widths : new.widths.items ≡ old.widths.items ++ widths_of (shown_lines options aligned times tracker rows)
   pub midpoint : new.midpoint ≡ max old.midpoint (greatest_midpoint options.defensive (shown_rows options tracker rows))
   pub rows_erased : new.rows_erased ≡ old.rows_erased
   pub action : new.action ≡ old.action
 
 -- the rows of a scene have been drawn besides those of old
 abbrev pub DrawsRows : Scene → Option FrameTracker → List Row → Drawn → Drawn → Type 0
-DrawsRows scene tracker rows old new = AddsRows scene.options scene.past.now.midpoint (ahead_of tracker) rows old new
+DrawsRows scene tracker rows old new = AddsRows scene.options scene.past.now.midpoint (times_in scene) (ahead_of tracker) rows old new
 
 -- their lines, over lines on screen of these widths, follow the bytes of old
 abbrev pub WritesRows : Scene → Option FrameTracker → List ℕ → List Row → LineWriter → LineWriter → Type 0
 WritesRows scene tracker widths rows old new =
-    let lines = shown_lines scene.options scene.past.now.midpoint (ahead_of tracker) rows in
+    let lines = shown_lines scene.options scene.past.now.midpoint (times_in scene) (ahead_of tracker) rows in
     AppendsOver (layout_of scene.options) old widths lines new
 
 -- the rows of these that fit
@@ -218,27 +224,27 @@ abbrev pub fitting_shown : Options → Option Tracker → List Row → List Draw
 fitting_shown options tracker rows = fitting (layout_of options) (shown_rows options tracker rows)
 
 -- their lines, and the line that says how many are hidden
-abbrev pub fitting_lines : Options → ℕ → Option Tracker → List Row → List Line
-fitting_lines options midpoint tracker rows =
-    row_lines options midpoint (fitting_shown options tracker rows)
+abbrev pub fitting_lines : Options → ℕ → Times → Option Tracker → List Row → List Line
+fitting_lines options midpoint times tracker rows =
+    row_lines options midpoint times (fitting_shown options tracker rows)
     ++ more_lines options (length (shown_rows options tracker rows) - length (fitting_shown options tracker rows))
 
 -- the rows that fit have been drawn besides those of old, aligned to this midpoint
-pub record AddsFitting (options : Options) (aligned : ℕ) (tracker : Option Tracker) (rows : List Row) (old new : Drawn) : Type 0 where
-  pub widths : new.widths.items ≡ old.widths.items ++ widths_of (fitting_lines options aligned tracker rows)
+pub record AddsFitting (options : Options) (aligned : ℕ) (times : Times) (tracker : Option Tracker) (rows : List Row) (old new : Drawn) : Type 0 where
+  pub widths : new.widths.items ≡ old.widths.items ++ widths_of (fitting_lines options aligned times tracker rows)
   pub midpoint : new.midpoint ≡ max old.midpoint (greatest_midpoint options.defensive (fitting_shown options tracker rows))
   pub rows_erased : new.rows_erased ≡ old.rows_erased
   pub action : new.action ≡ old.action
 
 -- those of a scene that fit have been drawn besides those of old
 abbrev pub DrawsFitting : Scene → Option FrameTracker → Drawn → Drawn → Type 0
-DrawsFitting scene tracker old new = AddsFitting scene.options scene.past.now.midpoint (ahead_of tracker) scene.rows.now old new
+DrawsFitting scene tracker old new = AddsFitting scene.options scene.past.now.midpoint (times_in scene) (ahead_of tracker) scene.rows.now old new
 
 -- their lines and the line that says how many are hidden, over lines on screen of these widths, follow the bytes of old
 abbrev pub WritesFitting : Scene → Option FrameTracker → List ℕ → LineWriter → LineWriter → Type 0
 WritesFitting scene tracker widths old new =
     let layout = layout_of scene.options in
-    let lines = fitting_lines scene.options scene.past.now.midpoint (ahead_of tracker) scene.rows.now in
+    let lines = fitting_lines scene.options scene.past.now.midpoint (times_in scene) (ahead_of tracker) scene.rows.now in
     AppendsOver layout old (covered layout widths) lines new
 
 -- how many of the rows are drawn if all that pass the filter are

@@ -1,5 +1,5 @@
 -- The values of a row after the head of its line, with spaces that bring their end to a midpoint, and its bar.
-use Rattle.std.specs.Prelude.{◌≡◌, ℕ, List, [], Bool, false, ◌+◌, ◌-◌, ◌∷◌, ◌++◌, Option, Some, None, codes, replicate, length, drop}
+use Rattle.std.specs.Prelude.{◌≡◌, ℕ, List, [], Bool, false, ◌+◌, ◌-◌, ◌∷◌, ◌++◌, Option, Some, None, codes, replicate, length, drop, nat_lt}
 use Rattle.prodash_base.specs.Rows.{RowProgress, progress_of, row_of}
 use Rattle.prodash_base.specs.Units.{measure_of}
 use Rattle.prodash_base.specs.declared.progress.Value.{Value}
@@ -9,10 +9,13 @@ use Rattle.prodash_line.specs.declared.render.line.draw.input.Options.{Options}
 use Rattle.prodash_line.specs.declared.render.line.draw.plain_progress.PlainText.{PlainText}
 use Rattle.prodash_line.specs.declared.render.line.draw.plain_progress.PlainProgress.{PlainProgress}
 use Rattle.prodash_line.specs.declared.render.line.draw.row.DrawnProgress.{DrawnProgress}
+use Rattle.prodash_line.specs.declared.render.line.draw.row.Measured.{Measured}
+use Rattle.prodash_base.specs.declared.timing.task_time.TaskTime.{TaskTime}
+use Rattle.prodash_base.specs.Times.{time_text}
 use Rattle.prodash_base.specs.declared.progress.Row.{Row}
 use Rattle.prodash_line.specs.declared.render.line.draw.line_writer.LineWriter.{LineWriter}
 use Rattle.prodash_line.specs.Lines.{Line, piece, spaces, capped, columns_of}
-use Rattle.prodash_line.specs.ProgressRows.{fraction_values, values_in, values_of, bar, bar_columns, fraction_of, bar_with, head_of, midpoint_of, row_line}
+use Rattle.prodash_line.specs.ProgressRows.{time_line, fraction_values, values_in, values_of, bar, bar_columns, fraction_of, bar_with, head_of, midpoint_of, row_line}
 use Rattle.prodash_line.specs.TextStyles.{row_style}
 use Rattle.prodash_line.specs.plumbing.Writing.{Appends, AppendsIn, DrawsLine}
 use Rattle.std.specs.Fmt.{decimal}
@@ -36,12 +39,28 @@ padded_values midpoint width values =
 abbrev pub Pads : Bool → ℕ → LineWriter → Line → LineWriter → Type 0
 Pads colored midpoint old values new = AppendsIn colored old (padded_values midpoint old.width values) new
 
--- such values, which end at a column without padding, and a bar on the columns that are left in a row of this width
-pub record AppendsProgress (colored : Bool) (width : ℕ) (most : Option ℕ) (midpoint : ℕ) (values : Line) (p : RowProgress) (own : ℕ) (old new : LineWriter) : Type 0 where
+-- a space and a time follow, as they fit on the columns that are left in a row of this width; nothing without a time
+abbrev pub AppendsTime : Bool → Bool → ℕ → Option TaskTime → LineWriter → LineWriter → Type 0
+AppendsTime colored defensive width None old new = new ≡ old
+AppendsTime colored defensive width (Some t) old new = AppendsIn colored old (time_line defensive (width - old.width) t) new
+
+-- the same on the terminal that the options say
+abbrev pub ShowsTime : Options → Option TaskTime → LineWriter → LineWriter → Type 0
+ShowsTime options time old new = AppendsTime options.colored options.defensive options.terminal_dimensions.0 time old new
+
+-- whether a space and a time fit on so many columns, and the text if they do
+pub record TriesTime (columns : ℕ) (t : TaskTime) (text : List ℕ) (fits : Bool) : Type 0 where
+  pub value : fits ≡ nat_lt (length (time_text t)) columns
+  pub text_is : text ≡ codes " " ++ time_text t
+
+-- such values, which end at a column without padding, a time if there is one, and a bar on the columns that are left in a row of this width
+pub record AppendsProgress (colored defensive : Bool) (width : ℕ) (most : Option ℕ) (midpoint : ℕ) (values : Line) (p : RowProgress) (time : Option TaskTime) (own : ℕ) (old new : LineWriter) : Type 0 where
   pub ends : own ≡ end_of_values old.width values
   pub between : LineWriter
   pub padded : Pads colored midpoint old values between
-  pub bar : AppendsIn colored between (bar (row_style p) (bar_columns most (width - between.width)) p.counter p.bound) new
+  pub timed : LineWriter
+  pub time_follows : AppendsTime colored defensive width time between timed
+  pub bar : AppendsIn colored timed (bar (row_style p) (bar_columns most (width - timed.width)) p.counter p.bound) new
 
 -- the values of a progress
 abbrev pub drawn_values : DrawnProgress → Line
@@ -55,31 +74,31 @@ unit_values d unit = values_in d.options.now.defensive (measure_of unit) (progre
 abbrev pub PadsValues : DrawnProgress → Line → LineWriter → LineWriter → Type 0
 PadsValues d values old new = Pads d.options.now.colored d.midpoint old values new
 
--- its values and its bar follow; without padding they end at this column
+-- its values, its time and its bar follow; without padding the values end at this column
 abbrev pub DrawsProgress : DrawnProgress → ℕ → LineWriter → LineWriter → Type 0
 DrawsProgress d own old new =
     let o = d.options.now in
-    AppendsProgress o.colored o.terminal_dimensions.0 o.bar_columns d.midpoint (drawn_values d) (progress_of d.value.now) own old new
+    AppendsProgress o.colored o.defensive o.terminal_dimensions.0 o.bar_columns d.midpoint (drawn_values d) (progress_of d.value.now) d.time own old new
 
--- the same without styles, of a progress without a unit
+-- the same without styles and without a time, of a progress without a unit
 abbrev pub DrawsFraction : DrawnProgress → ℕ → LineWriter → LineWriter → Type 0
 DrawsFraction d own old new =
     let values = fraction_values d.value.now.step d.value.now.done_at in
     let o = d.options.now in
-    AppendsProgress false o.terminal_dimensions.0 o.bar_columns d.midpoint values (progress_of d.value.now) own old new
+    AppendsProgress false o.defensive o.terminal_dimensions.0 o.bar_columns d.midpoint values (progress_of d.value.now) None own old new
 
--- the same without styles, of a progress in a unit whose texts have no control characters
+-- the same without styles and without a time, of a progress in a unit whose texts have no control characters
 abbrev pub DrawsInUnit : DrawnProgress → Unit → ℕ → LineWriter → LineWriter → Type 0
 DrawsInUnit d unit own old new =
     (defensive : Bool) →
     let p = progress_of d.value.now in
     let o = d.options.now in
-    AppendsProgress false o.terminal_dimensions.0 o.bar_columns d.midpoint (values_in defensive (measure_of unit) p d.throughput) p own old new
+    AppendsProgress false o.defensive o.terminal_dimensions.0 o.bar_columns d.midpoint (values_in defensive (measure_of unit) p d.throughput) p None own old new
 
--- a row on a terminal of the width that the options say, and a midpoint, with the throughput that is shown in it
-abbrev pub DrawsRow : Options → ℕ → Row → Option Throughput → LineWriter → LineWriter → Type 0
-DrawsRow options midpoint row throughput old new =
-    let line = row_line options.defensive options.terminal_dimensions.0 options.bar_columns midpoint (row_of row, throughput) in
+-- a row on a terminal of the width that the options say, and a midpoint, with what is measured of it
+abbrev pub DrawsRow : Options → ℕ → Row → Measured → LineWriter → LineWriter → Type 0
+DrawsRow options midpoint row measured old new =
+    let line = row_line options.defensive options.terminal_dimensions.0 options.bar_columns midpoint (row_of row, measured.throughput) measured.time in
     DrawsLine options (on_row (layout_of options) old) line new
 
 -- the column at which the values of a row end without padding; 0 if it has no progress

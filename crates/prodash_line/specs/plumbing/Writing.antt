@@ -15,7 +15,7 @@ use Rattle.prodash_line.specs.DrawnLines.{drawn_chars, limit_of, message_limit_o
 use Rattle.prodash_line.specs.plumbing.Cutting.{room_of, room_after_line, Fits}
 use Rattle.prodash_line.specs.Frames.{line_signs}
 use Rattle.prodash_base.specs.declared.messages.Message.{Message}
-use Rattle.prodash_line.specs.MessageLines.{origin_width, time_of, text_of, message_line}
+use Rattle.prodash_line.specs.MessageLines.{origin_width, time_of, bare_text_of, text_of, message_line}
 
 -- n spaces and then a text
 abbrev pub indented : ℕ → List ℕ → List ℕ
@@ -131,6 +131,10 @@ DrawsMessage options width m old new =
 -- its origin, a space and its text follow
 abbrev pub AppendsOriginAndText : Options → ℕ → Message → LineWriter → LineWriter → Type 0
 AppendsOriginAndText options width m old new = AppendsIn options.colored old (text_of options.defensive width m) new
+
+-- its text alone follows
+abbrev pub AppendsBareText : Options → Message → LineWriter → LineWriter → Type 0
+AppendsBareText options m old new = AppendsIn options.colored old (bare_text_of options.defensive m) new
 
 -- its time as it is drawn
 abbrev pub drawn_time : Options → Message → Line

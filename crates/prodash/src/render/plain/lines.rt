@@ -3,15 +3,16 @@ ghost use Rattle.std.specs.Prelude.{◌≡◌, ◌++◌, IfOk, chars, true, stri
 ghost use Rattle.std.specs.Str.{encode_utf8_all};
 ghost use Rattle.prodash_base.specs.Rows.{progress_of};
 ghost use Rattle.prodash_line.specs.DrawnLines.{drawn_chars};
-ghost use Rattle.prodash.specs.PlainLines.{reached_of, is_past, is_done, is_same, was_said, values_in, percentage_text, progress_text, left_text, remaining_of, changed_text, last_progress, outcome_text, bound_of, step_of, has_finished, ended_text, said_again, said_of, finished_at, told_after, said_at_end, has_come_out, values_of, outcome_of, known_outcome};
+ghost use Rattle.prodash_base.specs.Times.{is_past, left_text};
+ghost use Rattle.prodash.specs.PlainLines.{reached_of, is_done, is_same, was_said, values_in, percentage_text, progress_text, remaining_of, changed_text, last_progress, outcome_text, bound_of, step_of, has_finished, ended_text, said_again, said_of, told_after, said_at_end, has_come_out, values_of, outcome_of, known_outcome};
 
 use crate::progress::{Step, Value};
 use crate::render::line::draw::safe_char;
 use crate::render::plain::Outcome;
 use crate::render::plain::told::{Reached, Told};
-use crate::render::times::{duration_text, remaining_seconds, seconds_text};
 use crate::time::Moment;
 use crate::unit::display;
+use prodash_base::times::{duration_text, finished_at, is_past, remaining_seconds, seconds_text};
 use prodash_base::{Refusal, Text};
 use std::alloc::{AllocError, Global};
 
@@ -30,10 +31,7 @@ impl Reached {
     fn is_done(self) -> bool
         ensures { result ≡ is_past self.step self.done_at }
     {
-        match self.done_at {
-            None => false,
-            Some(bound) => bound <= self.step,
-        }
+        is_past(self.step, self.done_at)
     }
 
     /// Returns whether the steps and the bounds are equal.
@@ -264,17 +262,6 @@ pub(super) fn said_of(
     match told {
         None => Ok(Some(String::from_str(alloc, " started")?)),
         Some(told) => said_again(alloc, told, now, progress),
-    }
-}
-
-/// Returns when a task was first seen at its bound, if it is there: when it was before, or now.
-fn finished_at(is_done: bool, before: Option<Moment>, now: Moment) -> Option<Moment>
-    ensures { result ≡ finished_at is_done before now }
-{
-    if is_done {
-        Some(before.unwrap_or(now))
-    } else {
-        None
     }
 }
 

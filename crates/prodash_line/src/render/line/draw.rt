@@ -22,6 +22,7 @@ mod over_write;
 pub(crate) mod plain_progress;
 mod room;
 mod row;
+mod row_time;
 mod screen;
 mod state;
 mod styles;

@@ -43,12 +43,19 @@ pub struct Options {
     /// copies such a line as one, and lays it out again as its size changes. Otherwise messages are
     /// cut like all lines.
     pub whole_messages: bool,
+    /// Whether a message without an origin is its text alone, behind its time if times are shown.
+    /// Otherwise its text is aligned with those of other messages.
+    pub bare_without_origin: bool,
     /// The greatest number of columns of a bar, with the space and the brackets around its cells.
     /// With fewer than four there are no bars. `None` draws each on all columns that are left.
     pub bar_columns: Option<u16>,
     /// Whether the line that says how many rows are hidden is written in ASCII, with three dots in
     /// place of an ellipsis. Texts are written as they are.
     pub ascii: bool,
+    /// Whether a row with progress shows its time, and frames are drawn while that goes on: how
+    /// long the task has run, how long the rest takes, for how long there was no step, or how long
+    /// it took. The bar gives way to it.
+    pub times: bool,
     /// Whether rows show the throughput of values whose unit asks for it.
     pub throughput: bool,
     /// The lowest and the highest level of the rows that are drawn, or `None` to draw all rows.

@@ -1,4 +1,5 @@
 //! What a frame does after its messages, and what it leaves to the next one.
+use prodash_base::timing::Timer;
 
 /// What a frame does after its messages.
 #[derive(Clone, Copy, Debug, PartialEq, Eq)]
@@ -33,4 +34,6 @@ pub(crate) struct Composed {
     pub(crate) drawn: Drawn,
     /// The widths of the latest origins.
     pub(crate) origin_widths: Vec<u16>,
+    /// The timer that has seen the rows of the tick, if times are shown.
+    pub(crate) timer: Option<Timer>,
 }

@@ -18,7 +18,8 @@ use crate::render::line::draw::layout::Layout;
 use crate::render::line::draw::line_writer::LineWriter;
 use crate::render::line::draw::message::{greatest_width, push_message};
 use crate::render::line::draw::more::{split_fitting, write_more};
-use crate::render::line::draw::row::{RowTexts, is_row_drawn, push_row};
+use crate::render::line::draw::row::{Measured, RowTexts, is_row_drawn, push_row};
+use crate::render::line::draw::row_time::row_time;
 use crate::render::line::draw::state::{Past, keep_latest};
 use crate::render::line::draw::tracker::{begin_observing, observe_row};
 use crate::render::line::page::Sign;
@@ -27,6 +28,7 @@ use prodash_base::messages::{Message, MessageCopyState, Messages};
 use prodash_base::progress::{Row, Rows};
 use prodash_base::throughput::FrameThroughput;
 use prodash_base::time::Moment;
+use prodash_base::timing::Timer;
 use std::alloc::{AllocError, Global};
 
 /// What the body of a frame is drawn from.
@@ -37,6 +39,8 @@ struct Scene<'a> {
     options: Options,
     /// The time of the frame.
     at: Moment,
+    /// The timer of their tasks, if times are shown.
+    timer: &'a Option<Timer>,
     /// The rows that are drawn if the frame draws any.
     rows: &'a [Row],
 }
@@ -62,7 +66,7 @@ pub(crate) fn compose_tick(
 {
     let (_, height) = past.options.terminal_dimensions;
     let layout = past.options.layout();
-    let messages = seen.1.as_slice();
+    let (rows, messages) = (seen.0.as_slice(), seen.1.as_slice());
     let has_messages = !messages.is_empty();
     let action = past.tick_action(show, has_messages, &seen.0);
     begin_frame(out, past, layout, action)?;
@@ -78,17 +82,20 @@ pub(crate) fn compose_tick(
     )?;
     keep_latest(&mut origin_widths, usize::from(height));
     let left = widths_below(&past.widths, messages.len());
+    let timer = past.timer_after(alloc, at, rows)?;
     let scene = Scene {
         past,
         options: past.options,
         at,
-        rows: seen.0.as_slice(),
+        timer: &timer,
+        rows,
     };
     let drawn = write_body(alloc, out, tracker, &scene, action, left)?;
     end_frame(out, layout, action)?;
     Ok(Composed {
         drawn,
         origin_widths,
+        timer,
     })
 }
 
@@ -130,6 +137,7 @@ pub(crate) fn compose_resized(
         past,
         options,
         at,
+        timer: &past.timer,
         rows: past.latest_rows(),
     };
     let drawn = write_body(alloc, out, tracker, &scene, action, &past.widths)?;
@@ -363,6 +371,7 @@ fn write_rows(
     let midpoint = scene.past.midpoint();
     let options = &scene.options;
     let mut texts = RowTexts::new(alloc);
+    let mut likely = 0;
     let mut left = widths;
     for row in rows {
         if !is_row_drawn(options.level_filter, row) {
@@ -370,7 +379,9 @@ fn write_rows(
         }
         let (old_width, others) = split_first_width(left);
         let throughput = observe_row(alloc, tracker, row)?;
-        let own_midpoint = push_row(alloc, out, &mut texts, options, midpoint, row, throughput)?;
+        let time = row_time(scene.timer, scene.at, row, &mut likely);
+        let measured = Measured { throughput, time };
+        let own_midpoint = push_row(alloc, out, &mut texts, options, midpoint, row, measured)?;
         drawn.midpoint = drawn.midpoint.max(own_midpoint);
         drawn.widths.push(out.end_line_over(old_width)?)?;
         left = others;

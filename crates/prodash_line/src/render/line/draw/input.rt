@@ -50,19 +50,26 @@ pub struct Options {
     /// copies such a line as one, and lays it out again as its size changes. Otherwise messages are
     /// cut like all lines.
     pub whole_messages: bool,
+    /// Whether a message without an origin is its text alone, behind its time if times are shown.
+    /// Otherwise its text is aligned with those of other messages.
+    pub bare_without_origin: bool,
     /// The greatest number of columns of a bar, with the space and the brackets around its cells.
     /// With fewer than four there are no bars. `None` draws each on all columns that are left.
     pub bar_columns: Option<u16>,
     /// Whether the line that says how many rows are hidden is written in ASCII, with three dots in
     /// place of an ellipsis. Texts are written as they are.
     pub ascii: bool,
+    /// Whether a row with progress shows its time, and a tick draws while that goes on: how long
+    /// the task has run, how long the rest takes, for how long there was no step, or how long it
+    /// took. The bar gives way to it.
+    pub times: bool,
 }
 
 impl Default for Options {
     /// Returns options for a coloured terminal of 80 columns and 20 rows. Rows of all levels are
     /// drawn, messages have no timestamps, the cursor stays visible, frames are neither
-    /// defensive nor synchronized, messages are cut, bars take all columns that are left, and the
-    /// renderer keeps running without rows.
+    /// defensive nor synchronized, messages are cut, and aligned without an origin too, bars take
+    /// all columns that are left, rows show no times, and the renderer keeps running without rows.
     fn default() -> Options
         ensures { result ≡ default_options }
     {
@@ -77,8 +84,10 @@ impl Default for Options {
             defensive: false,
             synchronized: false,
             whole_messages: false,
+            bare_without_origin: false,
             bar_columns: None,
             ascii: false,
+            times: false,
         }
     }
 }

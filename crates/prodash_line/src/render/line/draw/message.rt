@@ -1,7 +1,7 @@
 //! The line of a message: its origin, aligned with those of other messages, and its text.
 ghost use Rattle.std.specs.Prelude.{◌≡◌, OnOk, IsOkUnless};
-ghost use Rattle.prodash_line.specs.MessageLines.{greatest_width};
-ghost use Rattle.prodash_line.specs.plumbing.Writing.{drawn_time, Appends, AppendsOriginAndText, DrawsMessage, IsOriginOf};
+ghost use Rattle.prodash_line.specs.MessageLines.{greatest_width, is_bare};
+ghost use Rattle.prodash_line.specs.plumbing.Writing.{drawn_time, Appends, AppendsBareText, AppendsOriginAndText, DrawsMessage, IsOriginOf};
 
 use crate::render::line::draw::drawn_text::{DrawnText, drawn_text};
 use crate::render::line::draw::input::Options;
@@ -13,8 +13,8 @@ use prodash_base::time::format_time_for_messages;
 use std::alloc::{AllocError, Global};
 
 /// Writes the line of a message. Its origin, which is drawn as `origin`, is right-aligned to
-/// `width`. Its text, if it is drawn with other characters, is written to `replaced`. Fails if out
-/// of memory.
+/// `width`, unless the message is bare. Its text, if it is drawn with other characters, is written
+/// to `replaced`. Fails if out of memory.
 pub(crate) fn push_message(
     alloc: Global,
     out: &mut LineWriter,
@@ -29,10 +29,22 @@ pub(crate) fn push_message(
     ensures reason { IsOkUnless result Refusal.Memory }
 {
     out.begin_line(options.message_limit());
+    if is_bare(options, message) {
+        push_time(alloc, out, options, message)?;
+        push_bare_text(out, replaced, options, message)?;
+        return Ok(());
+    }
     out.push_spaces(1)?;
     push_time(alloc, out, options, message)?;
     push_origin_and_text(out, replaced, options, width, origin, message)?;
     Ok(())
+}
+
+/// Whether a message is drawn without what aligns it.
+fn is_bare(options: &Options, message: &Message) -> bool
+    ensures { result ≡ is_bare options.now message.now }
+{
+    options.bare_without_origin && message.origin.as_str().is_empty()
 }
 
 /// Appends the time of a message and a space, if times are shown.
@@ -69,13 +81,26 @@ fn push_origin_and_text(
     ensures { OnOk result
         (AppendsOriginAndText options.now width message.now out.old out.new) }
 {
-    let text = drawn_text(options.defensive, message.message.as_str(), replaced)?;
     let padding = width.saturating_sub(origin.width);
-    let of_origin = options.colored.then_some(origin_style());
-    let of_text = options.colored.then_some(message_style(message.level));
-    out.push_indented(of_origin, padding, origin)?;
+    let style = options.colored.then_some(origin_style());
+    out.push_indented(style, padding, origin)?;
     out.push_spaces(1)?;
-    out.push_drawn(of_text, &text)?;
+    push_bare_text(out, replaced, options, message)?;
+    Ok(())
+}
+
+/// Appends the text of a message alone.
+fn push_bare_text(
+    out: &mut LineWriter,
+    replaced: &mut String,
+    options: &Options,
+    message: &Message,
+) -> Result<(), AllocError>
+    ensures { OnOk result (AppendsBareText options.now message.now out.old out.new) }
+{
+    let text = drawn_text(options.defensive, message.message.as_str(), replaced)?;
+    let style = options.colored.then_some(message_style(message.level));
+    out.push_drawn(style, &text)?;
     Ok(())
 }
 

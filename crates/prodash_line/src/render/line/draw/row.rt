@@ -1,5 +1,5 @@
 //! The line of a row: its name, and with progress its values and a bar.
-ghost use Rattle.std.specs.Prelude.{◌≡◌, ◌≤◌, ◌+◌, ◌++◌, false, true, Some, length, OnOk, IfOk, IsOkUnless};
+ghost use Rattle.std.specs.Prelude.{◌≡◌, ◌≤◌, ◌+◌, ◌++◌, false, true, Some, None, length, OnOk, IfOk, IsOkUnless};
 ghost use Rattle.prodash_base.specs.Rows.{row_of};
 ghost use Rattle.prodash_line.specs.ProgressRows as rows;
 ghost use Rattle.prodash_line.specs.ProgressRows.{fraction_values};
@@ -12,11 +12,13 @@ use crate::render::line::draw::drawn_text::drawn_text;
 use crate::render::line::draw::input::Options;
 use crate::render::line::draw::line_writer::{LineWriter, style_of_length};
 use crate::render::line::draw::plain_progress::{PlainProgress, PlainText};
+use crate::render::line::draw::row_time::{TimeTexts, push_time};
 use crate::render::line::draw::styles::{name_style, values_style};
 use crate::render::line::draw::text::printable_width;
 use itoa::Buffer;
 use prodash_base::Refusal;
 use prodash_base::progress::{Level, Row, Step, Value};
+use prodash_base::timing::TaskTime;
 use prodash_base::unit::Unit;
 use prodash_base::unit::display::Throughput;
 use std::alloc::{AllocError, Global};
@@ -30,6 +32,7 @@ pub(crate) struct RowTexts {
     replaced_name: String,
     replaced_values: String,
     replaced_unit: String,
+    time: TimeTexts,
 }
 
 impl RowTexts {
@@ -41,8 +44,18 @@ impl RowTexts {
             replaced_name: String::new(alloc),
             replaced_values: String::new(alloc),
             replaced_unit: String::new(alloc),
+            time: TimeTexts::new(alloc),
         }
     }
+}
+
+/// What is measured of a row.
+#[derive(Clone, Copy, Drop)]
+pub(crate) struct Measured {
+    /// Its throughput, if there is one.
+    pub(crate) throughput: Option<Throughput>,
+    /// Its time, if times are shown.
+    pub(crate) time: Option<TaskTime>,
 }
 
 /// The progress of a row, and what it is drawn with.
@@ -53,12 +66,13 @@ pub(crate) struct DrawnProgress<'a> {
     midpoint: u16,
     value: &'a Value,
     throughput: Option<Throughput>,
+    time: Option<TaskTime>,
 }
 
 /// Writes the line of a row, on a row of the terminal that is erased first if frames do that. Its
-/// values are padded so that they end at this midpoint, with a throughput if there is one. Returns
-/// the row's own midpoint: the column at which its values end without padding, 0 if it has no
-/// progress. Fails if out of memory.
+/// values are padded so that they end at this midpoint, with a throughput if there is one, and its
+/// time follows if there is one. Returns the row's own midpoint: the column at which its values end
+/// without padding, 0 if it has no progress. Fails if out of memory.
 pub(crate) fn push_row(
     alloc: Global,
     out: &mut LineWriter,
@@ -66,11 +80,12 @@ pub(crate) fn push_row(
     options: &Options,
     midpoint: u16,
     row: &Row,
-    throughput: Option<Throughput>,
+    measured: Measured,
 ) -> Result<u16, Refusal>
     ensures line { OnOk result
-        (DrawsRow options.now midpoint row.now throughput out.old out.new) }
-    ensures midpoint { IfOk result (λ n. n ≡ own_midpoint options.now row.now throughput) }
+        (DrawsRow options.now midpoint row.now measured out.old out.new) }
+    ensures midpoint { IfOk result
+        (λ n. n ≡ own_midpoint options.now row.now measured.throughput) }
     ensures reason { IsOkUnless result Refusal.Memory }
 {
     out.begin_row(options.layout(), options.width_limit(), row.key.level())?;
@@ -82,14 +97,15 @@ pub(crate) fn push_row(
         options,
         midpoint,
         value,
-        throughput,
+        throughput: measured.throughput,
+        time: measured.time,
     };
     let own = push_progress(alloc, out, texts, &drawn)?;
     Ok(own)
 }
 
-/// Appends a space and the values of a progress, as `push_values` does, and its bar. Returns the
-/// column at which the values end without padding.
+/// Appends a space and the values of a progress, as `push_values` does, its time and its bar.
+/// Returns the column at which the values end without padding.
 #[inline(always)]
 fn push_progress(
     alloc: Global,
@@ -101,21 +117,22 @@ fn push_progress(
     ensures reason { IsOkUnless result Refusal.Memory }
 {
     let (width, _) = drawn.options.terminal_dimensions;
-    if !drawn.options.colored {
+    if !drawn.options.colored && drawn.time.is_none() {
         let plain = push_plain(alloc, out, &mut texts.values, drawn)?;
         if let Some(own) = plain {
             return Ok(own);
         }
     }
     let own = push_values(alloc, out, texts, drawn)?;
+    push_time(out, &mut texts.time, drawn.options, drawn.time)?;
     let left = width.saturating_sub(out.width());
     let columns = bar_columns(drawn.options.bar_columns, left);
     push_bar(out, drawn.options.colored, columns, drawn.value)?;
     Ok(own)
 }
 
-/// Does what `push_progress` does without styles, at once, if the progress has a bound, its texts
-/// are printable ASCII characters, and the line has room for all of it. Otherwise it appends
+/// Does what `push_progress` does without styles and a time, at once, if the progress has a bound,
+/// its texts are printable ASCII characters, and the line has room for all of it. Otherwise it appends
 /// nothing and returns `None`. `text` is memory for the values and the unit.
 fn push_plain(
     alloc: Global,
@@ -123,7 +140,8 @@ fn push_plain(
     text: &mut String,
     drawn: &DrawnProgress<'_>,
 ) -> Result<Option<u16>, Refusal>
-    requires { drawn.now.options.now.colored ≡ false }
+    requires colored { drawn.now.options.now.colored ≡ false }
+    requires time { drawn.now.time ≡ None }
     ensures drawn { IfOk result (OrNothing out.old out.new (DrawsProgress drawn.now)) }
     ensures reason { IsOkUnless result Refusal.Memory }
 {

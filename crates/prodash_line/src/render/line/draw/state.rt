@@ -1,7 +1,9 @@
 //! What the renderer keeps from frame to frame.
 ghost use Rattle.std.specs.Prelude.{◌≡◌, [], false, Some, IfSome, IfOk, IsOkUnless};
 ghost use Rattle.prodash_base.specs.Rows.{rows_of};
-ghost use Rattle.prodash_line.specs.Renderer.{IsEndRefusal, new_renderer, rows_changed, draws_again, is_drawn, erases_at_end, closes_at, hides_cursor, is_cursor_hidden, latest_rows, resized, tick_action, resize_action, answer_of};
+ghost use Rattle.prodash_base.specs.Timers.{timer_after};
+ghost use Rattle.std.specs.Option.{option_map};
+ghost use Rattle.prodash_line.specs.Renderer.{IsEndRefusal, new_renderer, rows_changed, draws_again, any_goes_on, times_go_on, is_drawn, erases_at_end, closes_at, hides_cursor, is_cursor_hidden, latest_rows, resized, tick_action, resize_action, answer_of};
 ghost use Rattle.prodash_line.specs.plumbing.FrameWriting.{keeping, remembering};
 ghost use Rattle.prodash_line.specs.Tracking.{kept_of};
 ghost use Rattle.prodash_base.specs.Rings.{keep_last};
@@ -9,10 +11,13 @@ ghost use Rattle.prodash_base.specs.Rings.{keep_last};
 use crate::render::line::draw::action::{Action, Composed, Drawn};
 use crate::render::line::draw::input::{Answer, Options};
 use crate::render::line::draw::line_writer::LineWriter;
+use crate::render::line::draw::row::is_row_drawn;
 use prodash_base::Refusal;
 use prodash_base::messages::{MessageCopyState, Messages};
-use prodash_base::progress::{Row, Rows};
+use prodash_base::progress::{Level, Row, Rows};
 use prodash_base::throughput::FrameThroughput;
+use prodash_base::time::Moment;
+use prodash_base::timing::{Timer, goes_on};
 use std::alloc::Global;
 use std::marker::Model;
 
@@ -53,6 +58,8 @@ pub(crate) struct Past {
     pub(crate) origin_widths: Vec<u16>,
     /// What the latest accepted tick with a root saw of the messages.
     seen: Option<MessageCopyState>,
+    /// The timer of tasks after the latest accepted tick with a root, if times are shown.
+    pub(crate) timer: Option<Timer>,
     /// Whether a frame has erased the rows of tasks since they were last drawn.
     rows_erased: bool,
     /// Whether a frame has hidden the cursor.
@@ -104,6 +111,7 @@ impl Model for Past {
       origin_widths = p.origin_widths.items;
       seen = p.seen;
       tracker = None;
+      timer = p.timer;
       rows_erased = p.rows_erased;
       cursor_hidden = p.cursor_hidden;
       ended = option_map refusal_of p.ending;
@@ -211,6 +219,11 @@ impl Past {
             spare_messages: None,
             origin_widths: Vec::new(alloc),
             seen: None,
+            timer: if options.times {
+                Some(Timer::new(alloc))
+            } else {
+                None
+            },
             rows_erased: false,
             cursor_hidden: false,
             ending: None,
@@ -231,6 +244,7 @@ impl Past {
             spare_messages: None,
             origin_widths: self.origin_widths.clone()?,
             seen: self.seen,
+            timer: copied_timer(&self.timer)?,
             rows_erased: self.rows_erased,
             cursor_hidden: self.cursor_hidden,
             ending: self.ending,
@@ -264,13 +278,20 @@ impl Past {
         self.options.erases_rows() && (printed || self.rows_erased)
     }
 
-    /// Whether a tick draws these rows: they are shown on a terminal, and they have changed or must
-    /// be drawn again. `printed` says whether the tick prints messages.
+    /// Whether times go on: they are shown, and that of a row goes on that is drawn.
+    fn times_go_on(&self, rows: &Rows) -> bool
+        ensures { result ≡ times_go_on self.now.options rows.now }
+    {
+        self.options.times && any_goes_on(self.options.level_filter, rows.as_slice())
+    }
+
+    /// Whether a tick draws these rows: they are shown on a terminal, and they have changed, their
+    /// times go on, or they must be drawn again. `printed` says whether the tick prints messages.
     fn draws_rows(&self, show: bool, printed: bool, rows: &Rows) -> bool
         ensures { result ≡ is_drawn self.now show printed rows.now }
     {
         show && self.options.output_is_terminal
-            && (self.draws_again(printed) || self.rows_changed(rows))
+            && (self.draws_again(printed) || self.times_go_on(rows) || self.rows_changed(rows))
     }
 
     /// Whether a tick that sees these rows closes the renderer: there are none, and the renderer
@@ -344,6 +365,23 @@ impl Past {
         self.options.output_is_terminal && !self.options.defensive
     }
 
+    /// Returns the timer after a tick that has seen these rows, if times are shown.
+    pub(crate) fn timer_after(
+        &self,
+        alloc: Global,
+        at: Moment,
+        rows: &[Row],
+    ) -> Result<Option<Timer>, Refusal>
+        ensures ok { IfOk result (λ timer. timer
+            ≡ option_map (λ t. timer_after t at (rows_of rows.now)) self.now.timer) }
+        ensures reason { IsOkUnless result Refusal.Memory }
+    {
+        match &self.timer {
+            None => Ok(None),
+            Some(timer) => Ok(Some(timer.after(alloc, at, rows)?)),
+        }
+    }
+
     /// Returns the rows at the latest accepted tick with a root.
     pub(crate) fn latest_rows(&self) -> &[Row]
         ensures { rows_of result.now ≡ latest_rows self.now.last_rows }
@@ -380,6 +418,7 @@ impl Past {
         self.spare_messages = Some(messages);
         self.origin_widths = frame.origin_widths;
         self.seen = Some(seen);
+        self.timer = frame.timer;
         match action {
             Action::Close => {
                 self.ending = Some(Ending::Closed);
@@ -421,6 +460,29 @@ impl Past {
     {
         self.ending = Some(Ending::Broken);
     }
+}
+
+/// Returns an equal timer, if there is one.
+fn copied_timer(timer: &Option<Timer>) -> Result<Option<Timer>, Refusal>
+    ensures ok { IfOk result (λ copy. copy ≡ timer.now) }
+    ensures reason { IsOkUnless result Refusal.Memory }
+{
+    match timer {
+        None => Ok(None),
+        Some(timer) => Ok(Some(timer.copy()?)),
+    }
+}
+
+/// Returns whether the time of a row goes on that the filter of levels lets through.
+fn any_goes_on(levels: Option<(Level, Level)>, rows: &[Row]) -> bool
+    ensures { result ≡ any_goes_on levels (rows_of rows.now) }
+{
+    for row in rows {
+        if is_row_drawn(levels, row) && goes_on(row) {
+            return true;
+        }
+    }
+    false
 }
 
 /// Removes all widths but the last `count`.

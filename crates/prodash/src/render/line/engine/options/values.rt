@@ -30,8 +30,10 @@ impl Options {
             defensive: self.defensive,
             synchronized: self.synchronized,
             whole_messages: self.whole_messages,
+            bare_without_origin: self.bare_without_origin,
             bar_columns: self.bar_columns,
             ascii: self.ascii,
+            times: self.times,
         }
     }
 }
@@ -40,8 +42,8 @@ impl Default for Options {
     /// Returns the default options of frames ([`draw::Options::default`]), with six frames a
     /// second, no initial delay and no throughput: a coloured terminal of 80 columns and 20 rows,
     /// all levels, no timestamps, a visible cursor, frames that are neither defensive nor
-    /// synchronized, messages that are cut, bars on all columns that are left, and a renderer that
-    /// keeps running without rows.
+    /// synchronized, messages that are cut, and aligned without an origin too, bars on all columns
+    /// that are left, rows without times, and a renderer that keeps running without rows.
     fn default() -> Options
         ensures { result ≡ default_options }
     {
@@ -56,8 +58,10 @@ impl Default for Options {
             defensive,
             synchronized,
             whole_messages,
+            bare_without_origin,
             bar_columns,
             ascii,
+            times,
         } = draw::Options::default();
         Options {
             output_is_terminal,
@@ -68,8 +72,10 @@ impl Default for Options {
             defensive,
             synchronized,
             whole_messages,
+            bare_without_origin,
             bar_columns,
             ascii,
+            times,
             throughput: false,
             level_filter,
             initial_delay: None,

@@ -29,11 +29,12 @@ sized_is : (c : goal.In_ok-end_frame) → sized c ≡ (remember c.args.past.now 
 sized_is c = ap (λ (x : Renderer). record x.options { terminal_dimensions = c.args.size }) c.past.view_is
 
 abbrev drawing : goal.In_ok-end_frame → Drawing
-drawing c = drawing_of (record (whole c) { options = sized c }) c.args.at (rows_of c.latest_rows.result.now)
+drawing c = drawing_of (record (whole c) { options = sized c; timer = c.past.inside.timer }) c.args.at (rows_of c.latest_rows.result.now)
 
 drawing_is : (c : goal.In_ok-end_frame) → drawing c ≡ drawing_at (whole c) (input c)
 drawing_is c =
-    ap (λ (o : Options). drawing_of (record (whole c) { options = o }) c.args.at (rows_of c.latest_rows.result.now)) (sized_is c)
+    ap (λ (o : Options). drawing_of (record (whole c) { options = o; timer = c.past.inside.timer }) c.args.at (rows_of c.latest_rows.result.now)) (sized_is c)
+    ∙ ap (λ (x : Renderer). drawing_of (record (remember (whole c) (input c)) { timer = x.timer }) c.args.at (rows_of c.latest_rows.result.now)) c.past.view_is
     ∙ ap (λ rows. drawing_of (remember (whole c) (input c)) c.args.at rows) c.latest_rows.ensures
 
 left_is : (c : goal.In_ok-end_frame) → c.deref.result.now ≡ c.args.past.now.widths

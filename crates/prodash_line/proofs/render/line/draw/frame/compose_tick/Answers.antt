@@ -1,5 +1,7 @@
 use Rattle.std.proofs.Common.{rules, ◌≡◌, ℕ, ◌++◌, nat_eq, Bool, List, length, drop, ap, sym, ◌∙◌, Some}
 use Rattle.std.specs.Prelude.{not}
+use Rattle.std.specs.Option.{option_map}
+use Rattle.prodash_base.specs.Timers.{timer_after}
 use Rattle.prodash_base.specs.declared.messages.Message.{Message}
 use Rattle.prodash_line.specs.declared.render.line.draw.layout.Layout.{Layout}
 use Rattle.prodash_line.specs.DrawnLines.{layout_of}
@@ -12,7 +14,7 @@ use Rattle.prodash_line.specs.plumbing.OverwriteBytes.{lines_bytes}
 use Rattle.prodash_line.specs.plumbing.FrameWriting.{action_start, action_end, state_by}
 use Rattle.prodash_line.specs.Tracking.{tracked}
 use Rattle.prodash_line.specs.MessageLines.{message_lines}
-use Rattle.prodash_line.specs.Renderer.{Renderer, Drawing, frame_at, drawing_of, drawing_at, tick_action, action_at, printed_at, body_of, opening_of, ending_of, state_after}
+use Rattle.prodash_line.specs.Renderer.{Renderer, Drawing, remember, frame_at, drawing_of, drawing_at, tick_action, action_at, printed_at, body_of, opening_of, ending_of, state_after}
 use Rattle.prodash_line.proofs.OverwriteBytes.{action_starts, action_ends, begun_with, has_by_length, frame_bytes_of, length-message_lines}
 use Rattle.prodash_line.proofs.render.line.draw.frame.compose_tick.Goals as goal
 
@@ -30,12 +32,17 @@ abbrev whole : goal.In_ok-end_frame → Renderer
 whole c = tracked c.args.past.now c.args.tracker.now
 
 abbrev drawing : goal.In_ok-end_frame → Drawing
-drawing c = drawing_of (record (whole c) { options = c.past.inside.options }) c.args.at (rows_of c.as_slice.result.now)
+drawing c = drawing_of (record (whole c) { options = c.past.inside.options; timer = c.in_ok-timer.timer }) c.args.at (rows_of c.as_slice-rows.result.now)
+
+-- the timer has seen the rows of the tick
+timer_is : (c : goal.In_ok-end_frame) → c.in_ok-timer.timer ≡ (remember (whole c) (input c)).timer
+timer_is c = c.in_ok-timer.ensures.ok ∙ ap (λ rows. option_map (λ t. timer_after t c.args.at rows) c.args.past.now.timer) c.as_slice-rows.ensures
 
 drawing_is : (c : goal.In_ok-end_frame) → drawing c ≡ drawing_at (whole c) (input c)
 drawing_is c =
-    ap (λ (x : Renderer). drawing_of (record (whole c) { options = x.options }) c.args.at (rows_of c.as_slice.result.now)) c.past.view_is
-    ∙ ap (λ rows. drawing_of (whole c) c.args.at rows) c.as_slice.ensures
+    ap (λ (x : Renderer). drawing_of (record (whole c) { options = x.options; timer = c.in_ok-timer.timer }) c.args.at (rows_of c.as_slice-rows.result.now)) c.past.view_is
+    ∙ ap (λ timer. drawing_of (record (whole c) { timer = timer }) c.args.at (rows_of c.as_slice-rows.result.now)) (timer_is c)
+    ∙ ap (λ rows. drawing_of (remember (whole c) (input c)) c.args.at rows) c.as_slice-rows.ensures
 
 action_is : (c : goal.In_ok-end_frame) → c.tick_action-action.result ≡ action_at c.args.past.now (input c)
 action_is c =
@@ -108,7 +115,7 @@ returns-clause-state c =
     let r = whole c in
     record {
       drawn = record {
-        state = ap (λ rows. state_by c.in_ok-drawn.drawn c.write_body.new.tracker rows) (sym c.as_slice.ensures)
+        state = ap (λ rows. state_by c.in_ok-drawn.drawn c.write_body.new.tracker rows) (sym c.as_slice-rows.ensures)
             ∙ c.in_ok-drawn.ensures.state.state
             ∙ ap (λ action. state_after action r (drawing c) c.widths_below-left.result.now) (action_is c)
             ∙ ap (λ d. state_after (action_at r (input c)) r d c.widths_below-left.result.now) (drawing_is c)
@@ -116,4 +123,5 @@ returns-clause-state c =
         action = c.in_ok-drawn.ensures.state.action ∙ action_is c;
       };
       origin_widths = search rules;
+      timer = timer_is c;
     }

@@ -14,7 +14,7 @@ use Rattle.prodash_line.specs.Renderer.{Renderer, drawn_rows, fitting_rows}
 use Rattle.prodash_line.specs.plumbing.Observing.{shown_by, observe_all, ahead_of, tracker_by}
 use Rattle.prodash_line.specs.Tracking.{kept_of}
 use Rattle.prodash_line.specs.plumbing.OverwriteBytes.{lines_bytes}
-use Rattle.prodash_line.specs.plumbing.FrameWriting.{renderer_in, drawing_in, fitting_lines, FinishesRedraw}
+use Rattle.prodash_line.specs.plumbing.FrameWriting.{times_in, renderer_in, drawing_in, fitting_lines, FinishesRedraw}
 use Rattle.prodash_line.proofs.Observing.{shown_at, observed_at}
 use Rattle.prodash_line.proofs.render.line.draw.frame.redraw_rows.Goals as goal
 
@@ -36,16 +36,16 @@ shown : (c : goal.In_ok-finish_redraw)
 shown c = ap (λ t. shown_by t (filtered_rows c)) c.begin_observing.ensures.ahead ∙ shown_at (before c) c.args.scene.now.at (filtered_rows c)
 
 lines : (c : goal.In_ok-finish_redraw)
-    → fitting_lines c.args.scene.now.options c.args.scene.now.past.now.midpoint (begun c) c.args.scene.now.rows.now ≡ (drawing_in c.args.scene.now (before c)).lines
+    → fitting_lines c.args.scene.now.options c.args.scene.now.past.now.midpoint (times_in c.args.scene.now) (begun c) c.args.scene.now.rows.now ≡ (drawing_in c.args.scene.now (before c)).lines
 lines c =
     let options = c.args.scene.now.options in
     let layout = layout_of options in
-    ap (λ (rows : List DrawnRow). row_lines options c.args.scene.now.past.now.midpoint (fitting layout rows) ++ more_lines options (length rows - length (fitting layout rows))) (shown c)
+    ap (λ (rows : List DrawnRow). row_lines options c.args.scene.now.past.now.midpoint (times_in c.args.scene.now) (fitting layout rows) ++ more_lines options (length rows - length (fitting layout rows))) (shown c)
 
 widths_are : (c : goal.In_ok-finish_redraw) → c.write_fitting.new.drawn.widths.items ≡ widths_of (drawing_in c.args.scene.now (before c)).lines
 widths_are c =
     c.in_ok-write_fitting.ensures.drawn.widths
-    ∙ ap (λ (old : List ℕ). old ++ widths_of (fitting_lines c.args.scene.now.options c.args.scene.now.past.now.midpoint (begun c) c.args.scene.now.rows.now)) c.in_ok-with_capacity.ensures.items
+    ∙ ap (λ (old : List ℕ). old ++ widths_of (fitting_lines c.args.scene.now.options c.args.scene.now.past.now.midpoint (times_in c.args.scene.now) (begun c) c.args.scene.now.rows.now)) c.in_ok-with_capacity.ensures.items
     ∙ ap widths_of (lines c)
 
 pub returns-clause-bytes : goal.returns-clause-bytes

@@ -9,7 +9,7 @@ use Rattle.prodash_line.specs.Frames.{covered, widths_of}
 use Rattle.prodash_line.specs.ProgressRows.{DrawnRow, filtered, row_lines, more_lines, greatest_midpoint}
 use Rattle.prodash_line.specs.plumbing.OverwriteBytes.{lines_bytes}
 use Rattle.prodash_line.specs.plumbing.Observing.{observe_all, ahead_of}
-use Rattle.prodash_line.specs.plumbing.FrameWriting.{SplitsFitting, more_of, shown_rows, shown_lines, fitting_shown, fitting_lines}
+use Rattle.prodash_line.specs.plumbing.FrameWriting.{times_in, SplitsFitting, more_of, shown_rows, shown_lines, fitting_shown, fitting_lines}
 use Rattle.prodash_line.proofs.FittingRows.{fits_first, others_are, observes_both, both_written}
 use Rattle.prodash_line.proofs.render.line.draw.frame.write_fitting.Goals as goal
 
@@ -21,21 +21,21 @@ splits c = subst (λ (l : Layout). SplitsFitting l c.args.scene.now.options.leve
 fit : (c : goal.In_ok-write_more) → fitting_shown c.args.scene.now.options (ahead_of c.args.tracker.now) c.args.scene.now.rows.now ≡ shown_rows c.args.scene.now.options (ahead_of c.args.tracker.now) c.split_fitting.result.0.now
 fit c = fits_first (layout_of c.args.scene.now.options) c.args.scene.now.options.level_filter (ahead_of c.args.tracker.now) c.args.scene.now.rows.now c.split_fitting.result.0.now c.split_fitting.result.1.now (splits c)
 
-lines : (c : goal.In_ok-write_more) → fitting_lines c.args.scene.now.options c.args.scene.now.past.now.midpoint (ahead_of c.args.tracker.now) c.args.scene.now.rows.now
-    ≡ shown_lines c.args.scene.now.options c.args.scene.now.past.now.midpoint (ahead_of c.args.tracker.now) c.split_fitting.result.0.now ++ more_of c.args.scene.now.options c.split_fitting.result.1.now
+lines : (c : goal.In_ok-write_more) → fitting_lines c.args.scene.now.options c.args.scene.now.past.now.midpoint (times_in c.args.scene.now) (ahead_of c.args.tracker.now) c.args.scene.now.rows.now
+    ≡ shown_lines c.args.scene.now.options c.args.scene.now.past.now.midpoint (times_in c.args.scene.now) (ahead_of c.args.tracker.now) c.split_fitting.result.0.now ++ more_of c.args.scene.now.options c.split_fitting.result.1.now
 lines c =
     let options = c.args.scene.now.options in
     let all = shown_rows options (ahead_of c.args.tracker.now) c.args.scene.now.rows.now in
     let own = fitting_shown options (ahead_of c.args.tracker.now) c.args.scene.now.rows.now in
-    ap (λ (rs : List DrawnRow). row_lines options c.args.scene.now.past.now.midpoint rs ++ more_lines options (length all - length own)) (fit c)
-    ∙ ap (λ (n : ℕ). shown_lines options c.args.scene.now.past.now.midpoint (ahead_of c.args.tracker.now) c.split_fitting.result.0.now ++ more_lines options n)
+    ap (λ (rs : List DrawnRow). row_lines options c.args.scene.now.past.now.midpoint (times_in c.args.scene.now) rs ++ more_lines options (length all - length own)) (fit c)
+    ∙ ap (λ (n : ℕ). shown_lines options c.args.scene.now.past.now.midpoint (times_in c.args.scene.now) (ahead_of c.args.tracker.now) c.split_fitting.result.0.now ++ more_lines options n)
     (others_are (layout_of options) options.level_filter (ahead_of c.args.tracker.now) c.args.scene.now.rows.now c.split_fitting.result.0.now c.split_fitting.result.1.now (splits c))
 
 pub returns-clause-bytes : goal.returns-clause-bytes
 returns-clause-bytes c =
     let options = c.args.scene.now.options in
     let layout = layout_of options in
-    let shown = shown_lines options c.args.scene.now.past.now.midpoint (ahead_of c.args.tracker.now) c.split_fitting.result.0.now in
+    let shown = shown_lines options c.args.scene.now.past.now.midpoint (times_in c.args.scene.now) (ahead_of c.args.tracker.now) c.split_fitting.result.0.now in
     let before = c.args.out.now.bytes in
     both_written layout options options.level_filter c.args.widths.now c.args.scene.now.rows.now c.split_fitting.result.0.now c.split_fitting.result.1.now shown before _ _ (splits c)
     (c.in_ok-write_rows.ensures.bytes ∙ ap (λ (ws : List ℕ). before ++ lines_bytes layout ws shown)
@@ -47,7 +47,7 @@ pub returns-clause-drawn : goal.returns-clause-drawn
 returns-clause-drawn c =
     let options = c.args.scene.now.options in
     let old = c.args.drawn.now in
-    let shown = shown_lines options c.args.scene.now.past.now.midpoint (ahead_of c.args.tracker.now) c.split_fitting.result.0.now in
+    let shown = shown_lines options c.args.scene.now.past.now.midpoint (times_in c.args.scene.now) (ahead_of c.args.tracker.now) c.split_fitting.result.0.now in
     let more = more_of options c.split_fitting.result.1.now in
     record {
       widths = c.in_ok-write_more.ensures.drawn.widths

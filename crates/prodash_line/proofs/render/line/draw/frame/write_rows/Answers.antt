@@ -1,4 +1,4 @@
-use Rattle.std.proofs.Common.{rules, arith, ◌≡◌, ℕ, List, ◌+◌, ◌∷◌, ◌++◌, drop, ap, subst, sym, ◌∙◌, append_assoc}
+use Rattle.std.proofs.Common.{rules, arith, ◌≡◌, ℕ, List, Option, ◌+◌, ◌∷◌, ◌++◌, drop, ap, subst, sym, ◌∙◌, append_assoc}
 use Rattle.std.proofs.lemmas.Grind.{common_steps}
 use Rattle.prodash_base.specs.Rows.{row_of, rows_of}
 use Rattle.prodash_line.specs.DrawnLines.{as_drawn, layout_of}
@@ -9,6 +9,9 @@ use Rattle.prodash_line.specs.plumbing.OverwriteBytes.{overwrite_line_bytes, lin
 use Rattle.prodash_line.specs.plumbing.RowWriting.{DrawsRow}
 use Rattle.prodash_line.specs.ProgressRows.{filtered, row_line, row_lines}
 use Rattle.prodash_line.specs.Signs.{spelling}
+use Rattle.prodash_line.specs.declared.render.line.draw.row.Measured.{Measured}
+use Rattle.prodash_line.specs.plumbing.FrameWriting.{times_in}
+use Rattle.prodash_base.specs.declared.timing.task_time.TaskTime.{TaskTime}
 use Rattle.prodash_line.proofs.render.line.draw.frame.write_rows.Goals as goal
 
 pub loop-row-preserved : goal.loop-row-preserved
@@ -16,10 +19,12 @@ loop-row-preserved c =
     let o = c.args.scene.now.options in
     let out = c.loop-row.out.bytes in
     let start = spelling (row_start (layout_of o)) in
-    let line = as_drawn o (row_line o.defensive o.terminal_dimensions.0 o.bar_columns c.args.scene.now.past.now.midpoint (row_of c.row-item.result, c.in_ok-throughput.throughput)) in
-    let drawn = subst (λ (n : ℕ). DrawsRow o n c.row-item.result c.in_ok-throughput.throughput c.loop-row.out c.push_row.new.out) c.midpoint-midpoint.ensures c.in_ok-own_midpoint.ensures.line in
+    let line = as_drawn o (row_line o.defensive o.terminal_dimensions.0 o.bar_columns c.args.scene.now.past.now.midpoint (row_of c.row-item.result, c.in_ok-throughput.throughput) (times_in c.args.scene.now (row_of c.row-item.result))) in
+    let measured : Option TaskTime → Measured = λ time. record { throughput = c.in_ok-throughput.throughput; time = time } in
+    let timed = subst (λ (time : Option TaskTime). DrawsRow o c.midpoint-midpoint.result c.row-item.result (measured time) c.loop-row.out c.push_row.new.out) c.row_time-time.ensures c.in_ok-own_midpoint.ensures.line in
+    let drawn = subst (λ (n : ℕ). DrawsRow o n c.row-item.result (measured (times_in c.args.scene.now (row_of c.row-item.result))) c.loop-row.out c.push_row.new.out) c.midpoint-midpoint.ensures timed in
     let own = overwrite_line_bytes c.split_first_width-old_width.result.0 line in
-    let lines = row_lines o c.args.scene.now.past.now.midpoint (shown_by (ahead_of c.observe_row.new.tracker) (filtered o.level_filter (rows_of (drop (c.loop-row.row-index + 1) c.args.rows.now)))) in
+    let lines = row_lines o c.args.scene.now.past.now.midpoint (times_in c.args.scene.now) (shown_by (ahead_of c.observe_row.new.tracker) (filtered o.level_filter (rows_of (drop (c.loop-row.row-index + 1) c.args.rows.now)))) in
     let rest = lines_bytes (layout_of o) c.split_first_width-old_width.result.1.now lines in
     let written : c.end_line_over.new.self.bytes ≡ (out ++ start) ++ own = (c.in_ok-end_line_over.ensures.bytes _ _ _ drawn).bytes in
     let joined : c.end_line_over.new.self.bytes ++ rest ≡ out ++ lines_bytes (layout_of o) c.loop-row.left.now (line ∷ lines) =
@@ -32,9 +37,9 @@ loop-row-preserved c =
     let widths = c.loop-row.drawn.widths.items in
     let wide : c.in_ok-end_line_over.field-0 ≡ columns_of line = c.in_ok-end_line_over.ensures.width _ _ _ drawn in
     record {
-      bytes = joined ∙ ap (λ ls. out ++ lines_bytes (layout_of o) c.loop-row.left.now ls) (sym (ap (row_lines o c.args.scene.now.past.now.midpoint) shown)) ∙ c.loop-row.invariant.bytes;
+      bytes = joined ∙ ap (λ ls. out ++ lines_bytes (layout_of o) c.loop-row.left.now ls) (sym (ap (row_lines o c.args.scene.now.past.now.midpoint (times_in c.args.scene.now)) shown)) ∙ c.loop-row.invariant.bytes;
       widths = ap (λ (ws : List ℕ). ws ++ widths_of lines) c.in_ok-push.ensures.items ∙ append_assoc widths _ (widths_of lines) ∙ ap (λ (n : ℕ). widths ++ n ∷ widths_of lines) wide
-          ∙ ap (λ (ls : List Line). widths ++ widths_of ls) (sym (ap (row_lines o c.args.scene.now.past.now.midpoint) shown)) ∙ c.loop-row.invariant.widths;
+          ∙ ap (λ (ls : List Line). widths ++ widths_of ls) (sym (ap (row_lines o c.args.scene.now.past.now.midpoint (times_in c.args.scene.now)) shown)) ∙ c.loop-row.invariant.widths;
       midpoint = search (rules, shown);
       ahead = search (rules, rows);
       kept = search rules;

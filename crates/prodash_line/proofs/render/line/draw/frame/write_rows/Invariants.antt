@@ -6,6 +6,7 @@ use Rattle.prodash_line.specs.plumbing.Observing.{shown_by, observe_all, ahead_o
 use Rattle.prodash_line.specs.Tracking.{kept_of}
 use Rattle.prodash_line.specs.plumbing.OverwriteBytes.{lines_bytes}
 use Rattle.prodash_line.specs.DrawnLines.{layout_of}
+use Rattle.prodash_line.specs.plumbing.FrameWriting.{times_in}
 use Rattle.prodash_line.proofs.render.line.draw.frame.write_rows.Given as goal
 
 abbrev pub invariant-loop-row : goal.invariant-loop-row
@@ -15,10 +16,10 @@ invariant-loop-row l =
     let shown_left = shown_by (ahead_of l.tracker) left in
     let shown_all = shown_by (ahead_of l.fn.tracker) all in
     record {
-      bytes : l.out.bytes ++ lines_bytes (layout_of l.scene.options) l.left (row_lines l.scene.options l.scene.past.now.midpoint shown_left)
-          ≡ l.fn.out.bytes ++ lines_bytes (layout_of l.scene.options) l.widths (row_lines l.scene.options l.scene.past.now.midpoint shown_all);
-      widths : l.drawn.widths.items ++ widths_of (row_lines l.scene.options l.scene.past.now.midpoint shown_left)
-          ≡ l.fn.drawn.widths.items ++ widths_of (row_lines l.scene.options l.scene.past.now.midpoint shown_all);
+      bytes : l.out.bytes ++ lines_bytes (layout_of l.scene.options) l.left (row_lines l.scene.options l.scene.past.now.midpoint (times_in l.scene) shown_left)
+          ≡ l.fn.out.bytes ++ lines_bytes (layout_of l.scene.options) l.widths (row_lines l.scene.options l.scene.past.now.midpoint (times_in l.scene) shown_all);
+      widths : l.drawn.widths.items ++ widths_of (row_lines l.scene.options l.scene.past.now.midpoint (times_in l.scene) shown_left)
+          ≡ l.fn.drawn.widths.items ++ widths_of (row_lines l.scene.options l.scene.past.now.midpoint (times_in l.scene) shown_all);
       midpoint : max l.drawn.midpoint (greatest_midpoint l.scene.options.defensive shown_left) ≡ max l.fn.drawn.midpoint (greatest_midpoint l.scene.options.defensive shown_all);
       ahead : observe_all (ahead_of l.tracker) left ≡ observe_all (ahead_of l.fn.tracker) all;
       kept : kept_of l.tracker ≡ kept_of l.fn.tracker;

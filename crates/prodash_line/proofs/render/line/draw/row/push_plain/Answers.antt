@@ -9,7 +9,7 @@ returns-in_ok-plain-in-None-clause-drawn c =
     let drawn = c.args.drawn.now in
     let new = c.push_plain_fraction.new.out in
     drawn_as c.in_ok-plain-in-None.plain old new (DrawsFraction drawn) (DrawsProgress drawn)
-    (λ own h. draws_by drawn.options.now drawn.midpoint drawn.value.now None drawn.throughput own old new c.requires c.in-None.is h) c.in_ok-plain-in-None.ensures
+    (λ own h. draws_by drawn.options.now drawn.midpoint drawn.value.now None drawn.throughput drawn.time own old new c.requires.colored c.requires.time c.in-None.is h) c.in_ok-plain-in-None.ensures
 
 pub returns-in_ok-plain-in-Some-unit-clause-drawn : goal.returns-in_ok-plain-in-Some-unit-clause-drawn
 returns-in_ok-plain-in-Some-unit-clause-drawn c =
@@ -18,4 +18,4 @@ returns-in_ok-plain-in-Some-unit-clause-drawn c =
     let unit = c.in-Some-unit.unit in
     let new = c.push_plain_unit.new.out in
     drawn_as c.in_ok-plain-in-Some-unit.plain old new (DrawsInUnit drawn unit) (DrawsProgress drawn)
-    (λ own h. draws_by drawn.options.now drawn.midpoint drawn.value.now (Some unit) drawn.throughput own old new c.requires c.in-Some-unit.is (h drawn.options.now.defensive)) c.in_ok-plain-in-Some-unit.ensures.drawn
+    (λ own h. draws_by drawn.options.now drawn.midpoint drawn.value.now (Some unit) drawn.throughput drawn.time own old new c.requires.colored c.requires.time c.in-Some-unit.is (h drawn.options.now.defensive)) c.in_ok-plain-in-Some-unit.ensures.drawn
