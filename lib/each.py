@@ -410,4 +410,5 @@ def main(program, words):
     python = [sys.executable, "-I", "-S", "-B", "-c", JOB, folder]
     python += ["hosts", ",".join(given.hosts)] if given.hosts else ["each"]
     words = [*python, given.end, given.most, given.name, *given.command]
-    return run.main(found, [*given.options, "--", *words])
+    # a log would have two lines for each command
+    return run.main(found, ["--plain=0", "--no-summary", *given.options, "--", *words])

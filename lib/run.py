@@ -30,13 +30,17 @@ Options:
       --pty      the command has a whole terminal of its own, also for keys
       --no-pty   the output of the command is a pipe, not a terminal
   -h, --help     print help
-  and those of prodash-live: prodash live --help
+  and those of prodash-live: prodash live --help; off a terminal --plain=30 and --summary are the default
 """
 # How many seconds: until a signal was for this process alone; without anything of a job that has
 # ended, until what others still write is left.
 ALONE, QUIET = 0.05, 0.2
 # The options of prodash-live that take a value, which may be the next word.
-VALUED = "--columns --rows --bar-columns --fps --delay --terminal --record".split()
+VALUED = "--columns --rows --bar-columns --fps --delay --terminal --record --plain".split()
+# After how many seconds plain lines say what has changed, on no terminal.
+PLAIN = 30
+# The status of a display that found a task unfinished.
+UNFINISHED = 3
 # What the job's output is: a terminal, that of a session of its own, or a pipe.
 TERMINAL, SESSION, PIPE = KINDS = ("", "--pty", "--no-pty")
 
@@ -423,6 +427,8 @@ def report(run, status):
         relay.say(2, f"{feed}prodash run: {reason}")
         if not status:
             os._exit(1)
+    if not status and run.display.status == UNFINISHED << 8:
+        os._exit(UNFINISHED)
     job.end_as(status, run.ends_group)
 
 
@@ -431,7 +437,9 @@ def wrap(program, options, command):
     digit, stream = job.free_digit(), stream_to_draw_on(options)
     kinds = [it for it in options if it in KINDS and stream is not None]
     kind = kinds[-1] if kinds else TERMINAL
-    run = begin(run_of(kind), program, [it for it in options if it not in KINDS], stream)
+    plain = [f"--plain={PLAIN}", "--summary"] if stream is None and not os.isatty(2) else []
+    words = [*plain, *(it for it in options if it not in KINDS)]
+    run = begin(run_of(kind), program, words, stream)
     frames = run.display.awaits(STUCK)
     if frames is not None:
         start(run, command, streams_of(stream, kind), digit, kind)

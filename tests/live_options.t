@@ -36,12 +36,19 @@ The version, the help, and what is refused.
         --delay <MILLISECONDS>  time until rows are drawn, up to a day [default: 0]
         --no-color              no colours, as with $NO_COLOR
         --timestamps            messages with their time of day, in UTC
+        --no-times              rows without the times of their tasks
         --throughput            no effect: units that end in /s have their throughput
         --stdout                draw on standard output, not on standard error
         --strict                end at the first line that is faulty
         --replace-words         a word of one item may be given to another, which drops the first
         --terminal <WHEN>       whether the output is a terminal: auto, always or never
                                 [default: auto]; if not, messages alone are written
+        --plain <SECONDS>       off a terminal, a line when an item begins or ends, and after every
+                                so many seconds one for each that has changed, up to a day; 0 for
+                                none [default: 0]
+        --summary               at the end, how each item of the first two levels has come out
+        --no-summary            no such messages [default]
+        --fail-unfinished       status 3 if one of these hasn't finished, and a message that says so
         --record <FILE>         record the run, for prodash-replay
         --marks                 a NUL once the options are right, and one behind each frame
     -h, --help                  print help

@@ -15,7 +15,8 @@ prodash run: streams
   > say set @a 3
   > .
 
-Without a terminal the job has the streams as they are, and its messages go to standard error.
+Without a terminal the job has the streams as they are, and its messages go to standard error, with
+plain lines unless the option leaves them out.
 
   $ cat >streams <<'.'
   > echo out; echo err >&2
@@ -24,10 +25,13 @@ Without a terminal the job has the streams as they are, and its messages go to s
   > .
   $ prodash-run sh streams 2>errors
   out
-  $ cat errors
+  $ sed 's/after .*/after T/' errors
   err
+  [00:00] alpha started
    alpha one
-  $ prodash-run sh streams 2>&1 >output | sort
+  [00:00] alpha ended after T
+   \xe2\x9c\x97 alpha stopped after T (esc)
+  $ prodash-run --plain=0 --no-summary -- sh streams 2>&1 >output | sort
    alpha one
   err
   $ cat output
@@ -208,11 +212,11 @@ Streams that are closed stay so.
   > exec "$PYTHON" -I -S closed.py
   > .
   $ export PYTHON=$(python3 -c 'import sys; print(sys.executable)')
-  $ prodash-run sh closed <&-
+  $ prodash-run --plain=0 --no-summary -- sh closed <&-
    a 0 is closed
-  $ prodash-run sh closed >&-
+  $ prodash-run --plain=0 --no-summary -- sh closed >&-
    a 1 is closed
-  $ prodash-run sh closed <&- >&-
+  $ prodash-run --plain=0 --no-summary -- sh closed <&- >&-
    a 0 is closed
    a 1 is closed
   $ prodash-run --record recording -- sh closed <&- >&- 2>&-
@@ -234,13 +238,13 @@ The descriptor of the lines is the highest that is free from 3 to 8, and the job
 
 One inside another adds its lines to that. A descriptor that is not the wrapper's is left alone.
 
-  $ prodash-run sh -c 'prodash-run --pty -- sh -c "echo add 0 inner >&\$PRODASH_FD"
+  $ prodash-run --plain=0 --no-summary -- sh -c 'prodash-run --pty -- sh -c "echo add 0 inner >&\$PRODASH_FD"
   >   echo "info 1 - outer" >&$PRODASH_FD'
    inner outer
   $ prodash-run prodash-run nothing
   prodash run: nothing: No such file or directory
   [127]
-  $ PRODASH_FD=8 PRODASH_FD_ID=1:2 prodash-run sh streams 8>stale
+  $ PRODASH_FD=8 PRODASH_FD_ID=1:2 prodash-run --plain=0 --no-summary -- sh streams 8>stale
   out
   err
    alpha one

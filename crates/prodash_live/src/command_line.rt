@@ -50,12 +50,19 @@ Options:
       --delay <MILLISECONDS>  time until rows are drawn, up to a day [default: 0]
       --no-color              no colours, as with $NO_COLOR
       --timestamps            messages with their time of day, in UTC
+      --no-times              rows without the times of their tasks
       --throughput            no effect: units that end in /s have their throughput
       --stdout                draw on standard output, not on standard error
       --strict                end at the first line that is faulty
       --replace-words         a word of one item may be given to another, which drops the first
       --terminal <WHEN>       whether the output is a terminal: auto, always or never
                               [default: auto]; if not, messages alone are written
+      --plain <SECONDS>       off a terminal, a line when an item begins or ends, and after every
+                              so many seconds one for each that has changed, up to a day; 0 for
+                              none [default: 0]
+      --summary               at the end, how each item of the first two levels has come out
+      --no-summary            no such messages [default]
+      --fail-unfinished       status 3 if one of these ended below its maximum, and a message of it
       --record <FILE>         record the run, for prodash-replay
       --marks                 a NUL once the options are right, and one behind each frame
   -h, --help                  print help
@@ -111,10 +118,14 @@ fn set_flag(options: &mut Options<'_>, flag: &str) -> bool {
     match flag {
         "--no-color" => options.colors = ColorChoice::Never,
         "--timestamps" => options.has_timestamps = true,
+        "--no-times" => options.has_times = false,
         "--throughput" => {}
         "--stdout" => options.to_stdout = true,
         "--strict" => options.is_strict = true,
         "--replace-words" => options.replaces_words = true,
+        "--summary" => options.has_summary = true,
+        "--no-summary" => options.has_summary = false,
+        "--fail-unfinished" => options.fails_unfinished = true,
         "--marks" => options.has_marks = true,
         _ => return false,
     }
@@ -125,7 +136,14 @@ fn set_flag(options: &mut Options<'_>, flag: &str) -> bool {
 fn takes_value(option: &str) -> bool {
     matches!(
         option,
-        "--columns" | "--rows" | "--bar-columns" | "--fps" | "--delay" | "--terminal" | "--record"
+        "--columns"
+            | "--rows"
+            | "--bar-columns"
+            | "--fps"
+            | "--delay"
+            | "--terminal"
+            | "--plain"
+            | "--record"
     )
 }
 
@@ -143,6 +161,7 @@ fn set<'a>(
         "--fps" => options.frames = number(value, 1, 1000).ok_or(bad)?,
         "--delay" => options.delay = number(value, 0, 86_400_000).ok_or(bad)?,
         "--terminal" => options.terminal = terminal(value).ok_or(bad)?,
+        "--plain" => options.plain = positive(number(value, 0, 86_400).ok_or(bad)?),
         "--record" => options.record = Some(value),
         _ => return Err(bad),
     }
@@ -157,6 +176,11 @@ fn number(value: &str, least: u64, greatest: u64) -> Option<u64> {
     } else {
         None
     }
+}
+
+/// Returns a number unless it is 0.
+fn positive(number: u64) -> Option<u64> {
+    if number == 0 { None } else { Some(number) }
 }
 
 /// Parses whether the output is a terminal.
@@ -176,6 +200,7 @@ fn values_of(option: &str) -> &'static str {
         "--fps" => "a number from 1 to 1000",
         "--delay" => "a number from 0 to 86400000",
         "--terminal" => "auto, always or never",
+        "--plain" => "a number from 0 to 86400",
         "--record" => "the path of a file",
         _ => "a number from 1 to 65535",
     }

@@ -1,9 +1,15 @@
 //! The lines of an input, served as they arrive.
-use crate::display::Display;
 use crate::failure::Failure;
 use crate::items::Items;
 use crate::line_fault::{LineFault, Unserved, fault_text};
+use crate::options::Options;
+use crate::shown::Shown;
+use crate::summary::{End, Ended, Summary};
+use prodash::Text;
+use prodash::messages::MessageLevel;
+use prodash::progress::Row;
 use prodash::time::Clock;
+use prodash::tree::Handle;
 use prodash_script::{Change, Command, Labels, Lines, Next, parse_command};
 use std::alloc::Global;
 use std::io::{self, Read, Write};
@@ -16,36 +22,62 @@ use std::thread::Threads;
 pub enum Outcome {
     /// To its end. Holds the number of faulty lines.
     Ended(u64),
+    /// To its end, without a faulty line, and an item that had to hasn't finished.
+    Unfinished,
     /// Up to its first faulty line, of which this is said.
     Stopped(String),
 }
 
 /// What the lines of an input change: the items, and the display of them.
 #[derive(Drop)]
-pub struct Feed<'a, R: Wait + Threads + Clone + Drop, W: Write + Drop, K: Clock> {
+pub struct Feed<'a, R: Wait + Threads + Clone + Drop, O: Write + Drop, W: Write + Drop, K: Clock> {
     rt: &'a R,
     alloc: Global,
     clock: &'a K,
     items: Items<R, W>,
-    display: Display<R>,
+    display: Shown<R, O>,
+    /// How items have come out, if that is to be said or to be a failure.
+    summary: Option<Summary>,
+    /// Whether it is said.
+    has_summary: bool,
+    /// Whether an item that hasn't finished is a failure.
+    fails_unfinished: bool,
     labels: Labels,
 }
 
-impl<'a, R: Wait + Threads + Clone + Drop, W: Write + Drop, K: Clock> Feed<'a, R, W, K> {
+impl<'a, R: Wait + Threads + Clone + Drop, O: Write + Drop, W: Write + Drop, K: Clock> Feed<
+    'a,
+    R,
+    O,
+    W,
+    K,
+> {
     /// Returns a feed of these items, and of their display.
     pub fn new(
         rt: &'a R,
         alloc: Global,
         clock: &'a K,
-        items: Items<R, W>,
-        display: Display<R>,
-    ) -> Feed<'a, R, W, K> {
+        mut items: Items<R, W>,
+        display: Shown<R, O>,
+        options: &Options<'_>,
+    ) -> Feed<'a, R, O, W, K> {
+        let summary = if options.has_summary || options.fails_unfinished {
+            Some(Summary::new(alloc, clock.now()))
+        } else {
+            None
+        };
+        if display.is_plain() || summary.is_some() {
+            items.keep_dropped();
+        }
         Feed {
             rt,
             alloc,
             clock,
             items,
             display,
+            summary,
+            has_summary: options.has_summary,
+            fails_unfinished: options.fails_unfinished,
             labels: Labels::new(alloc),
         }
     }
@@ -92,6 +124,9 @@ impl<'a, R: Wait + Threads + Clone + Drop, W: Write + Drop, K: Clock> Feed<'a, R
     /// Reads the next line, and records a frame that was due before it. What is recorded is written
     /// before more input is awaited.
     fn advance<I: Read + Drop>(&mut self, lines: &mut Lines<I>) -> Result<Next, Failure> {
+        if !lines.has_line() {
+            self.display.write_messages(self.clock)?;
+        }
         let recording = self.items.recording();
         if recording.has_unwritten_lines() && !lines.has_line() {
             recording.write_lines();
@@ -107,10 +142,16 @@ impl<'a, R: Wait + Threads + Clone + Drop, W: Write + Drop, K: Clock> Feed<'a, R
     /// Changes the step of an item, if a line is UTF-8 and asks for that, as most do. Returns
     /// whether it did.
     fn change_step(&mut self, next: Next, text: Option<&str>) -> Result<bool, Failure> {
-        match text {
-            Some(text) if next == Next::Line => Ok(self.items.change_step(text)?),
-            _ => Ok(false),
+        let Some(text) = text else {
+            return Ok(false);
+        };
+        if next == Next::Line
+            && let Some(item) = self.items.change_step(text)?
+        {
+            self.note_change(item)?;
+            return Ok(true);
         }
+        Ok(false)
     }
 
     /// Does what a line asks for, with U+FFFD in place of what isn't UTF-8. `text` is the line if
@@ -166,55 +207,180 @@ impl<'a, R: Wait + Threads + Clone + Drop, W: Write + Drop, K: Clock> Feed<'a, R
                 self.display.resize(columns, rows);
                 Ok(self.items.recording().append_resize(now, columns, rows)?)
             }
-            Command::Add { word, parent, name } => self.items.add(alloc, word, parent, name),
-            Command::Drop(item) => self.items.drop_item(item),
-            Command::DropRoot => self.items.drop_root(),
+            Command::Add { word, parent, name } => {
+                self.items.add(alloc, word, parent, name)?;
+                self.note_drop()?;
+                let item = self.items.last();
+                Ok(self.note_item(item)?)
+            }
+            Command::Drop(item) => {
+                self.items.drop_item(item)?;
+                Ok(self.note_drop()?)
+            }
+            Command::DropRoot => {
+                self.display.write_messages(self.clock)?;
+                self.items.drop_root()
+            }
             Command::Print(text) => {
-                self.make_room();
+                self.make_room()?;
                 self.items.print(alloc, now, text)
             }
             Command::Change(item, change) => {
                 if let Change::Message { .. } = &change {
-                    self.make_room();
+                    self.make_room()?;
                 }
-                self.items.change(alloc, item, change)
+                self.items.change(alloc, item, change)?;
+                Ok(self.note_change(item)?)
             }
             Command::Fault(mistake) => Err(Unserved::Fault(LineFault::Mistake(mistake))),
         }
     }
 
     /// Waits until one more message can be kept. Without the root none is kept.
-    fn make_room(&mut self) {
+    fn make_room(&mut self) -> Result<(), Failure> {
         if self.items.has_root() {
-            self.display.make_room(self.rt, self.clock);
+            self.display.make_room(self.rt, self.clock)?;
         }
+        Ok(())
+    }
+
+    /// Returns whether items are told of: in plain lines, or in a summary.
+    fn tells(&self) -> bool {
+        self.display.is_plain() || self.summary.is_some()
+    }
+
+    /// Tells of an item that was added.
+    fn note_item(&mut self, item: Handle) -> Result<(), Failure> {
+        if self.tells() {
+            let row = self.items.row(self.alloc, item)?;
+            self.observe(row)?;
+        }
+        Ok(())
+    }
+
+    /// Tells of an item if it has finished.
+    #[inline(always)]
+    fn note_change(&mut self, item: Handle) -> Result<(), Failure> {
+        if self.tells() {
+            let row = self.items.finished_row(self.alloc, item)?;
+            self.observe(row)?;
+        }
+        Ok(())
+    }
+
+    /// Tells of the item that was dropped, if one was.
+    fn note_drop(&mut self) -> Result<(), Failure> {
+        match self.items.take_dropped() {
+            None => Ok(()),
+            Some(row) => self.end(&row, true),
+        }
+    }
+
+    /// Tells of an item that was added or has finished.
+    fn observe(&mut self, row: Option<Row>) -> Result<(), Failure> {
+        let Some(row) = row else {
+            return Ok(());
+        };
+        let now = self.clock.now();
+        self.display.observe(&row, now)?;
+        if let Some(summary) = &mut self.summary {
+            summary.observe(&row, now)?;
+        }
+        Ok(())
+    }
+
+    /// Tells of an item that was dropped, or is there at the end.
+    fn end(&mut self, row: &Row, is_dropped: bool) -> Result<(), Failure> {
+        let now = self.clock.now();
+        self.display.end(row, now)?;
+        if let Some(summary) = &mut self.summary {
+            summary.end(row, now, is_dropped)?;
+        }
+        Ok(())
+    }
+
+    /// Tells of the items that are there at the end, and says how items have come out. Returns
+    /// whether one that had to hasn't finished.
+    fn sum_up(&mut self) -> Result<bool, Failure> {
+        if !self.tells() {
+            return Ok(false);
+        }
+        let rows = self.items.rows()?;
+        for row in rows.iter() {
+            self.end(row, false)?;
+        }
+        let Some(summary) = self.summary.take() else {
+            return Ok(false);
+        };
+        if self.has_summary {
+            self.say(&summary)?;
+        }
+        let unfinished = summary.unfinished()?;
+        if !self.fails_unfinished || unfinished.is_empty() {
+            return Ok(false);
+        }
+        let text = format!(in self.alloc; "ended, unfinished: {unfinished}")?;
+        self.report_fault(text)?;
+        Ok(true)
+    }
+
+    /// Says how items have come out, each in a message.
+    fn say(&mut self, summary: &Summary) -> Result<(), Failure> {
+        for (_, ended) in summary.outcomes() {
+            self.say_outcome(ended)?;
+        }
+        if let Some(text) = summary.others()? {
+            self.send("", MessageLevel::Success, Text::new(text))?;
+        }
+        Ok(())
+    }
+
+    /// Says how an item has come out.
+    fn say_outcome(&mut self, ended: &Ended) -> Result<(), Failure> {
+        let level = match ended.end {
+            End::Finished => MessageLevel::Success,
+            End::Unfinished => MessageLevel::Failure,
+            End::Unknown => MessageLevel::Info,
+        };
+        let outcome = &ended.outcome;
+        self.send(outcome.label.as_str(), level, outcome.text.clone()?)
+    }
+
+    /// Sends a message that belongs to no item.
+    fn send(&mut self, origin: &str, level: MessageLevel, text: Text) -> Result<(), Failure> {
+        self.make_room()?;
+        let now = self.clock.now();
+        self.items.send(self.alloc, origin, now, level, text)?;
+        Ok(())
     }
 
     /// Sends a message that says the fault of a line.
     #[cold]
     #[inline(never)]
     fn report_fault(&mut self, text: String) -> Result<(), Failure> {
-        self.make_room();
+        self.make_room()?;
         self.items.send_failure(self.alloc, self.clock.now(), text)?;
         Ok(())
     }
 
-    /// Draws the last frames, ends the renderer, and finishes the recording. Returns why the
-    /// recording has failed, if it has.
+    /// Says how items have come out, draws the last frames, ends the renderer, and finishes the
+    /// recording. Returns whether an item that had to hasn't finished, and why the recording has
+    /// failed, if it has.
     ///
     /// # Errors
     ///
-    /// `Memory`, if there is no memory for the end of the recording.
-    pub fn close(self) -> Result<Option<io::Error>, Failure> {
+    /// `Memory`, if there is no memory for it.
+    pub fn close(mut self) -> Result<(bool, Option<io::Error>), Failure> {
+        let is_unfinished = self.sum_up()?;
         let Feed {
             clock,
             mut items,
             display,
             ..
         } = self;
-        display.close();
+        display.close(clock)?;
         items.recording().finish(clock)?;
-        Ok(items.recording().error())
+        Ok((is_unfinished, items.recording().error()))
     }
 }
 

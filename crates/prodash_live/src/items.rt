@@ -4,8 +4,9 @@ use crate::recorded_item::RecordedItem;
 use crate::recording::Recording;
 use crate::signs::Signs;
 use prodash::messages::MessageLevel;
+use prodash::progress::{Row, State, UNKNOWN, Value};
 use prodash::time::Moment;
-use prodash::tree::{Event, Handle, Root};
+use prodash::tree::{Event, Handle, Item, Root};
 use prodash::{Refusal, Text};
 use prodash_script::{Change, Names, parse_step};
 use std::alloc::{AllocError, Global};
@@ -29,6 +30,7 @@ struct Entry<R: Wait + Clone + Drop> {
 /// The tree, its items by handle, and the handles by name.
 #[derive(Drop)]
 pub struct Items<R: Wait + Clone + Drop, W: Write + Drop> {
+    alloc: Global,
     root: Option<Root<R>>,
     items: HashMap<Handle, Entry<R>>,
     names: Names,
@@ -39,6 +41,10 @@ pub struct Items<R: Wait + Clone + Drop, W: Write + Drop> {
     signs: Signs,
     /// Whether an item whose word is given to another one is dropped.
     replaces_words: bool,
+    /// The row of the item that was dropped last, while rows of dropped items are kept.
+    dropped: Option<Row>,
+    /// Whether they are.
+    keeps_dropped: bool,
     recording: Recording<W>,
 }
 
@@ -53,6 +59,7 @@ impl<R: Wait + Clone + Drop, W: Write + Drop> Items<R, W> {
         recording: Recording<W>,
     ) -> Items<R, W> {
         Items {
+            alloc,
             root: Some(root),
             items: HashMap::new(alloc),
             names: Names::new(alloc),
@@ -60,7 +67,61 @@ impl<R: Wait + Clone + Drop, W: Write + Drop> Items<R, W> {
             printer: None,
             signs,
             replaces_words,
+            dropped: None,
+            keeps_dropped: false,
             recording,
+        }
+    }
+
+    /// Keeps the row of each item that is dropped, from now on.
+    pub fn keep_dropped(&mut self) {
+        self.keeps_dropped = true;
+    }
+
+    /// Takes the row of the item that was dropped since the last call, if it was kept.
+    pub fn take_dropped(&mut self) -> Option<Row> {
+        self.dropped.take()
+    }
+
+    /// Returns the handle of the item that was added last, or 0.
+    pub fn last(&self) -> Handle {
+        self.made
+    }
+
+    /// Returns the row of an item, or `None` if it isn't there.
+    ///
+    /// # Errors
+    ///
+    /// `Memory`, if there is no memory for it.
+    pub fn row(&self, alloc: Global, handle: Handle) -> Result<Option<Row>, Refusal> {
+        match self.items.get(&handle) {
+            None => Ok(None),
+            Some(entry) => row_of(alloc, &entry.item.item),
+        }
+    }
+
+    /// Returns the rows of all items, in the order of their keys; none without the root.
+    ///
+    /// # Errors
+    ///
+    /// `Memory`, if there is no memory for them.
+    pub fn rows(&self) -> Result<Vec<Row>, Refusal> {
+        let mut rows = Vec::new(self.alloc);
+        if let Some(root) = &self.root {
+            root.sorted_snapshot(self.alloc, &mut rows)?;
+        }
+        Ok(rows)
+    }
+
+    /// Returns the row of an item that has reached its bound.
+    ///
+    /// # Errors
+    ///
+    /// `Memory`, if there is no memory for it.
+    pub fn finished_row(&self, alloc: Global, handle: Handle) -> Result<Option<Row>, Refusal> {
+        match self.items.get(&handle) {
+            Some(entry) if has_finished(&entry.item.item) => row_of(alloc, &entry.item.item),
+            _ => Ok(None),
         }
     }
 
@@ -180,6 +241,9 @@ impl<R: Wait + Clone + Drop, W: Write + Drop> Items<R, W> {
         let Some(Entry { item, word, .. }) = self.items.remove(&handle) else {
             return Err(Unserved::Fault(LineFault::NoItem(handle)));
         };
+        if self.keeps_dropped {
+            self.dropped = row_of(self.alloc, &item.item)?;
+        }
         item.remove(&mut self.recording)?;
         Ok(word)
     }
@@ -193,21 +257,21 @@ impl<R: Wait + Clone + Drop, W: Write + Drop> Items<R, W> {
         Ok(())
     }
 
-    /// Changes the step of an item, if a line asks for that and the item is there. Returns whether
-    /// it did.
+    /// Changes the step of an item, if a line asks for that and the item is there. Returns its
+    /// handle then.
     ///
     /// # Errors
     ///
     /// `AllocError`, if there is no memory for the recording.
-    pub fn change_step(&mut self, line: &str) -> Result<bool, AllocError> {
+    pub fn change_step(&mut self, line: &str) -> Result<Option<Handle>, AllocError> {
         let Some((item, step)) = parse_step(&self.names, line) else {
-            return Ok(false);
+            return Ok(None);
         };
         match self.items.get(&item) {
             Some(entry) => entry.item.change_step(step, &mut self.recording)?,
-            None => return Ok(false),
+            None => return Ok(None),
         }
-        Ok(true)
+        Ok(Some(item))
     }
 
     /// Changes an item, or sends its message.
@@ -228,16 +292,28 @@ impl<R: Wait + Clone + Drop, W: Write + Drop> Items<R, W> {
 
     /// Sends a failure that belongs to no item.
     pub fn send_failure(&mut self, alloc: Global, at: Moment, text: String) -> Result<(), Refusal> {
+        self.send(alloc, "input", at, MessageLevel::Failure, Text::new(text))
+    }
+
+    /// Sends a message that belongs to no item, with this origin. Without the root none is sent.
+    ///
+    /// # Errors
+    ///
+    /// `Memory`, if there is no memory for it, and `TooManyMessages`, if the tree keeps no more.
+    pub fn send(
+        &mut self,
+        alloc: Global,
+        origin: &str,
+        at: Moment,
+        level: MessageLevel,
+        text: Text,
+    ) -> Result<(), Refusal> {
         let Some(root) = &self.root else {
             return Ok(());
         };
-        let name = Text::from_str(alloc, "input")?;
+        let name = Text::from_str(alloc, origin)?;
         let item = RecordedItem::below_root(alloc, root, name, &mut self.recording)?;
-        let message = Change::Message {
-            at,
-            level: MessageLevel::Failure,
-            text: Text::new(text),
-        };
+        let message = Change::Message { at, level, text };
         item.change(alloc, message, self.signs, &mut self.recording)?;
         item.remove(&mut self.recording)?;
         Ok(())
@@ -263,6 +339,35 @@ impl<R: Wait + Clone + Drop, W: Write + Drop> Items<R, W> {
         let sent = printer.change(alloc, message, self.signs, &mut self.recording);
         self.printer = Some(printer);
         unless_refused(sent)
+    }
+}
+
+/// Returns the row of an item, or `None` if its task is gone.
+fn row_of<R: Wait + Clone + Drop>(alloc: Global, item: &Item<R>) -> Result<Option<Row>, Refusal> {
+    let Some(name) = item.name(alloc)? else {
+        return Ok(None);
+    };
+    let (done_at, unit) = (item.max(), item.unit());
+    let value = Value {
+        step: item.step().unwrap_or(0),
+        done_at,
+        unit,
+        state: State::Running,
+    };
+    let has_progress = done_at.is_some() || unit.is_some();
+    Ok(Some(Row {
+        key: item.key(),
+        name: Text::new(name),
+        id: UNKNOWN,
+        progress: if has_progress { Some(value) } else { None },
+    }))
+}
+
+/// Returns whether an item has reached its bound.
+fn has_finished<R: Wait + Clone + Drop>(item: &Item<R>) -> bool {
+    match (item.max(), item.step()) {
+        (Some(bound), Some(step)) => bound <= step,
+        _ => false,
     }
 }
 

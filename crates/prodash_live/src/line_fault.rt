@@ -47,6 +47,12 @@ impl<T: Drop> From<AllocFailed<T>> for Unserved<'_> {
     }
 }
 
+impl From<Failure> for Unserved<'_> {
+    fn from(failure: Failure) -> Self {
+        Unserved::Failure(failure)
+    }
+}
+
 impl From<Refusal> for Unserved<'_> {
     fn from(refusal: Refusal) -> Self {
         Unserved::Failure(Failure::from(refusal))

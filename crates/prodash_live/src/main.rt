@@ -9,10 +9,13 @@ mod items;
 mod line_fault;
 mod options;
 mod output;
+mod plain_display;
 mod program;
 mod recorded_item;
 mod recording;
+mod shown;
 mod signs;
+mod summary;
 
 use command_line::{Command, HELP, UsageError, parse};
 use failure::Failure;
@@ -71,6 +74,7 @@ fn report_misuse(rt: &HostRuntime, error: UsageError<'_>) -> ExitCode {
 fn report_outcome(rt: &HostRuntime, outcome: Outcome) -> ExitCode {
     match outcome {
         Outcome::Ended(0) => ExitCode::from(0),
+        Outcome::Unfinished => ExitCode::from(3),
         Outcome::Ended(_) => ExitCode::from(2),
         Outcome::Stopped(text) => {
             let _ = writeln!(rt.stderr(), "{text}");

@@ -33,12 +33,21 @@ pub struct Options<'a> {
     pub is_ascii: bool,
     /// Whether messages have their time of day.
     pub has_timestamps: bool,
+    /// Whether rows on a terminal say how long their tasks have run, and still take.
+    pub has_times: bool,
     /// Whether to draw on standard output in place of standard error.
     pub to_stdout: bool,
     /// Whether the first faulty line ends the program.
     pub is_strict: bool,
     /// Whether an item whose word is given to another one is dropped.
     pub replaces_words: bool,
+    /// The seconds after which plain lines say what has changed, if an output that is no terminal
+    /// has plain lines.
+    pub plain: Option<u64>,
+    /// Whether the end says how the items of the first two levels have come out.
+    pub has_summary: bool,
+    /// Whether an item of the first two levels that hasn't finished is a failure.
+    pub fails_unfinished: bool,
     /// Whether the output has a mark at its beginning and behind each frame.
     pub has_marks: bool,
     /// Whether the output is a terminal.
@@ -60,9 +69,13 @@ impl<'a> Options<'a> {
             colors: env.colors,
             is_ascii: !env.is_utf8,
             has_timestamps: false,
+            has_times: true,
             to_stdout: false,
             is_strict: false,
             replaces_words: false,
+            plain: None,
+            has_summary: false,
+            fails_unfinished: false,
             has_marks: false,
             terminal: Terminal::Auto,
             shows_frames: env.shows_frames,
@@ -90,6 +103,7 @@ impl<'a> Options<'a> {
             terminal_dimensions: self.dimensions,
             bar_columns: Some(self.bar_columns),
             throughput: true,
+            times: self.has_times,
             defensive: true,
             synchronized: !self.has_marks,
             whole_messages: true,

@@ -5,7 +5,9 @@ use crate::feed::{Feed, Outcome};
 use crate::items::Items;
 use crate::options::Options;
 use crate::output::{OutputState, PromptClock, Watched};
+use crate::plain_display::PlainDisplay;
 use crate::recording::Recording;
+use crate::shown::Shown;
 use crate::signs::Signs;
 use prodash::render::line::{self, render};
 use prodash::time::Clock;
@@ -49,19 +51,27 @@ pub fn live<
     let mut out = Watched::new(out, Arc::try_clone(&output)?, options.has_marks);
     // what fails here is told below
     let _ = out.mark();
-    let display = show(&rt, alloc, out, &root, &clock, rendering, &output)?;
+    let display = match options.plain {
+        Some(seconds) if !rendering.output_is_terminal => {
+            let out = (out, Arc::try_clone(&output)?);
+            let display = PlainDisplay::start(&rt, alloc, out, &root, &clock, &rendering, seconds)?;
+            Shown::Plain(display)
+        }
+        _ => Shown::Frames(show(&rt, alloc, out, &root, &clock, rendering, &output)?),
+    };
     let signs = Signs::for_rendering(&rendering);
     let items = Items::new(alloc, root, signs, options.replaces_words, recording);
-    let mut feed = Feed::new(&rt, alloc, &*clock, items, display);
+    let mut feed = Feed::new(&rt, alloc, &*clock, items, display, &options);
     let served = feed.serve_lines(input, options.is_strict);
-    let closed = feed.close()?;
+    let (is_unfinished, failed) = feed.close()?;
     if let Some(error) = output.error() {
         return Err(Failure::Output(error));
     }
     let outcome = served?;
-    match closed {
-        Some(error) => Err(Failure::Recording(error)),
-        None => Ok(outcome),
+    match (failed, outcome) {
+        (Some(error), _) => Err(Failure::Recording(error)),
+        (None, Outcome::Ended(0)) if is_unfinished => Ok(Outcome::Unfinished),
+        (None, outcome) => Ok(outcome),
     }
 }
 
