@@ -18,6 +18,8 @@ ERASE_LINE, UP, END = b"\x1b[2K", re.compile(rb"\x1b\[([0-9]+)A"), b"\x1b[?7h"
 FAULT = re.compile("line ([0-9]+): not an event")
 # The most columns and rows that a terminal may have.
 MOST = 65535
+# How the program draws: as prodash-live does.
+HOW = ("--any-unit", "--defensive", "--times")
 # How many bytes are read at a time, and how many characters of a faulty line are shown.
 READ, SHOWN = 65536, 60
 
@@ -53,7 +55,7 @@ class Frames:
     """The frames that the program draws of lines, on a terminal of a size."""
 
     def __init__(self, program, lines, size, options):
-        words = [program, "bytes", *map(str, size), "--any-unit", "--defensive", *options]
+        words = [program, "bytes", *map(str, size), *HOW, *options]
         how = dict.fromkeys(("stdin", "stdout", "stderr"), subprocess.PIPE)
         try:
             # the keys that end or stop this process are not for the program

@@ -355,12 +355,11 @@ def command_of(words):
 
 
 def split(words):
-    """Returns the options and the command among the words, or None if there is no command."""
+    """Returns the options and the command among the words."""
     options, rest = [], list(words)
     while begins_with_option(rest):
         options += take_option(rest)
-    command = command_of(rest)
-    return (options, command) if command else None
+    return options, command_of(rest)
 
 
 def stream_to_draw_on(options):
@@ -451,15 +450,14 @@ def main(program, words):
     """Runs the command of these words, with the program at this path as display."""
     # before there is a job
     job.end_at_interrupt()
-    if words and words[0] in ("-h", "--help"):
+    options, command = split(words)
+    if "-h" in options or "--help" in options:
         os.write(1, HELP.encode())
         return 0
-    given = split(words)
-    if given is None:
+    if not command:
         os.write(2, b"prodash run: no command\n\n")
         os.write(2, b"Usage: prodash run [OPTIONS] [--] COMMAND [WORD ..]\n")
         return 2
-    options, command = given
     if job.is_nested():
         # the wrapper above has the rows
         return job.Command(command).become()

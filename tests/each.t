@@ -146,7 +146,7 @@ steps on a terminal. A command waits for a line of the named pipe that its argum
   $ unset COLUMNS LINES NO_COLOR
   $ mkfifo a b c more
   $ echo 'read _ <"$1"; echo "$1 is read"; [ "$1" != b ]' >reads
-  $ echo 'printf "a\nb\nc\n" | prodash each -n pipes --no-color -- sh reads' >one
+  $ echo 'printf "a\nb\nc\n" | prodash each -n pipes --no-color --no-times -- sh reads' >one
   $ on-terminal 60 8 <<'.'
   > run sh one
   > until 0/3
@@ -182,7 +182,7 @@ steps on a terminal. A command waits for a line of the named pipe that its argum
 Several run at a time. As long as there may be more lines, the bound is how many there were.
 
   $ cat >grows <<'.'
-  > { echo a; echo b; read _ <more; echo c; } | prodash each -P 2 --no-color -- sh reads
+  > { echo a; echo b; read _ <more; echo c; } | prodash each -P 2 --no-color --no-times -- sh reads
   > .
   $ on-terminal 60 8 <<'.'
   > run sh grows

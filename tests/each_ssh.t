@@ -138,10 +138,10 @@ Text that looks like a line is none, and a line tears no text.
   > echo 'line' >&2
   > .
   $ echo job | prodash each -S one sh 2>&1 | sed 's/@each[-0-9]*/@ROW/g' | sort
-    printed
    \xe2\x9c\x97 input line 5: no item @ROW/@none, in: inc @ROW/@none 1 (esc)
   add @a 0 part
   half a line
+  printed
 
 A host needs nothing but sh.
 
@@ -226,7 +226,7 @@ leaves no row.
   > .
   $ cp one/job two
   $ on-terminal 60 8 <<'.'
-  > run prodash each -S one,two --no-color -- sh <jobs
+  > run prodash each -S one,two --no-color --no-times -- sh <jobs
   > until part of one 2/4
   > until part of two 2/4
   > tell one/go

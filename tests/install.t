@@ -54,7 +54,8 @@ a folder that was moved, with only Python on the path.
   prodash-live 0.1.0 (port of prodash 31.0.1)
   built from commit ..
 
-  $ alone moved/bin/prodash run -- sh -c 'echo add 0 alpha >&$PRODASH_FD; echo info 1 - one >&$PRODASH_FD'
+  $ alone moved/bin/prodash run --plain=0 --no-summary sh -c '
+  >     echo add 0 alpha >&$PRODASH_FD; echo info 1 - one >&$PRODASH_FD'
    alpha one
   $ echo one | alone moved/bin/prodash each echo got
   got one
@@ -78,7 +79,7 @@ A script finds the libraries, and the shells their completions.
   > PYTHONPATH=$(prodash --lib python) python3 -B -c 'import prodash; prodash.say("one")'
   > prodash_done "$task" two
   > .
-  $ alone sh -c 'PATH=$PWD/moved/bin:$PATH; prodash run sh job.sh'
+  $ alone sh -c 'PATH=$PWD/moved/bin:$PATH; prodash run --plain=0 --no-summary sh job.sh'
    -c one
    \xe2\x9c\x93 shell two (esc)
   $ alone moved/bin/prodash --lib

@@ -17,7 +17,7 @@ those of the frame before it.
   >   yes 'add @part @task part
   > drop @part' | head -n 400000
   >   printf 'add @final @task final\ninit @final 3 -\nset @final 2\n'
-  > } | until_shown 2/3 prodash-live --no-color --columns 40 --terminal always 2>frames
+  > } | until_shown 2/3 prodash-live --no-times --no-color --columns 40 --terminal always 2>frames
   $ tail -n 7 frames | head -n 3 | sed 's/.*\[2K//; s/ *$//'
    task
     first 0/3 [>-------------------------]

@@ -146,7 +146,7 @@ the item has none. `last_rows` shows the rows drawn last before the closing fram
 
   $ last_rows() { tail -n $((2 * $1 + 1)) frames | head -n "$1" | sed 's/.*\[2K//'; }
   $ printf 'add 0 task\ninfo 1 0 a\ndone 1 0 b\nfail 1 0 c\ninit 1 3 -\nset 1 2\n' >said
-  $ until_shown 2/3 prodash-live --no-color --columns 30 --terminal always <said 2>frames
+  $ until_shown 2/3 prodash-live --no-times --no-color --columns 30 --terminal always <said 2>frames
   $ last_rows 1
    task 2/3 [===========>------]
   $ prodash-live <said
@@ -156,7 +156,7 @@ the item has none. `last_rows` shows the rows drawn last before the closing fram
 
 With colours there are no signs.
 
-  $ until_shown 2/3 prodash-live --columns 30 --terminal always <said 2>frames
+  $ until_shown 2/3 prodash-live --no-times --columns 30 --terminal always <said 2>frames
   $ grep -c -e ✓ -e ✗ frames
   0
   [1]

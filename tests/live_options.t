@@ -9,13 +9,13 @@ An option's value is the next word, or follows `=`. If an option is repeated, th
   >   { cat; until grep -qs "$text" frames; do sleep 0.02; done; } | "$@"
   > }
   $ printf 'add 0 task\ninit 1 10\nset 1 3\n' >one_task
-  $ until_shown 3/10 prodash-live --no-color --terminal=never --terminal always --fps=1000 \
+  $ until_shown 3/10 prodash-live --no-times --no-color --terminal=never --terminal always --fps=1000 \
   >   --columns 9 --columns=40 --rows 20 <one_task 2>frames
   $ grep -q 'task 3/10 \[=======>-------------------\]' frames
   $ prodash-live --terminal always --terminal never <one_task
-  $ until_shown 3/10 prodash-live --no-color --terminal always --bar-columns=20 <one_task 2>frames
+  $ until_shown 3/10 prodash-live --no-times --no-color --terminal always --bar-columns=20 <one_task 2>frames
   $ grep -q 'task 3/10 \[====>------------\]' frames
-  $ until_shown 3/10 prodash-live --no-color --terminal always --bar-columns 0 <one_task 2>frames
+  $ until_shown 3/10 prodash-live --no-times --no-color --terminal always --bar-columns 0 <one_task 2>frames
   $ grep 'task 3/10' frames | tail -n 1 | sed 's/.*\[2K//'
    task 3/10
 
@@ -48,7 +48,7 @@ The version, the help, and what is refused.
                                 none [default: 0]
         --summary               at the end, how each item of the first two levels has come out
         --no-summary            no such messages [default]
-        --fail-unfinished       status 3 if one of these hasn't finished, and a message that says so
+        --fail-unfinished       status 3 if one of these ended below its maximum, and a message of it
         --record <FILE>         record the run, for prodash-replay
         --marks                 a NUL once the options are right, and one behind each frame
     -h, --help                  print help

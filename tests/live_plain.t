@@ -46,7 +46,7 @@ messages among them.
    app linking
   [..] build/app 4/4 files 100%, done in T
   [..] deploy started
-       half of it
+  half of it
   [..] deploy 4/10 40%, stopped after T
   [..] build/count started
    \xe2\x9c\x97 input line 17: unknown command "bad", in: bad (esc)
@@ -58,7 +58,7 @@ Without the option, or with 0, messages alone are written, as before. On a termi
 
   $ prodash-live <script
    app linking
-       half of it
+  half of it
    \xe2\x9c\x97 input line 17: unknown command "bad", in: bad (esc)
    \xe2\x9c\x93 build all of it (esc)
   [2]

@@ -108,8 +108,8 @@ a closing frame.
   >   { cat; until grep -qs "$text" frames; do sleep 0.02; done; } | "$@"
   > }
   $ last_rows() { tail -n $((2 * $1 + 1)) | head -n "$1" | sed 's/.*\[2K//'; }
-  $ until_shown last prodash-live --record recording --no-color --columns 40 --terminal always \
-  >   --replace-words 2>frames <<END
+  $ until_shown last prodash-live --record recording --no-color --no-times --columns 40 \
+  >   --terminal always --replace-words 2>frames <<END
   > add @a 0 alpha
   > init @a 10 %files
   > set @a 3
@@ -149,7 +149,7 @@ The unit `steps` is a label in a script. In a recording it has another word, sin
 there, which counts from 1.
 
   $ printf 'add @a 0 a\ninit @a 10 steps\nadd @b 0 b\ninit @b 10 %%range:steps\nset @b 9\n' |
-  >   until_shown '10 of 10' prodash-live --record recording --no-color --columns 40 \
+  >   until_shown '10 of 10' prodash-live --record recording --no-color --no-times --columns 40 \
   >   --terminal always 2>frames
   $ last_rows 2 <frames
    a 0/10 steps [>-----------------------]

@@ -13,7 +13,7 @@ If it is refused memory it is drawn later, so that there is always a row of 3000
   $ begin=$(printf '\033[?2026h\r\033[?7l') end=$(printf '\033[?7h\033[?2026l')
   $ without_rows=$begin$(printf '\033[J')$end
   $ row_erased=$begin$(printf '\033[2K\n\033[J\033[1A')$end
-  $ wide=m$(printf '%02986d' 0 | tr 0 -)$(printf '\033[0m]')
+  $ wide=m$(printf '%02983d' 0 | tr 0 -)$(printf '\033[0m]')
   $ run() {
   >   printf 'add 0 task\ninit 1 10\nsize 3000 20\n' | timeout 60 env REFUSED=$number MARK=9 \
   >     LD_PRELOAD=./failures.so prodash-live --terminal always --bar-columns 3000 --delay "$1" \

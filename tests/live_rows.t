@@ -26,10 +26,10 @@ been drawn before the task was added, and then it has no rows.
 By default there are 80 columns, of which a bar takes at most 40, colours, and no rows if the output
 is no terminal.
 
-  $ until_shown 3/10 prodash-live --fps=10 --stdout --terminal always <one_task >frames
+  $ until_shown 3/10 prodash-live --fps=10 --stdout --no-times --terminal always <one_task >frames
   $ last_row
    \x1b[1;36mtask\x1b[0m \x1b[1;2m3/10\x1b[0m [\x1b[33m==========\x1b[0m\x1b[33m>\x1b[0m\x1b[2;33m--------------------------\x1b[0m] (esc)
-  $ until_shown 3/10 prodash-live --no-color --terminal=always <one_task 2>frames
+  $ until_shown 3/10 prodash-live --no-color --no-times --terminal=always <one_task 2>frames
   $ last_row
    task 3/10 [==========>--------------------------]
   $ prodash-live <one_task
@@ -39,7 +39,7 @@ The unit may be left out, and may have any name, with a percentage before or aft
 
   $ in_unit() {
   >   printf 'add 0 task\ninit 1 %s\nset 1 3\n' "$1" \
-  >     | until_shown 3/10 prodash-live --no-color --columns 40 --terminal always 2>frames
+  >     | until_shown 3/10 prodash-live --no-color --no-times --columns 40 --terminal always 2>frames
   >   last_row | sed 's/ \[=*>-*\]$//'
   > }
   $ in_unit 10
@@ -58,7 +58,7 @@ States
 
 A task that is halted, one that is blocked, and one that runs again with a new bound.
 
-  $ until_shown last prodash-live --terminal always --columns 30 2>frames <<END
+  $ until_shown last prodash-live --no-times --terminal always --columns 30 2>frames <<END
   > add 0 a
   > init 1 10 -
   > set 1 3

@@ -6,7 +6,7 @@ CR LF.
 
   $ shown() { until grep -qs "$1" output; do sleep 0.01; done; }
   $ mkfifo lines
-  $ prodash-live --stdout --no-color --terminal always --columns 40 <lines >output &
+  $ prodash-live --no-times --stdout --no-color --terminal always --columns 40 <lines >output &
   $ exec 3>lines
   $ printf 'add @a 0 task\r\n\n\r\n# a task\ninit @a 10 -\nset @a 3\r\n' >&3
   $ shown ' task 3/10 \[=======>-------------------\]'
@@ -42,20 +42,20 @@ shows the row drawn last before the closing frame.
 
 The environment gives the number of columns, unless an option does. It also turns colours off.
 
-  $ until_shown 3/10 env COLUMNS=100 NO_COLOR=1 prodash-live --terminal always --bar-columns 100 \
-  >   <one_task 2>frames
+  $ until_shown 3/10 env COLUMNS=100 NO_COLOR=1 prodash-live --no-times --terminal always \
+  >   --bar-columns 100 <one_task 2>frames
   $ last_row
    task 3/10 [=========================>-------------------------------------------------------------]
-  $ until_shown 3/10 env COLUMNS=100 NO_COLOR=1 prodash-live --columns 40 --terminal always \
-  >   <one_task 2>frames
+  $ until_shown 3/10 env COLUMNS=100 NO_COLOR=1 prodash-live --no-times --columns 40 \
+  >   --terminal always <one_task 2>frames
   $ last_row
    task 3/10 [=======>-------------------]
   $ until_shown 3/10 env COLUMNS="$(printf '\377')" NO_COLOR="$(printf '\377')" prodash-live \
-  >   --terminal always --bar-columns 100 <one_task 2>frames
+  >   --no-times --terminal always --bar-columns 100 <one_task 2>frames
   $ last_row
    task 3/10 [===================>-----------------------------------------------]
-  $ until_shown 3/10 env COLUMNS=0 NO_COLOR= prodash-live --terminal always --bar-columns 100 \
-  >   <one_task 2>frames
+  $ until_shown 3/10 env COLUMNS=0 NO_COLOR= prodash-live --no-times --terminal always \
+  >   --bar-columns 100 <one_task 2>frames
   $ last_row
    \x1b[1;36mtask\x1b[0m \x1b[1;2m3/10\x1b[0m [\x1b[33m===================\x1b[0m\x1b[33m>\x1b[0m\x1b[2;33m-----------------------------------------------\x1b[0m] (esc)
 

@@ -39,6 +39,11 @@ At most ten lines are written in a second, besides the first and the last.
   $ [ "$(grep -c set told)" -le $((($(date +%s) - began + 1) * 10 + 2)) ]
   $ [ "$(grep -c set told)" -gt 4 ]
 
+While nothing flows, none is written.
+
+  $ (echo a; sleep 1) | prodash-pipe lines @n 2>told >copy
+  $ [ "$(grep -c set told)" -le 2 ]
+
 If nobody reads any more, that is the end, as of any copy: quiet, and with status 0.
 
   $ { yes | { prodash pipe; echo "status $?" >&2; } | head -n 1; } 2>&1
@@ -113,7 +118,7 @@ terminal, and the producer waits for lines of the named pipe `go`.
   $ mkfifo go
   $ echo 'exec 3<>go; printf 12345; read _ <&3; printf 67; printf 890; read _ <&3' >writes
   $ echo 'sh writes | prodash pipe -s 10 -N all | cat >copy' >sized
-  $ on-terminal 60 8 <<'.'
+  $ on-terminal 60 8 <<'.' | sed 's/ [0-9]s \[/ Ns [/'
   > run sh sized
   > until 5B
   > screen
@@ -124,8 +129,8 @@ terminal, and the producer waits for lines of the named pipe `go`.
   > ended
   > modes
   > .
-   all 5B/10B  [50%] [==================>------------------]
-   all 10B/10B  [100%] [====================================>]
+   all 5B/10B  [50%] Ns [=================>------------------]
+   all 10B/10B  [100%] in Ns [==============================>]
   status 0
   same modes
   $ cat copy
@@ -144,7 +149,7 @@ A file has its size, and lines have none. What is written to the terminal stands
   two
   $ echo 'exec 3<>go; cat file; read _ <&3' >keeps
   $ echo 'sh keeps | prodash pipe -l' >shown
-  $ on-terminal 60 8 <<'.'
+  $ on-terminal 60 8 <<'.' | sed 's/ [0-9]s \[/ Ns [/'
   > run sh shown
   > until 2 lines
   > screen
@@ -154,7 +159,7 @@ A file has its size, and lines have none. What is written to the terminal stands
   > .
   one
   two
-   pipe 2 lines [===   ===   ===   ===   ===   ===   =]
+   pipe 2 lines Ns [===   ===   ===   ===   ===   ===   =]
   status 0
   one
   two
@@ -193,7 +198,7 @@ Below a `prodash run` the row is one of its rows, and a failure is a message.
   vice (os error 28)
   status 1
   $ for it in '' -l '-l -s 1k' '-s 1.5k -Nall'; do
-  >     prodash-run --terminal never --record recorded -- sh -c "prodash pipe $it <file >copy"
+  >     prodash-run --plain=0 --no-summary --record recorded -- sh -c "prodash pipe $it <file >copy"
   >     grep -e add -e init recorded
   > done
   add 0 pipe
@@ -204,7 +209,8 @@ Below a `prodash run` the row is one of its rows, and a failure is a message.
   init 1 1024 lines%/s
   add 0 all
   init 1 1536 bytes%/s
-  $ prodash-run --terminal never --record recorded -- sh -c 'cat file | prodash pipe >copy'
+  $ prodash-run --plain=0 --no-summary --record recorded -- \
+  >     sh -c 'cat file | prodash pipe >copy'
   $ grep -e init -e drop recorded
   init 1 - bytes/s
   drop 1

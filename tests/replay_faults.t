@@ -168,6 +168,7 @@ An output that can't be written.
     --defensive    erase the rows that frames write on, as prodash-live does
     --colored      write colours
     --any-unit     take units of any name, as recordings of prodash-live have
+    --times        rows with the times of their tasks, as prodash-live draws them
     --help         print help
     --version      print version
   $ prodash-replay --help | head -n 1

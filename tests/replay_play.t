@@ -30,9 +30,9 @@ its end.
   > screen
   > modes
   > .
-   alpha 1/4 files [=======>-----------------------]
+   alpha 1/4 files 0s [======>---------------------]
    alpha half
-   alpha 2/4 files [===============>---------------]
+   alpha 2/4 files 2s, 4s left [=========>---------]
   status 0
    alpha half
   same modes
@@ -69,7 +69,7 @@ A terminal that changes its size has the frames of its size from the next one on
   > screen
   > .
    alpha half
-   alpha 2/4 files [=====>-----]
+   alpha 2/4 files 2s, 4s left [
   signal SIGINT
    alpha half
 
@@ -94,7 +94,7 @@ background.
   > .
   stopped
   
-   alpha 1/4 files [=======>-----------------------]
+   alpha 1/4 files 0s [======>---------------------]
   signal SIGTERM
    alpha half
   same modes
@@ -181,10 +181,10 @@ columns of the terminal, or as many as `COLUMNS` says.
   $ prodash replay finished --last
    alpha a message of many words, which is as long as it is
     beta two
-   alpha 2/4 files [50%] [===========================>---------------------------]
+   alpha 2/4 files [50%] 2s, 2s left [=====================>---------------------]
    beta
   $ COLUMNS=40 prodash replay --last finished | tail -n 2
-   alpha 2/4 files [50%] [=======>-------]
+   alpha 2/4 files [50%] 2s, 2s left [=>-]
    beta
   $ prodash replay --last finished | head -n 1
    alpha a message of many words, which is as long as it is
@@ -201,7 +201,7 @@ columns of the terminal, or as many as `COLUMNS` says.
    alpha a message of many words, which is
    as long as it is
     beta two
-   alpha 2/4 files [50%] [=======>-------]
+   alpha 2/4 files [50%] 2s, 2s left [=>-]
    beta
   1;36
 
@@ -212,19 +212,19 @@ Tasks that were removed have no rows, and of a run that was killed all is there.
   $ prodash replay --last cut
    alpha half
    alpha last
-   alpha 2/4 files [==============================>------------------------------]
+   alpha 2/4 files 2s, 4s left [========================>------------------------]
   prodash replay: cut was cut off: its run has no end
 
 A recording of prodash run.
 
-  $ prodash-run --record record --no-color -- sh -c '
+  $ prodash-run --no-summary --record record --no-color -- sh -c '
   >     echo "add @a 0 a" >&$PRODASH_FD; echo "init @a 4 steps" >&$PRODASH_FD; echo output
   >     echo "set @a 4" >&$PRODASH_FD; echo "done @a is done" >&$PRODASH_FD' >said 2>&1
   $ head -n 1 record
   name 0 prodash recording 1
   $ prodash replay --last record
    \xe2\x9c\x93 a is done (esc)
-   a 4/4 steps [================================================================>]
+   a 4/4 steps in 0s [==========================================================>]
 
 Faults
 ======

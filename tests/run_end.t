@@ -99,6 +99,7 @@ The `--` may be left out, also behind options and their values.
   --fps 3
   --delay 3
   --terminal 2
+  --plain 3
   --record 3
 
 What is left on the terminal is what the job wrote. A line that isn't whole is not ended.

@@ -25,12 +25,12 @@ plain lines unless the option leaves them out.
   > .
   $ prodash-run sh streams 2>errors
   out
-  $ sed 's/after .*/after T/' errors
+  $ sed 's/after .*/after T/; s/ in .*/ in T/' errors
   err
   [00:00] alpha started
    alpha one
   [00:00] alpha ended after T
-   \xe2\x9c\x97 alpha stopped after T (esc)
+   alpha in T
   $ prodash-run --plain=0 --no-summary -- sh streams 2>&1 >output | sort
    alpha one
   err

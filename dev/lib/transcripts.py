@@ -29,7 +29,7 @@ SCRIPTS = {
     "example": f"{TOP}/examples/run",
     "on-terminal": f"{TOP}/tests/scripts/on_terminal.py",
     "picture": f"{TOP}/bin/picture",
-    "prodash": f"{TOP}/bin/prodash",
+    "prodash": f"{TOP}/tests/scripts/prodash.py",
     "prodash-run": f"{TOP}/tests/scripts/run.py",
 }
 # A terminal that shows frames, and characters in UTF-8.

@@ -1,5 +1,5 @@
 #!/usr/bin/env python3
-"""prodash live, with the prodash-live that is on the path."""
+"""prodash live, with the prodash-live that is on the path, and without times in its rows."""
 import os
 import sys
 
@@ -9,4 +9,4 @@ sys.path.insert(0, f"{os.path.dirname(os.path.realpath(__file__))}/../../lib")
 import live
 
 if __name__ == "__main__":
-    sys.exit(live.run("prodash-live", sys.argv[1:]))
+    sys.exit(live.run("prodash-live", ["--no-times", *sys.argv[1:]]))

@@ -1,5 +1,5 @@
 #!/usr/bin/env -S python3 -I -S
-"""prodash run, with the prodash-live that is on the path."""
+"""prodash run, with the prodash-live that is on the path, and without times in its rows."""
 import os
 import sys
 
@@ -9,4 +9,4 @@ sys.path.insert(0, f"{os.path.dirname(os.path.realpath(__file__))}/../../lib")
 import run
 
 if __name__ == "__main__":
-    sys.exit(run.main("prodash-live", sys.argv[1:]))
+    sys.exit(run.main("prodash-live", ["--no-times", *sys.argv[1:]]))

@@ -44,6 +44,7 @@ impl<R: Wait + Clone + Drop, O: Write + Drop> Lines<R, O> {
             timestamp: rendering.timestamp,
             terminal_dimensions: rendering.terminal_dimensions,
             defensive: rendering.defensive,
+            bare_without_origin: rendering.bare_without_origin,
             ..draw::Options::default()
         };
         Lines {

@@ -27,6 +27,7 @@ Options:
   --defensive    erase the rows that frames write on, as prodash-live does
   --colored      write colours
   --any-unit     take units of any name, as recordings of prodash-live have
+  --times        rows with the times of their tasks, as prodash-live draws them
   --help         print help
   --version      print version
 ";
@@ -78,13 +79,15 @@ struct ReplayOptions {
     colored: bool,
     /// Whether units may have any name.
     any_unit: bool,
+    /// Whether rows have the times of their tasks.
+    times: bool,
     ghost wide: { 0 < columns },
     ghost high: { 0 < rows },
 }
 
 /// Runs the program: replays the events of `input`, one per line. `words` are the program's name,
-/// and then `bytes COLUMNS ROWS` or `page COLUMNS ROWS`, and perhaps `--defensive`, `--colored` and
-/// `--any-unit`. `bytes` writes the bytes of all frames to `out`; `page` plays them on a page of that
+/// and then `bytes COLUMNS ROWS` or `page COLUMNS ROWS`, and perhaps `--defensive`, `--colored`,
+/// `--any-unit` and `--times`. `bytes` writes the bytes of all frames to `out`; `page` plays them on a page of that
 /// size and writes each row that it ever had, without trailing blanks. With `--help` anywhere among
 /// the words the help is written instead, and else with `--version` the version. Returns the exit
 /// status.
@@ -138,12 +141,13 @@ fn parse_command_line(words: &[String]) -> Result<Command, Fault> {
     let [_, format, columns, rows, flags @ ..] = words else {
         return Err(USAGE);
     };
-    let (mut defensive, mut colored, mut any_unit) = (false, false, false);
+    let (mut defensive, mut colored, mut any_unit, mut times) = (false, false, false, false);
     for flag in flags {
         match flag.as_str() {
             "--defensive" => defensive = true,
             "--colored" => colored = true,
             "--any-unit" => any_unit = true,
+            "--times" => times = true,
             _ => return Err(USAGE),
         }
     }
@@ -161,6 +165,7 @@ fn parse_command_line(words: &[String]) -> Result<Command, Fault> {
         defensive,
         colored,
         any_unit,
+        times,
     }))
 }
 
@@ -230,6 +235,7 @@ fn drawn(alloc: Global, options: &ReplayOptions, events: &[Event]) -> Result<Mem
             bare_without_origin: false,
             bar_columns: None,
             ascii: false,
+            times: options.times,
         },
         throughput: true,
     };
