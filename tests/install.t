@@ -126,7 +126,8 @@ A script finds the libraries, and the shells their completions.
   $ cat >complete.fish <<'.'
   > source moved/share/fish/vendor_completions.d/prodash.fish
   > for words in "prodash r" "prodash run --pt" "prodash run --pty -- seq" "prodash run seq" \
-  >     "prodash live --terminal n" "prodash replay p" "prodash --lib p" "prodash-live --str"
+  >     "prodash run --pty --fps 30 seq" "prodash run seq --equal-w" "prodash live --terminal n" \
+  >     "prodash replay p" "prodash --lib p" "prodash-live --str"
   >     echo $words: (complete -C $words | string replace -r '\t.*' '' | sort -u)
   > end
   > .
@@ -135,6 +136,8 @@ A script finds the libraries, and the shells their completions.
   > prodash run --pt: --pty
   > prodash run --pty -- seq: seq
   > prodash run seq: seq
+  > prodash run --pty --fps 30 seq: seq
+  > prodash run seq --equal-w: --equal-width
   > prodash live --terminal n: never
   > prodash replay p: page
   > prodash --lib p: python

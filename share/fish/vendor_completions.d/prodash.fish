@@ -24,30 +24,44 @@ function __prodash_commands
     prodash help | string replace -rf '^  ([a-z]+) {2,}(.*)' '$1\t$2'
 end
 
+# Prints the index of the first word of the job among words that begin with `prodash run`. It is
+# behind the options, their values, and a `--`.
+function __prodash_job_at
+    set -l with_value (prodash live --help | string match -rg '^ +(--[a-z-]+) <')
+    set -l at 3
+    while string match -q -- '-*' $argv[$at]
+        if test "$argv[$at]" = --
+            math $at + 1
+            return
+        end
+        contains -- $argv[$at] $with_value
+        and set at (math $at + 1)
+        set at (math $at + 1)
+    end
+    echo $at
+end
+
 # Succeeds behind `prodash run` and options.
 function __prodash_is_before_job
     set -l words (commandline -opc)
     test "$words[2]" = run
-    and not contains -- -- $words
-    and not string match -qr '^[^-]' -- $words[3]
+    and test "$words[-1]" != --
+    and test (__prodash_job_at $words) -gt (count $words)
 end
 
-# Succeeds in the command of `prodash run`, or where it may begin.
+# Succeeds in the job of `prodash run`, or where it may begin.
 function __prodash_is_job
     set -l words (commandline -opc)
     test "$words[2]" = run
-    and begin
-        contains -- -- $words
-        or not string match -q -- '-*' $words[3]
-    end
+    and test (__prodash_job_at $words) -le (math (count $words) + 1)
 end
 
-# Completes the command of `prodash run`.
+# Completes the job of `prodash run`.
 function __prodash_job
-    set -l words (commandline -opc) (commandline -ct)
-    set -l at (contains -i -- -- $words)
-    or set at 2
-    complete --do-complete="$words[$(math $at + 1)..]"
+    set -l words (commandline -opc)
+    set -l at (__prodash_job_at $words)
+    set -a words (commandline -ct)
+    complete --do-complete="$words[$at..]"
 end
 
 complete -c prodash -n __fish_use_subcommand -xa "(__prodash_commands)"
