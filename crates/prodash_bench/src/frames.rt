@@ -19,6 +19,8 @@ pub(crate) struct Scene {
     has_groups: bool,
     colored: bool,
     throughput: bool,
+    /// Whether rows have the times of their tasks.
+    times: bool,
     /// Whether the step of each task changes before each frame.
     changes: bool,
     /// How many messages are sent before each frame.
@@ -36,6 +38,7 @@ impl Scene {
             has_groups: false,
             colored: false,
             throughput: false,
+            times: false,
             changes: true,
             messages: 0,
             defensive: false,
@@ -63,6 +66,10 @@ impl Scene {
             "throughput" => Scene {
                 unit: Some(label_and_mode("items", Mode::with_throughput())),
                 throughput: true,
+                ..plain
+            },
+            "times" => Scene {
+                times: true,
                 ..plain
             },
             "unchanged" => Scene {
@@ -95,6 +102,7 @@ impl Scene {
         let options = draw::Options {
             colored: self.colored,
             defensive: self.defensive,
+            times: self.times,
             terminal_dimensions: (80, self.rows),
             ..draw::Options::default()
         };
