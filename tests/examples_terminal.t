@@ -18,8 +18,10 @@ The parts and the workers go on, in frames that erase each row before they write
   $ grep -q 'index.* .\[1;2m[1-3]/4' frames
   $ grep -q '^.\[2K .*index' frames
 
-The ranges of the primes show how many numbers are counted in a second.
+The ranges of the primes show how many numbers are counted in a second. Four of them share the
+processor, so that none is done before.
 
+  $ for it in 1 2 3; do on_terminal 'exec prodash-examples primes' >/dev/null & done
   $ on_terminal 'NO_COLOR=1 exec prodash-examples primes' >frames &
   $ until grep -q ' from [0-9]* .*/500.00k numbers |[0-9.]*k*/s| \[' frames; do sleep 0.1; done
   $ kill $!

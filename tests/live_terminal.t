@@ -78,7 +78,7 @@ A terminal of unknown size has 80 columns, and one that loses its size keeps it.
 Rows that wouldn't fit are left out, whatever LINES says.
 
   $ cat >many <<'.'
-  > for it in 1 2 3 4 5 6 7 8 9; do echo add 0 item $it; done; read _ <go
+  > seq -f 'add 0 item %g' 9; read _ <go
   > .
   $ for it in 'live --no-color' 'env LINES=20 live --no-color' 'live --no-color --rows 20' \
   >     'live --no-color --rows 4'; do
