@@ -124,7 +124,7 @@ impl<'a, R: Wait + Threads + Clone + Drop, O: Write + Drop, W: Write + Drop, K: 
     /// Reads the next line, and records a frame that was due before it. What is recorded is written
     /// before more input is awaited.
     fn advance<I: Read + Drop>(&mut self, lines: &mut Lines<I>) -> Result<Next, Failure> {
-        if !lines.has_line() {
+        if self.display.is_plain() && !lines.has_line() {
             self.display.write_messages(self.clock)?;
         }
         let recording = self.items.recording();
@@ -262,10 +262,16 @@ impl<'a, R: Wait + Threads + Clone + Drop, O: Write + Drop, W: Write + Drop, K: 
     #[inline(always)]
     fn note_change(&mut self, item: Handle) -> Result<(), Failure> {
         if self.tells() {
-            let row = self.items.finished_row(self.alloc, item)?;
-            self.observe(row)?;
+            return self.note_finished(item);
         }
         Ok(())
+    }
+
+    /// Tells of an item that has changed, if it has finished, where items are told of.
+    #[inline(never)]
+    fn note_finished(&mut self, item: Handle) -> Result<(), Failure> {
+        let row = self.items.finished_row(self.alloc, item)?;
+        self.observe(row)
     }
 
     /// Tells of the item that was dropped, if one was.
