@@ -54,6 +54,14 @@ messages among them.
    \xe2\x9c\x93 build all of it (esc)
   [..] build ended after T
 
+A message is written before the next line is awaited, however long the seconds are.
+
+  $ printf 'add 0 app\ninfo 1 0 linking\n' | until_told linking prodash-live --plain 86400
+  $ timeless <told
+  [..] app started
+   app linking
+  [..] app ended after T
+
 Without the option, or with 0, messages alone are written, as before. On a terminal it has no effect.
 
   $ prodash-live <script
