@@ -1,22 +1,28 @@
 -- What is in memory of the keys of a frame: what the frame needs, and what is needed if it isn't kept.
-use Rattle.std.proofs.Common.{◌≡◌, ◌+◌, ◌-◌, ◌≤◌, Bool, true, false, cond, List, [], ◌∷◌, map, length, length-take, Option, Some, None, refl, ap, subst, ◌∙◌, arith, is_some}
+use Rattle.std.proofs.Common.{◌≡◌, ◌+◌, ◌-◌, ◌≤◌, Bool, true, false, cond, List, [], ◌∷◌, map, length, length-take, Option, Some, None, refl, sym, ap, subst, ◌∙◌, arith, is_some}
 use Rattle.std.specs.List.{AllZip, filter}
 use Rattle.std.specs.Option.{option_map}
-use Rattle.std.specs.Ordering.{is_eq}
+use Rattle.std.specs.Prelude.{T}
+use Rattle.std.specs.Ordering.{is_eq, is_lt}
+use Rattle.std.specs.Cmp.{Equal-is}
+use Rattle.std.specs.declared.cmp.Ordering.{Ordering}
+use Rattle.std.specs.declared.cmp.Ordering.TheVariants.{Less, Equal, Greater}
 use Rattle.std.specs.FinMap as finite
 use Rattle.std.specs.FinMap.{find, get, get-from_entries}
+use Rattle.std.specs.FinMap.Entries.{below_all}
 use Rattle.std.proofs.lemmas.Cmp.{nat_list_cmp_total}
 use Rattle.prodash_base.specs.Path.{Path, path_cmp}
 use Rattle.prodash_base.specs.Held.{Summary, Summaries, recent_in, AreFew}
 use Rattle.prodash_base.specs.plumbing.Summaries.{Summarize}
 use Rattle.prodash_base.specs.Trackers.{Observations}
 use Rattle.prodash_base.specs.plumbing.KeptSamples.{recent_of, summary_at, settled_of}
-use Rattle.prodash_base.specs.plumbing.KeptTables.{summary_of, entry_of, summaries_of, stored_of, stored_entry, stored, before_of, with_entry, entries_before, IsKept, IsTakenBack, IsCopy, KeepsBoth}
+use Rattle.prodash_base.specs.plumbing.KeptTables.{summary_of, entry_of, summaries_of, stored_of, stored_entry, stored, AreSorted, before_of, with_entry, entries_before, IsKept, IsTakenBack, IsCopy, KeepsBoth}
 use Rattle.prodash_base.specs.declared.throughput.kept.Kept.{Kept}
 use Rattle.prodash_base.specs.declared.throughput.totals.Totals.{Totals}
 use Rattle.prodash_base.proofs.KeptSamples.{length-settled}
-use Rattle.prodash_base.proofs.KeptTables.{summaries-filter, entries-cloned}
+use Rattle.prodash_base.proofs.KeptTables.{first, second, summaries-filter, entries-cloned}
 use Rattle.prodash_base.proofs.KeptBefore.{kept-entries, kept-before, taken-entries, taken-before, before-filter, cloned-before}
+use Rattle.prodash_base.proofs.PathMaps.{same_path}
 use Rattle.prodash_base.proofs.StoredSamples.{recent-stored}
 use Rattle.prodash_base.proofs.Summarizing.{few-held, same-held}
 
@@ -62,6 +68,16 @@ held-kept p kept listed new e z = ap finite.from_entries (kept-entries listed ne
 pub before-kept : (p : Path → Bool) (kept listed new : List Kept) → listed ≡ filter (λ k. p k.key) kept → AllZip (λ k l. IsKept k l) listed new → held_before new ≡ finite.retain_keys (summaries_of kept) p
 before-kept p kept listed new e z = ap finite.from_entries (kept-before listed new z) ∙ ap summaries_of e ∙ summaries-filter p kept
 
+-- those of a key that are needed if the frame isn't kept are in memory
+key-before : (k : Kept) (t : Totals) → length (recent_of t (settled_of k.settled k.settled_change k.samples.items)) ≤ length k.samples.items
+key-before k t =
+    omega (
+      arith,
+      length-settled k.settled k.settled_change k.samples.items k.sums_before.within,
+      length-take (length (settled_of k.settled k.settled_change k.samples.items) - t.older) (settled_of k.settled k.settled_change k.samples.items),
+      k.sums_before.within,
+    )
+
 -- the samples of a key are needed by the frame, or if it isn't kept
 key-within : (k : Kept) (t : Totals) → k.before ≡ Some t
     → length k.samples.items ≤ length (recent_of k.latest k.samples.items) + length (recent_of t (settled_of k.settled k.settled_change k.samples.items))
@@ -105,5 +121,77 @@ all-needed kept key =
       stored-within kept key,
       ap (λ o. length (recent_in o)) (get-from_entries nat_list_cmp_total (map stored_entry kept) key),
       ap (λ o. length (recent_in o)) (get-from_entries nat_list_cmp_total (map entry_of kept) key),
+      ap (λ o. length (recent_in o)) (get-from_entries nat_list_cmp_total (entries_before kept) key),
+    )
+
+-- of a key what the frame needs is in memory
+frame-stored : (kept : List Kept) (key : Path) → length (recent_in (find path_cmp key (map entry_of kept))) ≤ length (recent_in (find path_cmp key (map stored_entry kept)))
+frame-stored [] key = omega arith
+frame-stored (k ∷ kept) key =
+    elim (is_eq (path_cmp key k.key)) as (λ b. length (recent_in (cond b (Some (summary_of k)) (find path_cmp key (map entry_of kept))))
+    ≤ length (recent_in (cond b (Some (stored_of k)) (find path_cmp key (map stored_entry kept))))) [
+      | true ↦ omega (arith, length-take (length k.samples.items - k.latest.older) k.samples.items)
+      | false ↦ frame-stored kept key
+    ]
+
+same_key : (k : Kept) (key : Path) → is_eq (path_cmp key k.key) ≡ true → k.key ≡ key
+same_key k key e = sym (same_path key k.key ((Equal-is (path_cmp key k.key)).0 e))
+
+less-differs : (o : Ordering) → T (is_lt o) → is_eq o ≡ false
+less-differs Less h = refl
+less-differs Equal h = absurd h
+less-differs Greater h = absurd h
+
+-- a key below all others is none of them
+none-below : (key : Path) (kept : List Kept) → T (below_all path_cmp key (map entry_of kept)) → find path_cmp key (entries_before kept) ≡ None
+none-below key [] h = refl
+none-below key (k ∷ kept) h =
+    elim (before_of k) as (λ o. find path_cmp key (with_entry k.key o (entries_before kept)) ≡ None) [
+      | None ↦ none-below key kept (second (is_lt (path_cmp key k.key)) _ h)
+      | Some s ↦
+          ap (λ b. cond b (Some s) (find path_cmp key (entries_before kept))) (less-differs (path_cmp key k.key) (first _ _ h))
+          ∙ none-below key kept (second (is_lt (path_cmp key k.key)) _ h)
+    ]
+
+only-first : (k : Kept) (kept : List Kept) (key : Path) → AreSorted (k ∷ kept) → is_eq (path_cmp key k.key) ≡ true → find path_cmp key (entries_before kept) ≡ None
+only-first k kept key r e = none-below key kept (subst (λ q. T (below_all path_cmp q (map entry_of kept))) (same_key k key e) (first _ _ r))
+
+-- and so is what is needed if the frame isn't kept
+before-stored : (kept : List Kept) (key : Path) → AreSorted kept
+    → length (recent_in (find path_cmp key (entries_before kept))) ≤ length (recent_in (find path_cmp key (map stored_entry kept)))
+before-stored [] key r = omega arith
+before-stored (k ∷ kept) key r =
+    let others = before-stored kept key (second (below_all path_cmp k.key (map entry_of kept)) _ r) in
+    elim k.before as (λ b. length (recent_in (find path_cmp key (with_entry k.key (before_by k b) (entries_before kept))))
+    ≤ length (recent_in (find path_cmp key (map stored_entry (k ∷ kept))))) [
+      | None ↦
+          elim (is_eq (path_cmp key k.key)) as (λ b. is_eq (path_cmp key k.key) ≡ b → length (recent_in (find path_cmp key (entries_before kept)))
+          ≤ length (recent_in (cond b (Some (stored_of k)) (find path_cmp key (map stored_entry kept))))) [
+            | true ↦ λ e. omega (arith, ap (λ o. length (recent_in o)) (only-first k kept key r e))
+            | false ↦ λ e. others
+          ] refl
+      | Some t ↦
+          elim (is_eq (path_cmp key k.key)) as (λ b. length (recent_in (cond b (Some (summary_at t (settled_of k.settled k.settled_change k.samples.items))) (find path_cmp key (entries_before kept))))
+          ≤ length (recent_in (cond b (Some (stored_of k)) (find path_cmp key (map stored_entry kept))))) [
+            | true ↦ key-before k t
+            | false ↦ others
+          ]
+    ]
+
+pub frame-needed : (kept : List Kept) (key : Path) → length (recent_in (get (summaries_of kept) key)) ≤ length (recent_in (get (stored kept) key))
+frame-needed kept key =
+    omega (
+      arith,
+      frame-stored kept key,
+      ap (λ o. length (recent_in o)) (get-from_entries nat_list_cmp_total (map stored_entry kept) key),
+      ap (λ o. length (recent_in o)) (get-from_entries nat_list_cmp_total (map entry_of kept) key),
+    )
+
+pub before-needed : (kept : List Kept) (key : Path) → AreSorted kept → length (recent_in (get (held_before kept) key)) ≤ length (recent_in (get (stored kept) key))
+before-needed kept key r =
+    omega (
+      arith,
+      before-stored kept key r,
+      ap (λ o. length (recent_in o)) (get-from_entries nat_list_cmp_total (map stored_entry kept) key),
       ap (λ o. length (recent_in o)) (get-from_entries nat_list_cmp_total (entries_before kept) key),
     )

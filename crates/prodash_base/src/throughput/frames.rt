@@ -162,7 +162,9 @@ impl FrameThroughput {
     /// Returns how many samples of a key are held in memory: those that the frame needs, and those
     /// that are needed if it isn't kept. A sample that both need counts once.
     pub fn kept_samples(&self, key: &Key) -> usize
-        ensures { result ≤ length (held_samples self.now.pending key.now)
+        ensures frame { length (held_samples self.now.pending key.now) ≤ result }
+        ensures before { length (held_samples self.now.kept key.now) ≤ result }
+        ensures most { result ≤ length (held_samples self.now.pending key.now)
             + length (held_samples self.now.kept key.now) }
     {
         kept_samples(&self.kept, key)
