@@ -129,7 +129,7 @@ class Command:
         # descriptors that take the place of others
         self.words, self.moves = words, []
         # signals that are blocked, and those that have their default action
-        self.mask, self.reset = (), defaults()
+        self.mask, self.reset = signals.pthread_sigmask(signals.SIG_BLOCK, ()), defaults()
 
     def keep(self):
         """Keeps descriptors that are in their place already."""
@@ -137,15 +137,34 @@ class Command:
             if fd == at:
                 os.set_inheritable(fd, True)
 
+    def came(self):
+        """Returns the signals that have come and wait here. One that stops may go on waiting."""
+        return signals.sigpending() - {*self.mask, signals.SIGTSTP}
+
+    def end_early(self):
+        """Ends this process by a signal that has come before the command."""
+        for it in self.came():
+            end_as(it)
+
+    def tell(self, pid):
+        """Sends its process the signals that have come since.
+
+        If it got them with the group, it ends by one or the other: its program has just begun.
+        """
+        for it in self.came():
+            os.kill(pid, it)
+
     def start(self):
         """Starts it. Returns its process, or None and the status that it ended with at once."""
         self.keep()
         actions = [(os.POSIX_SPAWN_DUP2, fd, at) for fd, at in self.moves]
         how = {"file_actions": actions, "setsigmask": self.mask, "setsigdef": self.reset}
         try:
-            return os.posix_spawnp(self.words[0], self.words, os.environ, **how), None
+            pid = os.posix_spawnp(self.words[0], self.words, os.environ, **how)
         except OSError as error:
             return None, self.refused(error) << 8
+        self.tell(pid)
+        return pid, None
 
     def become(self):
         """Runs it in place of this process, or returns an exit status."""

@@ -13,7 +13,6 @@ goes on. If the window is closed, SIGHUP ends no input.
 """
 import _signal as signals
 import os
-import select
 
 import job
 import relay
@@ -74,7 +73,7 @@ class Live(Relay):
         """Takes the lines that are there already, and no more. The second time nothing is."""
         if self.is_ended:
             self.is_hurried = True
-        elif self.events is not None and select.select([self.events], [], [], 0)[0]:
+        elif self.events is not None and relay.has_input(self.events):
             self.read_events()
         self.display.drop_rest()
         self.events, self.is_ended = None, True

@@ -99,7 +99,8 @@ class Relay:
         # what has the lines; None once nobody writes there
         self.events = None
         self.woken, self.wakes = os.pipe()
-        os.set_blocking(self.wakes, False)
+        for it in (self.woken, self.wakes):
+            os.set_blocking(it, False)
         # whether nothing is awaited any more
         self.is_hurried = False
         # how long this or the terminal was stopped, which counts nowhere
@@ -202,7 +203,14 @@ class Relay:
     def hear_all(self, ready):
         """Handles the signals that have come."""
         if self.woken in ready:
-            self.hear(os.read(self.woken, READ))
+            self.hear(self.came())
+
+    def came(self):
+        """Returns the numbers of the signals that have come."""
+        try:
+            return os.read(self.woken, READ)
+        except BlockingIOError:
+            return b""
 
     def flush(self, ready):
         """Writes what is left of frames, if there is room."""
@@ -235,12 +243,15 @@ class Relay:
         self.paint(self.screen.erase())
         self.terminal.finish(SHORT)
         before, begun = signals.signal(signals.SIGTSTP, signals.SIG_DFL), time.monotonic()
+        # another Ctrl-Z that came meanwhile is the same stop
+        came = self.came().replace(bytes([signals.SIGTSTP]), b"")
         self.suspend()
         signals.signal(signals.SIGTSTP, before)
         self.stopped += time.monotonic() - begun
         self.screen.is_shown = False
         self.resize()
         self.look()
+        self.hear(came)
 
     def suspend(self):
         """Stops this process. The others of the group were sent the signal as well."""
@@ -293,6 +304,11 @@ class Relay:
             self.watch()
         if self.display.is_alive():
             self.display.give_up("the display was not awaited", signals.SIGKILL)
+
+
+def has_input(fd):
+    """Returns whether there is anything to read, or the end."""
+    return bool(select.select([fd], [], [], 0)[0])
 
 
 def text_of(error):

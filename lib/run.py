@@ -49,18 +49,22 @@ class Rest:
     """What was read of a descriptor since the job has ended."""
 
     def __init__(self):
-        self.heard, self.size = 0, 0
+        self.heard = self.size = self.until = 0
 
-    def add(self, size, now, has_ended):
+    def end(self, now):
+        """Notes that the job has ended."""
+        self.heard, self.size, self.until = now, 0, now + STUCK
+
+    def add(self, size, now):
         """Notes how much was read."""
-        self.heard, self.size = now, self.size + size * has_ended
+        self.heard, self.size = now, self.size + size
 
     def is_over(self, now, is_taken):
         """Returns whether what comes is of others.
 
-        A pipe has no more, or nothing came although all was taken that did.
+        A pipe has no more, or all is taken that came and nothing does, or they write on and on.
         """
-        return self.size >= READ or is_taken and now > self.heard + QUIET
+        return self.size >= READ or is_taken and now > min(self.heard + QUIET, self.until)
 
 
 class Signal:
@@ -139,14 +143,14 @@ class Run(Relay):
             self.output = None
         output = b"".join(read)
         if output:
-            self.output_rest.add(len(output), self.clock(), self.status is not None)
+            self.output_rest.add(len(output), self.clock())
             self.paint(self.screen.put(output))
 
     def read_events(self):
         """Passes on lines to the display."""
         size = super().read_events()
         if size:
-            self.events_rest.add(size, self.clock(), self.status is not None)
+            self.events_rest.add(size, self.clock())
 
     def open_output(self, streams, kind):
         """Opens what the job writes to in place of these streams, and returns the job's end."""
@@ -243,7 +247,7 @@ class Run(Relay):
         """Notes how the job has ended."""
         self.status, self.ended = status, time.monotonic()
         for it in (self.output_rest, self.events_rest):
-            it.add(0, self.clock(), True)
+            it.end(self.clock())
 
     def has_answer(self, answer):
         """Returns whether the sentinel has told what it got, or there is none."""
@@ -295,8 +299,6 @@ class Run(Relay):
         """Stops without rows, and goes on with them."""
         self.drain()
         super().stop()
-        # those that came before it went on have no effect any more
-        self.own = [it for it in self.own if it.number != signals.SIGTSTP]
 
     def suspend(self):
         """Stops this process. The job was sent the signal as well."""
@@ -317,7 +319,10 @@ class Run(Relay):
             return self.is_hurried
         now, output = self.clock(), (self.output, self.output_rest, self.terminal.left)
         rests = output, (self.events, self.events_rest, self.display.lines)
-        return all(fd is None or rest.is_over(now, not left) for fd, rest, left in rests)
+        return all(
+            fd is None or rest.is_over(now, not (left or relay.has_input(fd)))
+            for fd, rest, left in rests
+        )
 
     def end(self):
         """Ends the display, and leaves the terminal to others. Returns how the job ended."""
@@ -398,11 +403,10 @@ def start(run, command, streams, digit, kind):
     if digit:
         command.moves.append((writes, digit))
         os.environ.update(PRODASH_FD=str(digit), PRODASH_FD_ID=job.identity(run.events))
-    passed = job.handled()
-    mask = command.mask = signals.pthread_sigmask(signals.SIG_BLOCK, passed)
-    run.handle((*passed, signals.SIGCHLD, signals.SIGWINCH))
+    run.handle((*job.handled(), signals.SIGCHLD, signals.SIGWINCH))
+    command.end_early()
     run.start(command, theirs)
-    signals.pthread_sigmask(signals.SIG_SETMASK, mask)
+    signals.pthread_sigmask(signals.SIG_SETMASK, command.mask)
     for it in (theirs, writes):
         if it is not None:
             os.close(it)
@@ -433,6 +437,7 @@ def report(run, status):
 
 def wrap(program, options, command):
     """Starts the display, and the job unless the options are wrong."""
+    signals.pthread_sigmask(signals.SIG_BLOCK, job.handled())
     digit, stream = job.free_digit(), stream_to_draw_on(options)
     kinds = [it for it in options if it in KINDS and stream is not None]
     kind = kinds[-1] if kinds else TERMINAL

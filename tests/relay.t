@@ -119,6 +119,23 @@ One that takes lines slowly isn't stuck, and one that takes none is given up in 
   137
   $ [ $(($(date +%s) - begun)) -lt 10 ]
 
+All lines of a job that has ended are for the display, however long it takes to take them.
+
+  $ cat >late <<'.'
+  > #!/usr/bin/env python3
+  > import os, time
+  > os.write(1, b"\0")
+  > size = 0
+  > while more := len(os.read(0, 65536)):
+  >     size += more
+  >     time.sleep(0.4)
+  > os.write(1, b"%d bytes\n\0" % size)
+  > .
+  $ chmod +x late
+  $ yes 'print line four' | head -n 20000 >lines.txt
+  $ python3 -c 'import run; run.main("./late", ["sh", "-c", "cat lines.txt >&$PRODASH_FD"])'
+  320000 bytes
+
 Nor is one that had nothing to take for as long, at a new size of the terminal.
 
   $ cat >rests <<'.'
@@ -316,7 +333,7 @@ has columns: from a carriage return on, if there is one.
   4096
   b'\r##\r' True
 
-Keys that the job doesn't read yet wait, and none is lost.
+Keys that the job doesn't read yet wait, and none is lost. A terminal that is gone has none.
 
   $ cat >typed.py <<'.'
   > import os, threading, tty
@@ -336,15 +353,110 @@ Keys that the job doesn't read yet wait, and none is lost.
   >     size += len(os.read(theirs, 65536))
   >     keys.write()
   > print(len(keys.left))
+  > keys.stream, keys.left = ours, b"k"
+  > os.set_blocking(ours, True)
+  > keys.hold()
+  > os.close(theirs)
+  > keys.read()
+  > print(keys.left, keys.is_held())
   > .
   $ python3 typed.py
   wait
   0
+  b'' False
 
-Before there is a job, SIGINT ends `prodash run` without a word.
+Signals at the start
+====================
 
-  $ mkfifo unread
-  $ env --default-signal=INT prodash-run --record unread -- echo begins 2>said &
+Before there is a job, SIGINT ends `prodash run` without a word, and it leaves no display that waits for
+who reads the recording.
+
+  $ mkfifo nobody.$$
+  $ env --default-signal=INT prodash-run --record nobody.$$ -- echo begins 2>said &
   $ until pgrep -P $! prodash-live >/dev/null; do :; done; kill -INT $!; wait $!
   [130]
-  $ cat said
+  $ cat said; pgrep -f "record nobody.$$"
+  [1]
+
+So does one that comes as the display has begun, unless it is ignored or blocked. Ctrl-Z stops the job.
+
+  $ cat >early.py <<'.'
+  > import os, signal, sys
+  > import run
+  > begin = run.begin
+  > def begun(*words):
+  >     made = begin(*words)
+  >     os.kill(os.getpid(), signal.Signals[sys.argv[1]])
+  >     return made
+  > start = run.Run.start
+  > def starts(*words):
+  >     print("starts", flush=True)
+  >     start(*words)
+  > run.begin, run.Run.start = begun, starts
+  > run.main("prodash-live", sys.argv[2:])
+  > .
+  $ python3 early.py SIGTERM echo begins
+  Terminated
+  [143]
+  $ (trap '' TERM; exec python3 early.py SIGTERM --plain=0 --no-summary echo begins)
+  starts
+  begins
+  $ env --block-signal=TERM python3 early.py SIGTERM --plain=0 --no-summary echo begins
+  starts
+  begins
+  $ { echo 'run python3 early.py SIGTSTP --no-color sh one'; cat <<'.'; } | on-terminal 40 8
+  > stopped
+  > fg
+  > tell go
+  > ended
+  > .
+  stopped
+  status 0
+
+One for the whole group that comes when the job isn't yet in that reaches it, too.
+
+  $ cat >grouped.py <<'.'
+  > import os, signal, sys
+  > import run
+  > spawn = os.posix_spawnp
+  > def spawns(path, *words, **how):
+  >     if path == "sleep":
+  >         os.killpg(0, signal.SIGTERM)
+  >     return spawn(path, *words, **how)
+  > os.posix_spawnp = spawns
+  > run.main("prodash-live", sys.argv[1:])
+  > .
+  $ printf 'run python3 grouped.py sleep 60\nended\n' | on-terminal 40 8
+  signal SIGTERM
+
+One that comes before the job is run in its process waits until then, and so does one for the process
+that watches those of the group.
+
+  $ cat >forked.py <<'.'
+  > import os, signal, sys
+  > import run, session
+  > begin_job = session.begin_job
+  > def begins(*words):
+  >     os.kill(os.getpid(), signal.SIGTERM)
+  >     begin_job(*words)
+  > session.begin_job = begins
+  > run.main("prodash-live", sys.argv[1:])
+  > .
+  $ printf 'run python3 forked.py --pty echo begins\nended\n' | on-terminal 40 8
+  signal SIGTERM
+  $ cat >watched.py <<'.'
+  > import os, signal
+  > import job
+  > signal.signal(signal.SIGTERM, lambda *_: None)
+  > watch = job.watch
+  > def watches(*words):
+  >     os.kill(os.getpid(), signal.SIGTERM)
+  >     watch(*words)
+  > job.watch = watches
+  > sentinel = job.Sentinel()
+  > sentinel.ask()
+  > print(os.read(sentinel.told, 1)[0])
+  > sentinel.end()
+  > .
+  $ python3 watched.py
+  15

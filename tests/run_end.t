@@ -152,6 +152,23 @@ on.
   from the child
   $ until grep -qs alive file; do :; done; rm file
 
+That is so at once, and not only when those that write on are left.
+
+  $ cat >quiet.py <<'.'
+  > import os, sys
+  > sys.dont_write_bytecode = True
+  > sys.path.insert(0, os.path.realpath(sys.argv[1] + "/../../lib"))
+  > import run
+  > run.STUCK = 50
+  > run.main("prodash-live", sys.argv[2:])
+  > .
+  $ scripts=$(dirname "$(readlink -f "$(command -v prodash-run)")")
+  $ { echo "run python3 quiet.py $scripts sh leaves"; echo "$until_alive"; } | on-terminal 40 8
+  status 0
+  from the job
+  from the child
+  $ until grep -qs alive file; do :; done; rm file
+
 Nor is it ended by a Ctrl-C for what runs after the job.
 
   $ mkfifo never
@@ -169,22 +186,26 @@ Nor is it ended by a Ctrl-C for what runs after the job.
   signal SIGINT
   $ until grep -qs alive file; do :; done; rm file
 
-One that writes without a pause is not waited for either.
+One that writes without a pause is not waited for either, nor one that writes now and then.
 
   $ cat >endless <<'.'
   > yes '#' >&$PRODASH_FD & echo $! >pid
   > .
-  $ for kind in -- '--no-pty --' '--pty --'; do
-  >   { echo "run prodash-run --no-color $kind sh endless"; printf 'ended\nscreen\n'; } |
-  >     on-terminal 40 8
-  >   kill $(cat pid)
+  $ cat >slow <<'.'
+  > while printf x; do sleep 0.02; done & echo $! >pid
+  > .
+  $ for job in endless slow; do
+  >   for kind in -- '--no-pty --' '--pty --'; do
+  >     { echo "run prodash-run --no-color $kind sh $job"; echo ended; } | on-terminal 80 8
+  >     kill $(cat pid)
+  >   done
   > done
   status 0
-  
   status 0
-  
   status 0
-  
+  status 0
+  status 0
+  status 0
 
 Each signal reaches the job exactly once, whether it is sent to its group or to `prodash run` alone.
 `counts` counts them until SIGUSR2. Between two of a kind for the group is one for `prodash run`: two
@@ -224,12 +245,14 @@ that wait at a time would be one.
   > one USR2
   > ended
   > .
+  $ begun=$(date +%s)
   $ for kind in -- '--no-pty --' '--pty --'; do
   >   { echo "run prodash-run $kind python3 counts"; cat signals; } | on-terminal 40 12
   > done
   status 0
   status 0
   status 0
+  $ [ $(($(date +%s) - begun)) -lt 20 ]
 
 Two for the group stay two, also if the process that watches the signals of the group gets them at a
 time, which are one then.

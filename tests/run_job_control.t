@@ -81,6 +81,37 @@ Ctrl-Z stops the job without rows, and `fg` has it go on with them. The keys are
   ^Ztwo
   same modes
 
+A second Ctrl-Z before it has stopped is one with the first, and another signal has its effect later.
+
+  $ cat >twice.py <<'.'
+  > import os, signal, sys
+  > sys.dont_write_bytecode = True
+  > sys.path.insert(0, os.path.realpath(sys.argv[1] + "/../../lib"))
+  > import run
+  > def drain(_):
+  >     for it in (signal.SIGTSTP, signal.SIGUSR1):
+  >         os.kill(os.getpid(), it)
+  > run.Run.drain = drain
+  > run.main("prodash-live", sys.argv[2:])
+  > .
+  $ cat >traps <<'.'
+  > trap 'echo got it' USR1
+  > . ./job
+  > until read _ <&3; do :; done
+  > .
+  $ scripts=$(dirname "$(readlink -f "$(command -v prodash-run)")")
+  $ { echo "run python3 twice.py $scripts --no-color -- sh traps"; cat <<'.'; } | on-terminal 40 8
+  > until 3/10
+  > keys \x1a
+  > stopped
+  > fg
+  > until got it
+  > tell go
+  > ended
+  > .
+  stopped
+  status 0
+
 What the job writes as it stops is there.
 
   $ cat >says <<'.'

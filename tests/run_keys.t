@@ -189,6 +189,22 @@ The modes of the user's terminal are given back also if it doesn't set its own b
   status 1
   same modes
 
+So they are at a signal behind the end of a job that has left a child.
+
+  $ cat >child <<'.'
+  > stty -icanon <&1; echo one
+  > (while kill -0 $$; do :; done; echo >over; while printf x; do sleep 0.1; done) 2>/dev/null &
+  > .
+  $ { echo 'run prodash-run -- sh child'; cat <<'.'; } | on-terminal 40 8
+  > until one
+  > raw
+  > file over
+  > end TERM
+  > modes
+  > .
+  status 0
+  same modes
+
 On a terminal without rows they are the job's, too.
 
   $ { echo "run env TERM=dumb prodash-run --pty -- sh -c 'read line; echo read \$line'"; cat <<'.'; } |

@@ -126,6 +126,12 @@ a pager has behind that pipe.
   status 0
   same modes
 
+Nor does a program have the keys of what is no terminal, on which rows may be drawn all the same.
+
+  $ prodash-run --no-color --terminal always -- sh writes 2>frames | cat &
+  $ until grep -qs 3/10 frames; do :; done; echo >go; wait $!
+  out
+
 On a terminal without rows there are messages alone.
 
   $ for how in 'TERM=dumb prodash-run' '-u TERM prodash-run' 'TERM= prodash-run --pty' \
