@@ -11,6 +11,7 @@ import difflib
 import os
 import re
 import select
+import shutil
 import signal
 import subprocess
 import tempfile
@@ -114,9 +115,10 @@ def run(commands, programs, **variables):
     """
     mark = f"end-of-command-{os.urandom(8).hex()}"
     end = re.compile(rb"%s (\d+)\n" % mark.encode())
-    # what was stopped may still write there
-    how = {"prefix": "transcripts-", "ignore_cleanup_errors": True}
-    with tempfile.TemporaryDirectory(**how) as room:
+    with contextlib.ExitStack() as at_end:
+        room = tempfile.mkdtemp(prefix="transcripts-")
+        # what was stopped may still write there
+        at_end.callback(shutil.rmtree, room, ignore_errors=True)
         for folder in ("bin", "work"):
             os.mkdir(f"{room}/{folder}")
         for name, path in {**programs, **SCRIPTS}.items():
