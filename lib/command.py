@@ -73,7 +73,8 @@ def say_library(words, folder):
 def main(words, program, scripts, libraries):
     """Runs a command. `program` returns the path of a program, or None if there is none.
 
-    It is that of prodash-live, unless another one is named. The other commands are the scripts at these paths. The libraries for scripts are in a folder.
+    It is that of prodash-live, unless another one is named. The other commands are the scripts at
+    these paths. The libraries for scripts are in a folder.
     """
     name, *rest = words or ["help"]
     if name == "run":

@@ -57,6 +57,7 @@ A script waits for an output that nobody reads, and a second SIGTERM ends what w
   > .
   $ exec 4<>out
   $ python3 writes.py 2>said | live --stdout >out &
+  $ until pgrep -P $! prodash-live >/dev/null; do sleep 0.05; done
   $ until [ -s said ]; do sleep 0.05; done; cat said; rm said
   waits
   $ while ps -o stat= -p $! | grep -q '^[^Z]'; do kill -TERM $! 2>/dev/null; sleep 0.05; done

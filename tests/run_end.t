@@ -245,14 +245,27 @@ that wait at a time would be one.
   > one USR2
   > ended
   > .
-  $ begun=$(date +%s)
   $ for kind in -- '--no-pty --' '--pty --'; do
   >   { echo "run prodash-run $kind python3 counts"; cat signals; } | on-terminal 40 12
   > done
   status 0
   status 0
   status 0
-  $ [ $(($(date +%s) - begun)) -lt 20 ]
+
+One for `prodash run` alone reaches the job soon.
+
+  $ cat >alone <<'.'
+  > import os, signal, time
+  > signal.pthread_sigmask(signal.SIG_BLOCK, [signal.SIGUSR1])
+  > def took():
+  >     begun = time.monotonic()
+  >     os.kill(os.getppid(), signal.SIGUSR1)
+  >     signal.sigwait([signal.SIGUSR1])
+  >     return time.monotonic() - begun
+  > print("soon" if min(took() for _ in range(9)) < 1 else "late")
+  > .
+  $ prodash-run --plain=0 --no-summary -- python3 alone
+  soon
 
 Two for the group stay two, also if the process that watches the signals of the group gets them at a
 time, which are one then.
