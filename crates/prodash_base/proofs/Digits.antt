@@ -1,5 +1,7 @@
 -- Digits after a decimal point.
-use Rattle.std.proofs.Common.{◌≡◌, ℕ, zero, suc, ◌+◌, ◌-◌, ◌/◌, ◌%◌, ◌<◌, List, [], ◌∷◌, ◌++◌, refl, sym, ap, ◌∙◌, arith, append-nil, false}
+use Rattle.std.proofs.Common.{◌≡◌, ℕ, zero, suc, ◌+◌, ◌-◌, ◌/◌, ◌%◌, ◌<◌, ◌≤◌, List, [], ◌∷◌, ◌++◌, refl, sym, ap, ◌∙◌, arith, append-nil, false}
+use Rattle.std.proofs.lemmas.Fmt.{decimal_digit, decimal_step}
+use Rattle.std.specs.Fmt.{decimal}
 use Rattle.std.specs.Prelude.{nat_eq}
 use Rattle.prodash_base.specs.Numerals.{last_digits, digit_before, without_zeros, after_point}
 
@@ -18,6 +20,16 @@ pub last_digits-last : (places n : ℕ) → 0 < places → last_digits places n 
 unfolding last_digits
 last_digits-last zero n h = let no : ⊥ = omega arith in absurd no
 last_digits-last (suc places) n h = let e : suc places - 1 ≡ places = omega arith in rw e refl
+
+-- the digits of a number below 100
+pub last_digits-two : (n : ℕ) → n < 100 → last_digits 2 n ≡ (48 + n / 10) ∷ (48 + n % 10) ∷ []
+unfolding last_digits
+last_digits-two n h = let e : n / 10 % 10 ≡ n / 10 = omega arith in ap (λ d. (48 + d) ∷ (48 + n % 10) ∷ []) e
+
+-- a number of two digits
+pub decimal_two : (n : ℕ) → 10 ≤ n → n < 100 → last_digits 2 n ≡ decimal n
+decimal_two n low high =
+    last_digits-two n high ∙ ap (λ t. t ++ (48 + n % 10) ∷ []) (sym (decimal_digit (n / 10) (omega arith))) ∙ sym (decimal_step n low (omega arith))
 
 after_point-end : (ds : List ℕ) (d : ℕ) → after_point (ds ++ d ∷ []) ≡ 46 ∷ (ds ++ d ∷ [])
 after_point-end [] d = refl

@@ -1,18 +1,18 @@
 -- A list sorted by path of what is known of tasks, and the place of a path in it.
-use Rattle.std.proofs.Common.{◌≡◌, ℕ, zero, suc, ◌+◌, ◌<◌, ◌≤◌, Bool, true, false, cond, List, [], ◌∷◌, length, get_or, Some, None, refl, sym, ap, subst, ◌∙◌, arith, ◌&&◌}
+use Rattle.std.proofs.Common.{◌≡◌, ℕ, zero, suc, ◌+◌, ◌-◌, ◌++◌, ◌<◌, ◌≤◌, true, false, cond, [], ◌∷◌, length, get_or, Some, None, refl, sym, ap, subst, ◌∙◌, arith}
 use Rattle.std.specs.Prelude.{T, insert, slice_set, Result, Ok, Err, IfOk, IfErr}
 use Rattle.std.specs.List.{AllWithin}
-use Rattle.std.specs.List.Sorted.{IsNonDecreasingBy, IsPartitionPoint, IsBinarySearchResult, IsSearchInRange}
-use Rattle.std.specs.Ordering.{is_eq, is_lt, ordering_index, ordering_reverse}
+use Rattle.std.specs.List.Sorted.{IsNonDecreasingBy, IsBinarySearchResult, IsSearchInRange}
+use Rattle.std.specs.Ordering.{is_eq, is_lt, ordering_index}
 use Rattle.std.specs.declared.cmp.Ordering.{Ordering}
 use Rattle.std.specs.declared.cmp.Ordering.TheVariants.{Less, Equal, Greater}
-use Rattle.std.specs.FinMap.{find, put, is_sorted}
+use Rattle.std.specs.FinMap.{find, put}
 use Rattle.std.specs.FinMap.Entries.{by_order, below_all, is_sorted-put}
-use Rattle.std.proofs.lemmas.Cmp.{nat_list_cmp_total, tied_itself}
+use Rattle.std.proofs.lemmas.Cmp.{nat_list_cmp_total}
 use Rattle.std.proofs.lemmas.List.Sorted.{searchable_from_sorted}
 use Rattle.prodash_base.specs.Path.{Path, path_cmp}
 use Rattle.prodash_base.specs.Timers.{Timing, Timings}
-use Rattle.prodash_base.specs.plumbing.TimedTables.{AreSorted, IsAt, IsNewAt}
+use Rattle.prodash_base.specs.plumbing.TimedTables.{AreSorted, IsAt, IsNewAt, is_past_last}
 use Rattle.prodash_base.proofs.BranchLaws.{turned}
 use Rattle.prodash_base.proofs.PathMaps.{same_path}
 use Rattle.prodash_base.proofs.KeptTables.{is_less, first, second, same, turned_back}
@@ -115,6 +115,32 @@ put_known es index x r at = put_over es index x.0 x.1 x (less_before es index x 
 -- the list after an insertion at the place of a new path
 pub put_first : (es : Timings) (index : ℕ) (x : Entry) → IsNewAt es x.0 index → insert es index x ≡ put path_cmp x.0 x.1 es
 put_first es index x new = put_new es index x.0 x.1 x new.place.0 (is_before es x.0 index x new) new.within
+
+-- whether a path is greater than the last one, by its index
+pub past_last : (es : Timings) (path : Path) (d : Entry) → 0 < length es → is_lt (path_cmp (get_or es (length es - 1) d).0 path) ≡ is_past_last es path
+past_last [] path d l = absurd (omega arith)
+past_last (y ∷ []) path d l = refl
+past_last (y ∷ z ∷ es) path d l =
+    ap (λ i. is_lt (path_cmp (get_or (y ∷ z ∷ es) i d).0 path)) (let next : length (y ∷ z ∷ es) - 1 ≡ suc (length (z ∷ es) - 1) = omega arith in next)
+    ∙ past_last (z ∷ es) path d (omega arith)
+
+-- a path that is greater than the last one is greater than all
+above_all : (y : Entry) (es : Timings) (path : Path) → AreSorted (y ∷ es) → is_past_last (y ∷ es) path ≡ true → path_cmp y.0 path ≡ Less
+above_all y [] path r h = is_less _ (subst T (sym h) tt)
+above_all y (z ∷ es) path r h =
+    nat_list_cmp_total.trans y.0 z.0 path (above_first (z ∷ es) y.0 0 y (first _ _ r) (omega arith))
+    (above_all z es path (second (below_all path_cmp y.0 (z ∷ es)) _ r) h)
+
+past_others : (y : Entry) (es : Timings) (path : Path) → is_past_last (y ∷ es) path ≡ true → is_past_last es path ≡ true
+past_others y [] path h = refl
+past_others y (z ∷ es) path h = h
+
+-- an addition of a path that is greater than the last one
+pub put_last : (es : Timings) (path : Path) (t : Timing) → AreSorted es → is_past_last es path ≡ true → es ++ (path, t) ∷ [] ≡ put path_cmp path t es
+put_last [] path t r h = refl
+put_last (y ∷ es) path t r h =
+    ap (λ xs. y ∷ xs) (put_last es path t (second (below_all path_cmp y.0 es) _ r) (past_others y es path h))
+    ∙ sym (by_first y es path t Greater (turned y.0 path (above_all y es path r h)))
 
 ascends : (es : Timings) (k : ℕ) (d : Entry) → AreSorted es → suc k < length es → path_cmp (get_or es k d).0 (get_or es (suc k) d).0 ≡ Less
 ascends [] k d r l = absurd (omega arith)

@@ -31,6 +31,7 @@ pub(crate) fn undo_if_refused(
 }
 
 /// Appends a text.
+#[inline(always)]
 pub(crate) fn push_text(out: &mut String, text: &str) -> Result<(), AllocError>
     ensures { Pushes result out.old text.now out.new }
 {
@@ -38,6 +39,7 @@ pub(crate) fn push_text(out: &mut String, text: &str) -> Result<(), AllocError>
 }
 
 /// Appends an ASCII character.
+#[inline(always)]
 pub(crate) fn push_ascii(out: &mut String, byte: u8) -> Result<(), AllocError>
     requires { byte < 128 }
     ensures { Pushes result out.old (byte ∷ []) out.new }
@@ -59,6 +61,28 @@ pub(crate) fn append_decimal(out: &mut String, n: u128) -> Result<(), AllocError
     ensures err { OnErr result (string_bytes out.new ≡ string_bytes out.old) }
 {
     out.push_str(Buffer::new().format(n))
+}
+
+/// Appends a number below 100 in decimal digits.
+#[inline(always)]
+pub(crate) fn push_below_100(out: &mut String, n: u64) -> Result<(), AllocError>
+    requires { n < 100 }
+    ensures { Pushes result out.old (decimal n) out.new }
+{
+    if n >= 10 {
+        return push_two_digits(out, n);
+    }
+    push_ascii(out, b'0' + n as u8)
+}
+
+/// Appends the two digits of a number below 100, the first of which may be a zero.
+#[inline(always)]
+pub(crate) fn push_two_digits(out: &mut String, n: u64) -> Result<(), AllocError>
+    requires { n < 100 }
+    ensures { Pushes result out.old (last_digits 2 n) out.new }
+{
+    push_ascii(out, b'0' + (n / 10) as u8)?;
+    push_ascii(out, b'0' + (n % 10) as u8)
 }
 
 /// Appends the last digits of a number, with leading zeros if it has fewer than `places`.

@@ -1,10 +1,13 @@
 //! Lengths of time as texts, and how long work still takes.
-ghost use Rattle.std.specs.Prelude.{◌≡◌, ◌<◌, IfOk, OnOk, string_bytes};
+ghost use Rattle.std.specs.Prelude.{◌≡◌, ◌<◌, ◌∷◌, ◌++◌, [], IfOk, OnOk, string_bytes};
 ghost use Rattle.prodash_base.specs.Appending.{Appends};
+ghost use Rattle.prodash_base.specs.Numerals.{last_digits};
 ghost use Rattle.prodash_base.specs.plumbing.Pushing.{Pushes};
-ghost use Rattle.prodash_base.specs.Times.{in_parts, seconds_text, duration_text, hours_text, stopwatch_text, rounded_up, remaining_seconds, is_past, finished_at};
+ghost use Rattle.prodash_base.specs.Times.{seconds_text, duration_text, hours_text, stopwatch_text, rounded_up, remaining_seconds, is_past, finished_at};
 
-use crate::appending::{push_decimal, push_last_digits, push_text};
+use crate::appending::{
+    push_ascii, push_below_100, push_decimal, push_last_digits, push_text, push_two_digits,
+};
 use crate::progress::Step;
 use std::alloc::{AllocError, Global};
 
@@ -80,7 +83,11 @@ fn rounded_up(a: u128, b: u128) -> u128
     requires { 0 < b }
     ensures { result ≡ rounded_up a b }
 {
-    if a % b == 0 { a / b } else { a / b + 1 }
+    match (u64::try_from(a), u64::try_from(b)) {
+        // a division of 64 bits is much quicker than one of 128
+        (Ok(a), Ok(b)) => u128::from(a.div_ceil(b)),
+        _ => a.div_ceil(b),
+    }
 }
 
 /// Appends a number of seconds in its two largest units, rounded down.
@@ -88,31 +95,30 @@ pub(crate) fn push_seconds(out: &mut String, seconds: u64) -> Result<(), AllocEr
     ensures { Pushes result out.old (seconds_text seconds) out.new }
 {
     if seconds < 60 {
-        push_decimal(out, seconds)?;
-        push_text(out, "s")
+        push_below_100(out, seconds)?;
+        push_ascii(out, b's')
     } else if seconds < 3600 {
-        push_in_parts(out, seconds / 60, "m", seconds % 60, "s")
+        push_below_100(out, seconds / 60)?;
+        push_part(out, b'm', seconds % 60, b's')
     } else if seconds < 86400 {
-        push_in_parts(out, seconds / 3600, "h", seconds / 60 % 60, "m")
+        push_below_100(out, seconds / 3600)?;
+        push_part(out, b'h', seconds / 60 % 60, b'm')
     } else {
-        push_in_parts(out, seconds / 86400, "d", seconds / 3600 % 24, "h")
+        push_decimal(out, seconds / 86400)?;
+        push_part(out, b'd', seconds / 3600 % 24, b'h')
     }
 }
 
-/// Appends a number of a unit, and one below 100 of the next smaller unit in two digits.
-fn push_in_parts(
-    out: &mut String,
-    n: u64,
-    unit: &str,
-    m: u64,
-    smaller: &str,
-) -> Result<(), AllocError>
-    ensures { Pushes result out.old (in_parts n unit.now m smaller.now) out.new }
+/// Appends the letter of a unit, and a number of the next smaller unit in two digits with its letter.
+fn push_part(out: &mut String, unit: u8, n: u64, smaller: u8) -> Result<(), AllocError>
+    requires below { n < 100 }
+    requires unit { unit < 128 }
+    requires smaller { smaller < 128 }
+    ensures { Pushes result out.old (unit ∷ (last_digits 2 n ++ smaller ∷ [])) out.new }
 {
-    push_decimal(out, n)?;
-    push_text(out, unit)?;
-    push_last_digits(out, 2, u128::from(m))?;
-    push_text(out, smaller)
+    push_ascii(out, unit)?;
+    push_two_digits(out, n)?;
+    push_ascii(out, smaller)
 }
 
 /// Appends a number of nanoseconds, rounded down: below ten seconds with tenths.

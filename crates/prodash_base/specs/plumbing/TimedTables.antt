@@ -1,5 +1,6 @@
 -- A sorted list of what is known of tasks.
-use Rattle.std.specs.Prelude.{◌≡◌, ℕ, T, ◌<◌, ◌≤◌, List, length, slice_index_or}
+use Rattle.std.specs.Prelude.{◌≡◌, ℕ, T, ◌<◌, ◌≤◌, Bool, true, [], ◌∷◌, length, slice_index_or}
+use Rattle.std.specs.Ordering.{is_lt}
 use Rattle.std.specs.List.Sorted.{IsPartitionPoint}
 use Rattle.std.specs.Option.{option_map}
 use Rattle.std.specs.declared.cmp.Ordering.TheVariants.{Less, Greater}
@@ -12,6 +13,12 @@ use Rattle.prodash_base.specs.declared.progress.Row.{Row}
 -- the paths strictly ascend
 abbrev pub AreSorted : Timings → Type 0
 AreSorted timings = T (finite.is_sorted path_cmp timings)
+
+-- is a path greater than the last one, if there is one?
+abbrev pub is_past_last : Timings → Path → Bool
+is_past_last [] path = true
+is_past_last (entry ∷ []) path = is_lt (path_cmp entry.0 path)
+is_past_last (entry ∷ other ∷ others) path = is_past_last (other ∷ others) path
 
 -- what a timer holds: the paths strictly ascend, and of each task sixteen marks are held
 pub record IsTable (timings : Timings) : Type 0 where

@@ -17,18 +17,16 @@ pub struct Mark {
     pub step: Step,
 }
 
-/// Returns marks, the latest first, with one more if it comes more than a second after the latest
-/// one. The earliest is then dropped.
-pub(crate) fn with_mark(marks: &[Mark; KEPT_MARKS], mark: Mark) -> [Mark; KEPT_MARKS]
-    requires { length marks.now ≡ kept_marks }
-    ensures { result ≡ with_mark mark marks.now }
+/// Adds a mark to others, the latest first, if it comes more than a second after the latest one.
+/// The earliest is then dropped.
+pub(crate) fn add_mark(marks: &mut [Mark; KEPT_MARKS], mark: Mark)
+    requires { length marks.old ≡ kept_marks }
+    ensures { marks.new ≡ with_mark mark marks.old }
 {
-    let mut after = *marks;
-    if mark.at.saturating_sub(after[0].at) > ONE_SECOND {
-        after.copy_within(..KEPT_MARKS - 1, 1);
-        after[0] = mark;
+    if mark.at.saturating_sub(marks[0].at) > ONE_SECOND {
+        marks.copy_within(..KEPT_MARKS - 1, 1);
+        marks[0] = mark;
     }
-    after
 }
 
 /// Returns the earliest mark.

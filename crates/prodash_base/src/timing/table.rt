@@ -1,12 +1,12 @@
 //! A list of what is known of tasks, sorted by key.
-ghost use Rattle.std.specs.Prelude.{◌≡◌, [], length, OnOk, IfOk, IfErr, option_copied, option_map};
+ghost use Rattle.std.specs.Prelude.{◌≡◌, [], Some, OnOk, IfOk, IfErr, option_copied, option_map};
 ghost use Rattle.std.specs.FinMap.{find, put};
 ghost use Rattle.prodash_base.specs.Path.{path_cmp};
-ghost use Rattle.prodash_base.specs.Rows.{rows_of};
-ghost use Rattle.prodash_base.specs.Timers.{HoldsMarks, with_timings};
-ghost use Rattle.prodash_base.specs.plumbing.TimedTables.{AreSorted, IsAt, IsNewAt, AddsRow};
+ghost use Rattle.prodash_base.specs.Rows.{rows_of, progress_of};
+ghost use Rattle.prodash_base.specs.Timers.{HoldsMarks, next_timing, with_timings};
+ghost use Rattle.prodash_base.specs.plumbing.TimedTables.{AreSorted, IsAt, IsNewAt, AddsRow, is_past_last};
 
-use crate::progress::{Key, Row};
+use crate::progress::{Key, Row, Value};
 use crate::timing::timed::Timed;
 use std::alloc::{AllocError, Global};
 
@@ -49,6 +49,7 @@ pub(crate) fn find<'a>(timings: &'a [Timed], key: &Key, likely: &mut usize) -> O
 
 /// Returns the index of a key, or else the one at which it belongs. It is looked for first at
 /// `likely`, and then by binary search.
+#[inline(always)]
 fn position(timings: &[Timed], key: &Key, likely: usize) -> Result<usize, usize>
     requires { AreSorted timings.now }
     ensures found { IfOk result (λ index. IsAt timings.now key.now index) }
@@ -56,8 +57,18 @@ fn position(timings: &[Timed], key: &Key, likely: usize) -> Result<usize, usize>
 {
     match timings.get(likely) {
         Some(timed) if timed.key == *key => Ok(likely),
-        _ => timings.binary_search_by_key(key, |timed| timed.key),
+        _ => search(timings, key),
     }
+}
+
+/// Returns the index of a key, or else the one at which it belongs, by binary search.
+#[inline(never)]
+fn search(timings: &[Timed], key: &Key) -> Result<usize, usize>
+    requires { AreSorted timings.now }
+    ensures found { IfOk result (λ index. IsAt timings.now key.now index) }
+    ensures place { IfErr result (λ index. IsNewAt timings.now key.now index) }
+{
+    timings.binary_search_by_key(key, |timed| timed.key)
 }
 
 /// Adds what is known of the task of a row after a tick now, by what was known before, if the row
@@ -77,8 +88,35 @@ fn add_row(
     let Some(value) = &row.progress else {
         return Ok(());
     };
-    let known = find(before, &row.key, likely);
-    put(timings, Timed::next(known, row.key, now, value))
+    match find(before, &row.key, likely) {
+        Some(known) => put_next(timings, known, row.key, now, value),
+        None => put(timings, Timed::first(row.key, now, value)),
+    }
+}
+
+/// Puts what is known of a task after a tick that has seen its progress, by what was known of it, at
+/// the place of its key. Returns an `AllocError` if out of memory.
+fn put_next(
+    timings: &mut Vec<Timed>,
+    known: &Timed,
+    key: Key,
+    now: u64,
+    value: &Value,
+) -> Result<(), AllocError>
+    requires { AreSorted timings.old.items }
+    ensures sorted { OnOk result (AreSorted timings.new.items) }
+    ensures ok { OnOk result (timings.new.items
+        ≡ put path_cmp key (next_timing (Some known.now.1) now (progress_of value.now))
+        timings.old.items) }
+{
+    if !is_past_last(timings, &key) {
+        return put(timings, known.next(key, now, value));
+    }
+    // a task is large, so its copy is changed in its place
+    let index = timings.len();
+    timings.push(known.copy(key))?;
+    timings[index].see(now, value);
+    Ok(())
 }
 
 /// Puts what is known of a task at the place of its key, over what is known of it already. Returns
@@ -88,9 +126,19 @@ fn put(timings: &mut Vec<Timed>, timed: Timed) -> Result<(), AllocError>
     ensures sorted { OnOk result (AreSorted timings.new.items) }
     ensures ok { OnOk result (timings.new.items ≡ put path_cmp timed.0 timed.1 timings.old.items) }
 {
-    match position(timings, &timed.key, timings.len()) {
+    match search(timings, &timed.key) {
         Ok(index) => timings[index] = timed,
         Err(index) => timings.insert(index, timed)?,
     }
     Ok(())
+}
+
+/// Returns whether a key is greater than that of the last task, if there is one.
+fn is_past_last(timings: &[Timed], key: &Key) -> bool
+    ensures { result ≡ is_past_last timings.now key.now }
+{
+    match timings.last() {
+        None => true,
+        Some(last) => last.key.cmp(key).is_lt(),
+    }
 }

@@ -1,12 +1,12 @@
 //! What is known of the time of one task.
-ghost use Rattle.std.specs.Prelude.{◌≡◌, option_copied, option_map};
+ghost use Rattle.std.specs.Prelude.{◌≡◌, Some};
 ghost use Rattle.prodash_base.specs.Rows.{progress_of, phase_of};
 ghost use Rattle.prodash_base.specs.Timers.{first_timing, later_timing, begins_anew, next_timing, stalled_for, remaining_of, time_elapsed, time_in, time_by};
 
 use crate::progress::{Key, State, Step, Value};
 use crate::times::{finished_at, is_past, remaining_seconds};
 use crate::timing::TaskTime;
-use crate::timing::marks::{KEPT_MARKS, Mark, earliest_mark, with_mark};
+use crate::timing::marks::{KEPT_MARKS, Mark, add_mark, earliest_mark};
 use crate::unit::Unit;
 use std::alloc::AllocError;
 use std::marker::Model;
@@ -61,35 +61,50 @@ impl Clone for Timed {
     ghost is_clone = { λ timed copy. copy ≡ timed };
 
     fn clone(&self) -> Result<Timed, AllocError> {
-        Ok(Timed {
-            key: self.key,
+        Ok(self.copy(self.key))
+    }
+}
+
+impl Timed {
+    /// Returns the same of a task with this key.
+    #[inline(always)]
+    pub(crate) fn copy(&self, key: Key) -> Timed
+        ensures { result ≡ (key, self.now.1) }
+    {
+        Timed {
+            key,
             began: self.began,
             step: self.step,
             unit: self.unit,
             stepped: self.stepped,
             finished: self.finished,
             marks: self.marks,
-        })
+        }
     }
-}
 
-impl Timed {
-    /// Returns a task after a tick that has seen its progress, by what was known of it.
-    pub(crate) fn next(known: Option<&Timed>, key: Key, now: u64, value: &Value) -> Timed
-        ensures { result ≡ (
-          key,
-          next_timing (option_map (λ t. t.1) (option_copied known.entry)) now
-              (progress_of value.now),
-        ) }
+    /// Returns a task after a tick that has seen its progress.
+    pub(crate) fn next(&self, key: Key, now: u64, value: &Value) -> Timed
+        ensures { result ≡ (key, next_timing (Some self.now.1) now (progress_of value.now)) }
     {
-        match known {
-            Some(timed) if !timed.begins_anew(value) => timed.later(key, now, value),
-            _ => Timed::first(key, now, value),
+        let mut timed = self.copy(key);
+        timed.see(now, value);
+        timed
+    }
+
+    /// Makes this the task after a tick that has seen its progress.
+    pub(crate) fn see(&mut self, now: u64, value: &Value)
+        ensures { self.new
+            ≡ (self.old.0, next_timing (Some self.old.1) now (progress_of value.now)) }
+    {
+        if self.begins_anew(value) {
+            *self = Timed::first(self.key, now, value);
+        } else {
+            self.go_on(now, value);
         }
     }
 
     /// Returns a task that begins now.
-    fn first(key: Key, now: u64, value: &Value) -> Timed
+    pub(crate) fn first(key: Key, now: u64, value: &Value) -> Timed
         ensures { result ≡ (key, first_timing now (progress_of value.now)) }
     {
         let step = value.step;
@@ -104,20 +119,17 @@ impl Timed {
         }
     }
 
-    /// Returns the task as it goes on.
-    fn later(&self, key: Key, now: u64, value: &Value) -> Timed
-        ensures { result ≡ (key, later_timing self.now.1 now (progress_of value.now)) }
+    /// Makes this the task as it goes on.
+    fn go_on(&mut self, now: u64, value: &Value)
+        ensures { self.new ≡ (self.old.0, later_timing self.old.1 now (progress_of value.now)) }
     {
         let step = value.step;
-        Timed {
-            key,
-            began: self.began,
-            step,
-            unit: self.unit,
-            stepped: if step == self.step { self.stepped } else { now },
-            finished: finished_at(is_past(step, value.done_at), self.finished, now),
-            marks: with_mark(&self.marks, Mark { at: now, step }),
+        if step != self.step {
+            self.stepped = now;
         }
+        self.step = step;
+        self.finished = finished_at(is_past(step, value.done_at), self.finished, now);
+        add_mark(&mut self.marks, Mark { at: now, step });
     }
 
     /// Returns whether the task begins anew with this progress.
