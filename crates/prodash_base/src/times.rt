@@ -109,7 +109,8 @@ pub(crate) fn push_seconds(out: &mut String, seconds: u64) -> Result<(), AllocEr
     }
 }
 
-/// Appends the letter of a unit, and a number of the next smaller unit in two digits with its letter.
+/// Appends the letter of a unit, and a number of the next smaller unit in two digits, with its
+/// letter.
 fn push_part(out: &mut String, unit: u8, n: u64, smaller: u8) -> Result<(), AllocError>
     requires below { n < 100 }
     requires unit { unit < 128 }

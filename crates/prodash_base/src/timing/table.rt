@@ -94,8 +94,8 @@ fn add_row(
     }
 }
 
-/// Puts what is known of a task after a tick that has seen its progress, by what was known of it, at
-/// the place of its key. Returns an `AllocError` if out of memory.
+/// Puts what is known of a task after a tick that has seen its progress, by what was known of it,
+/// at the place of its key. Returns an `AllocError` if out of memory.
 fn put_next(
     timings: &mut Vec<Timed>,
     known: &Timed,

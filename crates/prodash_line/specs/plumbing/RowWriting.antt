@@ -15,7 +15,7 @@ use Rattle.prodash_base.specs.Times.{time_text}
 use Rattle.prodash_base.specs.declared.progress.Row.{Row}
 use Rattle.prodash_line.specs.declared.render.line.draw.line_writer.LineWriter.{LineWriter}
 use Rattle.prodash_line.specs.Lines.{Line, piece, spaces, capped, columns_of}
-use Rattle.prodash_line.specs.ProgressRows.{time_line, fraction_values, values_in, values_of, bar, bar_columns, fraction_of, bar_with, head_of, midpoint_of, row_line}
+use Rattle.prodash_line.specs.ProgressRows.{times_at, time_line, fraction_values, values_in, values_of, bar, bar_columns, fraction_of, bar_with, head_of, midpoint_of, row_line}
 use Rattle.prodash_line.specs.TextStyles.{row_style}
 use Rattle.prodash_line.specs.plumbing.Writing.{Appends, AppendsIn, DrawsLine}
 use Rattle.std.specs.Fmt.{decimal}
@@ -66,6 +66,10 @@ pub record AppendsProgress (colored defensive : Bool) (width : ℕ) (most : Opti
 abbrev pub drawn_values : DrawnProgress → Line
 drawn_values d = values_of d.options.now.defensive (progress_of d.value.now) d.throughput
 
+-- what its row says of its time
+abbrev pub time_of : DrawnProgress → Option TaskTime
+time_of d = times_at d.timer.now d.at (row_of d.row.now)
+
 -- its values in this unit
 abbrev pub unit_values : DrawnProgress → Unit → Line
 unit_values d unit = values_in d.options.now.defensive (measure_of unit) (progress_of d.value.now) d.throughput
@@ -78,7 +82,7 @@ PadsValues d values old new = Pads d.options.now.colored d.midpoint old values n
 abbrev pub DrawsProgress : DrawnProgress → ℕ → LineWriter → LineWriter → Type 0
 DrawsProgress d own old new =
     let o = d.options.now in
-    AppendsProgress o.colored o.defensive o.terminal_dimensions.0 o.bar_columns d.midpoint (drawn_values d) (progress_of d.value.now) d.time own old new
+    AppendsProgress o.colored o.defensive o.terminal_dimensions.0 o.bar_columns d.midpoint (drawn_values d) (progress_of d.value.now) (time_of d) own old new
 
 -- the same without styles and without a time, of a progress without a unit
 abbrev pub DrawsFraction : DrawnProgress → ℕ → LineWriter → LineWriter → Type 0
@@ -98,7 +102,7 @@ DrawsInUnit d unit own old new =
 -- a row on a terminal of the width that the options say, and a midpoint, with what is measured of it
 abbrev pub DrawsRow : Options → ℕ → Row → Measured → LineWriter → LineWriter → Type 0
 DrawsRow options midpoint row measured old new =
-    let line = row_line options.defensive options.terminal_dimensions.0 options.bar_columns midpoint (row_of row, measured.throughput) measured.time in
+    let line = row_line options.defensive options.terminal_dimensions.0 options.bar_columns midpoint (row_of row, measured.throughput) (times_at measured.timer.now measured.at (row_of row)) in
     DrawsLine options (on_row (layout_of options) old) line new
 
 -- the column at which the values of a row end without padding; 0 if it has no progress

@@ -19,7 +19,6 @@ use crate::render::line::draw::line_writer::LineWriter;
 use crate::render::line::draw::message::{greatest_width, push_message};
 use crate::render::line::draw::more::{split_fitting, write_more};
 use crate::render::line::draw::row::{Measured, RowTexts, is_row_drawn, push_row};
-use crate::render::line::draw::row_time::row_time;
 use crate::render::line::draw::state::{Past, keep_latest};
 use crate::render::line::draw::tracker::{begin_observing, observe_row};
 use crate::render::line::page::Sign;
@@ -371,7 +370,6 @@ fn write_rows(
     let midpoint = scene.past.midpoint();
     let options = &scene.options;
     let mut texts = RowTexts::new(alloc);
-    let mut likely = 0;
     let mut left = widths;
     for row in rows {
         if !is_row_drawn(options.level_filter, row) {
@@ -379,8 +377,11 @@ fn write_rows(
         }
         let (old_width, others) = split_first_width(left);
         let throughput = observe_row(alloc, tracker, row)?;
-        let time = row_time(scene.timer, scene.at, row, &mut likely);
-        let measured = Measured { throughput, time };
+        let measured = Measured {
+            throughput,
+            timer: scene.timer,
+            at: scene.at,
+        };
         let own_midpoint = push_row(alloc, out, &mut texts, options, midpoint, row, measured)?;
         drawn.midpoint = drawn.midpoint.max(own_midpoint);
         drawn.widths.push(out.end_line_over(old_width)?)?;

@@ -5,11 +5,11 @@ ghost use Rattle.prodash_line.specs.Signs.{spelling_of};
 ghost use Rattle.prodash_line.specs.Lines.{piece, styled, spaces};
 ghost use Rattle.prodash_line.specs.plumbing.Writing.{IsMeasured, is_printable, style_of_length, open_bytes, reset_bytes, Appends, AppendsPair, AppendsIndented, AppendsIfRoom, run, Begun, SameLine, Counts};
 ghost use Rattle.prodash_line.specs.plumbing.RowWriting.{whole_text, text_length, length_of, progress_bytes};
-ghost use Rattle.prodash_base.specs.Path.{max_level};
 ghost use Rattle.prodash_line.specs.plumbing.OverwriteBytes.{on_row, EndsOver, IsCutWidth};
 
 use crate::render::line::byte_buffer::ByteBuffer;
 use crate::render::line::draw::drawn_text::DrawnText;
+use crate::render::line::draw::erasing::start_row;
 use crate::render::line::draw::fitting::{fit_indented, fit_printable, fit_text};
 use crate::render::line::draw::layout::Layout;
 use crate::render::line::draw::plain_progress::{PlainProgress, PlainText};
@@ -18,12 +18,6 @@ use crate::render::line::draw::text::text_width;
 use crate::render::line::page::{Sign, Style, push_open, push_reset, push_sign};
 use prodash_base::progress::Level;
 use std::alloc::{AllocError, Global};
-
-/// The bytes of `Sign::EraseLine`, and as many spaces after them as the deepest level has.
-const ROW_START: &[u8] = b"\x1b[2K      ";
-
-/// How many of these bytes are those of the sign.
-const ERASE_LINE: usize = 4;
 
 /// Writes lines into one buffer, one after another, and measures the current line.
 #[derive(Drop)]
@@ -92,19 +86,12 @@ impl LineWriter {
         limit: Option<u16>,
         indent: Level,
     ) -> Result<(), AllocError>
-        requires { indent ≤ max_level }
         ensures { OnOk result
             (Begun limit (on_row layout self.old) (spaces indent ∷ []) self.new) }
     {
+        start_row(self, layout)?;
         self.begin_line(limit);
-        let count = self.count_printable(u16::from(indent));
-        let start = match layout {
-            Layout::Overwriting => ERASE_LINE,
-            Layout::Erasing { .. } => 0,
-        };
-        self.bytes
-            .extend_from_slice(&ROW_START[start..ERASE_LINE + usize::from(count)])?;
-        Ok(())
+        self.push_spaces(u16::from(indent))
     }
 
     /// Appends a text to the line, in this style if there is one. Fails if out of memory.

@@ -18,7 +18,8 @@ use crate::render::line::draw::text::printable_width;
 use itoa::Buffer;
 use prodash_base::Refusal;
 use prodash_base::progress::{Level, Row, Step, Value};
-use prodash_base::timing::TaskTime;
+use prodash_base::time::Moment;
+use prodash_base::timing::Timer;
 use prodash_base::unit::Unit;
 use prodash_base::unit::display::Throughput;
 use std::alloc::{AllocError, Global};
@@ -51,28 +52,33 @@ impl RowTexts {
 
 /// What is measured of a row.
 #[derive(Clone, Copy, Drop)]
-pub(crate) struct Measured {
+pub(crate) struct Measured<'a> {
     /// Its throughput, if there is one.
     pub(crate) throughput: Option<Throughput>,
-    /// Its time, if times are shown.
-    pub(crate) time: Option<TaskTime>,
+    /// The timer of its task, if times are shown.
+    pub(crate) timer: &'a Option<Timer>,
+    /// The moment for which its time is told.
+    pub(crate) at: Moment,
 }
 
-/// The progress of a row, and what it is drawn with.
+/// The progress of a row, and what it is drawn with. Its time is told at a moment, if there is a
+/// timer.
 #[derive(Clone, Copy, Drop)]
 pub(crate) struct DrawnProgress<'a> {
     options: &'a Options,
     /// The column at which its values are to end.
     midpoint: u16,
+    row: &'a Row,
     value: &'a Value,
     throughput: Option<Throughput>,
-    time: Option<TaskTime>,
+    timer: &'a Option<Timer>,
+    at: Moment,
 }
 
 /// Writes the line of a row, on a row of the terminal that is erased first if frames do that. Its
 /// values are padded so that they end at this midpoint, with a throughput if there is one, and its
-/// time follows if there is one. Returns the row's own midpoint: the column at which its values end
-/// without padding, 0 if it has no progress. Fails if out of memory.
+/// time follows if there is a timer. Returns the row's own midpoint: the column at which its values
+/// end without padding, 0 if it has no progress. Fails if out of memory.
 pub(crate) fn push_row(
     alloc: Global,
     out: &mut LineWriter,
@@ -80,12 +86,12 @@ pub(crate) fn push_row(
     options: &Options,
     midpoint: u16,
     row: &Row,
-    measured: Measured,
+    measured: Measured<'_>,
 ) -> Result<u16, Refusal>
     ensures line { OnOk result
-        (DrawsRow options.now midpoint row.now measured out.old out.new) }
+        (DrawsRow options.now midpoint row.now measured.entry out.old out.new) }
     ensures midpoint { IfOk result
-        (λ n. n ≡ own_midpoint options.now row.now measured.throughput) }
+        (λ n. n ≡ own_midpoint options.now row.now measured.entry.throughput) }
     ensures reason { IsOkUnless result Refusal.Memory }
 {
     out.begin_row(options.layout(), options.width_limit(), row.key.level())?;
@@ -96,9 +102,11 @@ pub(crate) fn push_row(
     let drawn = DrawnProgress {
         options,
         midpoint,
+        row,
         value,
         throughput: measured.throughput,
-        time: measured.time,
+        timer: measured.timer,
+        at: measured.at,
     };
     let own = push_progress(alloc, out, texts, &drawn)?;
     Ok(own)
@@ -117,14 +125,21 @@ fn push_progress(
     ensures reason { IsOkUnless result Refusal.Memory }
 {
     let (width, _) = drawn.options.terminal_dimensions;
-    if !drawn.options.colored && drawn.time.is_none() {
+    if !drawn.options.colored && drawn.timer.is_none() {
         let plain = push_plain(alloc, out, &mut texts.values, drawn)?;
         if let Some(own) = plain {
             return Ok(own);
         }
     }
     let own = push_values(alloc, out, texts, drawn)?;
-    push_time(out, &mut texts.time, drawn.options, drawn.time)?;
+    push_time(
+        out,
+        &mut texts.time,
+        drawn.options,
+        drawn.timer,
+        drawn.at,
+        drawn.row,
+    )?;
     let left = width.saturating_sub(out.width());
     let columns = bar_columns(drawn.options.bar_columns, left);
     push_bar(out, drawn.options.colored, columns, drawn.value)?;
@@ -141,7 +156,7 @@ fn push_plain(
     drawn: &DrawnProgress<'_>,
 ) -> Result<Option<u16>, Refusal>
     requires colored { drawn.now.options.now.colored ≡ false }
-    requires time { drawn.now.time ≡ None }
+    requires timer { drawn.now.timer.now ≡ None }
     ensures drawn { IfOk result (OrNothing out.old out.new (DrawsProgress drawn.now)) }
     ensures reason { IsOkUnless result Refusal.Memory }
 {

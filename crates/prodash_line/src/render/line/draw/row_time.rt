@@ -1,6 +1,7 @@
 //! The time of a row.
 ghost use Rattle.std.specs.Prelude.{◌≡◌, OnOk, IsOkUnless, IfOk, string_bytes};
 ghost use Rattle.prodash_base.specs.Rows.{row_of};
+ghost use Rattle.prodash_base.specs.Timers.{row_time};
 ghost use Rattle.prodash_line.specs.ProgressRows as rows;
 ghost use Rattle.prodash_line.specs.plumbing.RowWriting.{ShowsTime, TriesTime};
 
@@ -18,6 +19,8 @@ pub(crate) struct TimeTexts {
     time: String,
     /// What is drawn of it, if that is another text.
     replaced: String,
+    /// The index at which the task of the next row is looked for first.
+    likely: usize,
 }
 
 impl TimeTexts {
@@ -26,42 +29,65 @@ impl TimeTexts {
         TimeTexts {
             time: String::new(alloc),
             replaced: String::new(alloc),
+            likely: 0,
         }
     }
 }
 
-/// Returns what a row says of its time at a moment, if there is a timer. Its task is looked for
-/// first at the index `likely`.
-pub(crate) fn row_time(
-    timer: &Option<Timer>,
-    at: Moment,
-    row: &Row,
-    likely: &mut usize,
-) -> Option<TaskTime>
-    ensures { result ≡ rows.times_at timer.now at (row_of row.now) }
-{
-    match timer {
-        None => None,
-        Some(timer) => timer.row_time(at, row, likely),
-    }
-}
-
-/// Appends a space and a time, if there is one, as they fit on the columns that are left. Fails if
-/// out of memory.
+/// Appends a space and what a row says of its time at a moment, if there is a timer, as they fit on
+/// the columns that are left. Fails if out of memory.
+#[inline(always)]
 pub(crate) fn push_time(
     out: &mut LineWriter,
     texts: &mut TimeTexts,
     options: &Options,
-    time: Option<TaskTime>,
+    timer: &Option<Timer>,
+    at: Moment,
+    row: &Row,
 ) -> Result<(), AllocError>
-    ensures { OnOk result (ShowsTime options.now time out.old out.new) }
+    ensures { OnOk result
+        (ShowsTime options.now (rows.times_at timer.now at (row_of row.now)) out.old out.new) }
+{
+    match timer {
+        None => Ok(()),
+        Some(timer) => push_timed(out, texts, options, timer, at, row),
+    }
+}
+
+/// Does what `push_time` does with a timer.
+#[inline(never)]
+fn push_timed(
+    out: &mut LineWriter,
+    texts: &mut TimeTexts,
+    options: &Options,
+    timer: &Timer,
+    at: Moment,
+    row: &Row,
+) -> Result<(), AllocError>
+    ensures { OnOk result
+        (ShowsTime options.now (row_time timer.now at (row_of row.now)) out.old out.new) }
+{
+    let time = timer.row_time(at, row, &mut texts.likely);
+    push_task_time(out, texts, options, &time)?;
+    Ok(())
+}
+
+/// Appends a space and a time, if there is one, as they fit on the columns that are left. Fails if
+/// out of memory.
+fn push_task_time(
+    out: &mut LineWriter,
+    texts: &mut TimeTexts,
+    options: &Options,
+    time: &Option<TaskTime>,
+) -> Result<(), AllocError>
+    ensures { OnOk result (ShowsTime options.now time.now out.old out.new) }
 {
     let Some(time) = time else {
         return Ok(());
     };
     let (width, _) = options.terminal_dimensions;
     let left = width.saturating_sub(out.width());
-    write_fitting_time(&mut texts.time, usize::from(left), &time)?;
+    write_fitting_time(&mut texts.time, usize::from(left), time)?;
     let time = drawn_text(options.defensive, texts.time.as_str(), &mut texts.replaced)?;
     out.push_drawn(None, &time)
 }

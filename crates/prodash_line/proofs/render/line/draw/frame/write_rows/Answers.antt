@@ -1,4 +1,4 @@
-use Rattle.std.proofs.Common.{rules, arith, ◌≡◌, ℕ, List, Option, ◌+◌, ◌∷◌, ◌++◌, drop, ap, subst, sym, ◌∙◌, append_assoc}
+use Rattle.std.proofs.Common.{rules, arith, ◌≡◌, ℕ, List, ◌+◌, ◌∷◌, ◌++◌, drop, ap, subst, sym, ◌∙◌, append_assoc}
 use Rattle.std.proofs.lemmas.Grind.{common_steps}
 use Rattle.prodash_base.specs.Rows.{row_of, rows_of}
 use Rattle.prodash_line.specs.DrawnLines.{as_drawn, layout_of}
@@ -11,7 +11,6 @@ use Rattle.prodash_line.specs.ProgressRows.{filtered, row_line, row_lines}
 use Rattle.prodash_line.specs.Signs.{spelling}
 use Rattle.prodash_line.specs.declared.render.line.draw.row.Measured.{Measured}
 use Rattle.prodash_line.specs.plumbing.FrameWriting.{times_in}
-use Rattle.prodash_base.specs.declared.timing.task_time.TaskTime.{TaskTime}
 use Rattle.prodash_line.proofs.render.line.draw.frame.write_rows.Goals as goal
 
 pub loop-row-preserved : goal.loop-row-preserved
@@ -20,9 +19,8 @@ loop-row-preserved c =
     let out = c.loop-row.out.bytes in
     let start = spelling (row_start (layout_of o)) in
     let line = as_drawn o (row_line o.defensive o.terminal_dimensions.0 o.bar_columns c.args.scene.now.past.now.midpoint (row_of c.row-item.result, c.in_ok-throughput.throughput) (times_in c.args.scene.now (row_of c.row-item.result))) in
-    let measured : Option TaskTime → Measured = λ time. record { throughput = c.in_ok-throughput.throughput; time = time } in
-    let timed = subst (λ (time : Option TaskTime). DrawsRow o c.midpoint-midpoint.result c.row-item.result (measured time) c.loop-row.out c.push_row.new.out) c.row_time-time.ensures c.in_ok-own_midpoint.ensures.line in
-    let drawn = subst (λ (n : ℕ). DrawsRow o n c.row-item.result (measured (times_in c.args.scene.now (row_of c.row-item.result))) c.loop-row.out c.push_row.new.out) c.midpoint-midpoint.ensures timed in
+    let measured : Measured = record { throughput = c.in_ok-throughput.throughput; timer = c.args.scene.now.timer; at = c.args.scene.now.at } in
+    let drawn = subst (λ (n : ℕ). DrawsRow o n c.row-item.result measured c.loop-row.out c.push_row.new.out) c.midpoint-midpoint.ensures c.in_ok-own_midpoint.ensures.line in
     let own = overwrite_line_bytes c.split_first_width-old_width.result.0 line in
     let lines = row_lines o c.args.scene.now.past.now.midpoint (times_in c.args.scene.now) (shown_by (ahead_of c.observe_row.new.tracker) (filtered o.level_filter (rows_of (drop (c.loop-row.row-index + 1) c.args.rows.now)))) in
     let rest = lines_bytes (layout_of o) c.split_first_width-old_width.result.1.now lines in
