@@ -44,6 +44,7 @@ default_options = record {
   bar_columns = draw_defaults.bar_columns;
   ascii = draw_defaults.ascii;
   times = draw_defaults.times;
+  prefer_running = draw_defaults.prefer_running;
   throughput = false;
   level_filter = draw_defaults.level_filter;
   initial_delay = None;

@@ -37,6 +37,7 @@ pub const TERMINAL: Options = Options {
     bar_columns: None,
     ascii: false,
     times: false,
+    prefer_running: false,
 };
 
 /// A step, and a bound if there is one.

@@ -4,7 +4,7 @@ use Rattle.std.specs.Prelude.{◌&&◌, ◌||◌, ◌==◌, not, min}
 use Rattle.std.specs.Char.{IsScalar, is_control}
 use Rattle.std.specs.Int.{is_in_range}
 use Rattle.std.specs.List.{AllByRecursion}
-use Rattle.std.proofs.lemmas.List.{length-map, length-take}
+use Rattle.std.proofs.lemmas.List.{length-map}
 use Rattle.std.proofs.lemmas.Bool.Decides.{nat_tests}
 use Rattle.prodash_base.specs.Rows.{PathRow}
 use Rattle.prodash_base.specs.declared.refusal.Refusal.{Refusal}
@@ -33,6 +33,7 @@ use Rattle.prodash_line.specs.Renderings.{Rendering, RendersEach, renderer_after
 use Rattle.prodash_line.specs.plumbing.RenderedInputs.{RendersAll}
 use Rattle.prodash_line.specs.ErasedPages.{cut_lines_of, HasScalars, ShowsWhole, ShowsInOneRow, ShowsBody, ErasesPages, ErasesPagesOf, ShowsAnywhere}
 use Rattle.prodash_line.specs.Terminals.{terminal_after}
+use Rattle.prodash_line.proofs.FittingRows.{first_true, second_true, length-fitting}
 use Rattle.prodash_line.proofs.FittingFrames.{AreWithin, BodyWithin, FrameWithin, frame_cut}
 use Rattle.prodash_line.proofs.Lists.{AllByRecursion-append, AllByRecursion-parts}
 use Rattle.prodash_line.proofs.OrderlyFrames.{orderly_at}
@@ -44,14 +45,6 @@ use Rattle.prodash_line.proofs.ErasedPages.{IsLow, EndsUnseen, NoneLeft, ErasesR
 use Rattle.prodash_line.proofs.WholeTexts.{shows_whole, shows_in_one_row}
 use Rattle.prodash_line.proofs.SafeFrames.{clean_frame}
 
-first_true : (a b : Bool) → (a && b) ≡ true → a ≡ true
-first_true true b e = refl
-first_true false b e = cc
-
-second_true : (a b : Bool) → (a && b) ≡ true → b ≡ true
-second_true true b e = e
-second_true false b e = cc
-
 -- ---- drawn lines are fewer than the window's rows
 
 one_if : (none : Bool) (line : Line) → length (cond none [] (line ∷ [])) ≡ cond none 0 1
@@ -62,18 +55,18 @@ few_by : (n height count : ℕ) → count ≡ min (cond (nat_lt n height) n (hei
     → count + cond (nat_eq (n - count) 0 || nat_lt height 2) 0 1 < height
 few_by n height count e i = grind (arith, nat_tests)
 
-few_lines : (options : Options) (layout : Layout) (midpoint : ℕ) (times : Times) (rows : List DrawnRow) → layout ≡ Erasing options.terminal_dimensions.1 options.synchronized options.whole_messages → 0 < options.terminal_dimensions.1
-    → length (row_lines options midpoint times (fitting layout rows) ++ more_lines options (length rows - length (fitting layout rows))) < options.terminal_dimensions.1
-few_lines options layout midpoint times rows e i =
+few_lines : (options : Options) (midpoint : ℕ) (times : Times) (rows : List DrawnRow) → layout_of options ≡ Erasing options.terminal_dimensions.1 options.synchronized options.whole_messages → 0 < options.terminal_dimensions.1
+    → length (row_lines options midpoint times (fitting options rows) ++ more_lines options (length rows - length (fitting options rows))) < options.terminal_dimensions.1
+few_lines options midpoint times rows e i =
     let height = options.terminal_dimensions.1 in
-    let fit = fitting layout rows in
+    let fit = fitting options rows in
     let others = length rows - length fit in
     let none = nat_eq others 0 || nat_lt height 2 in
     let size : length (row_lines options midpoint times fit ++ more_lines options others) ≡ length (row_lines options midpoint times fit) + length (more_lines options others) = length-append (row_lines options midpoint times fit) (more_lines options others) in
     let mapped : length (row_lines options midpoint times fit) ≡ length fit = length-map fit (drawn_row_line options midpoint times) in
     let more : length (more_lines options others) ≡ cond none 0 1 = one_if none (as_drawn options (more_line options.ascii others)) in
     let taken : length fit ≡ min (cond (nat_lt (length rows) height) (length rows) (height - 2)) (length rows) =
-    length-take (fitting_count layout (length rows)) rows ∙ ap (λ (l : Layout). min (fitting_count l (length rows)) (length rows)) e in
+    length-fitting options rows ∙ ap (λ (l : Layout). min (fitting_count l (length rows)) (length rows)) e in
     let few : length fit + cond none 0 1 < height = few_by (length rows) height (length fit) taken i in
     subst (λ (n : ℕ). n < height) (sym (size ∙ ap (λ (n : ℕ). n + length (more_lines options others)) mapped ∙ ap (λ (n : ℕ). length fit + n) more)) few
 
@@ -81,7 +74,7 @@ erasing_layout : (options : Options) → erases_rows options ≡ true → layout
 erasing_layout options e = ap (λ (b : Bool). cond b (Erasing options.terminal_dimensions.1 options.synchronized options.whole_messages) Overwriting) e
 
 pub few_drawn : (r : Renderer) (at : ℕ) (rows : List PathRow) → erases_rows r.options ≡ true → 0 < r.options.terminal_dimensions.1 → length (drawn_lines r at rows) < r.options.terminal_dimensions.1
-few_drawn r at rows e i = few_lines r.options (layout_of r.options) r.midpoint (times_at r.timer at) (drawn_rows r at rows) (erasing_layout r.options e) i
+few_drawn r at rows e i = few_lines r.options r.midpoint (times_at r.timer at) (drawn_rows r at rows) (erasing_layout r.options e) i
 
 erases_still : (r : Renderer) (input : Input) → erases_rows (remember r input).options ≡ erases_rows r.options
 erases_still r (Tick at show (Some seen)) = refl

@@ -23,6 +23,7 @@ pub mod Overwriting
 pub mod CursorRow
 pub mod Decimals
 pub mod ErasedRows
+pub mod Choosing
 pub mod FittingRows
 pub mod FramesOnPage
 pub mod ErasedPages
@@ -57,4 +58,5 @@ pub mod WorkedSigns
 pub mod WorkedTerminals
 pub mod WorkedUnits
 pub mod WorkedTimes
+pub mod WorkedRanks
 pub mod WrappedMessages

@@ -28,6 +28,10 @@ as_drawn options line = cut (limit_of options) (in_color options.colored line)
 abbrev pub erases_rows : Options → Bool
 erases_rows options = options.defensive && options.output_is_terminal
 
+-- are rows of running tasks drawn before others where frames have room for some only?
+abbrev pub prefers_running : Options → Bool
+prefers_running options = options.prefer_running && erases_rows options
+
 -- how the frames of a renderer with these options are laid out
 abbrev pub layout_of : Options → Layout
 layout_of options = if erases_rows options then Erasing options.terminal_dimensions.1 options.synchronized options.whole_messages else Overwriting

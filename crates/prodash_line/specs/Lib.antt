@@ -5,6 +5,7 @@ pub mod TextStyles
 pub mod UnsafeCharacters
 pub mod DrawnLines
 pub mod Frames
+pub mod RowRanks
 pub mod ProgressRows
 pub mod MessageLines
 pub mod Tracking

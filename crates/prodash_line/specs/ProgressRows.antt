@@ -16,7 +16,8 @@ use Rattle.prodash_line.specs.declared.render.line.page.style.Style.{Style}
 use Rattle.prodash_line.specs.Lines.{Line, piece, styled, spaces, columns_of}
 use Rattle.prodash_line.specs.declared.render.line.draw.layout.Layout.{Layout}
 use Rattle.prodash_line.specs.declared.render.line.draw.layout.Layout.TheVariants.{Overwriting, Erasing}
-use Rattle.prodash_line.specs.DrawnLines.{drawn_chars, as_drawn}
+use Rattle.prodash_line.specs.DrawnLines.{drawn_chars, as_drawn, layout_of}
+use Rattle.prodash_line.specs.RowRanks.{places}
 use Rattle.prodash_line.specs.TextStyles.{dimmed, name_style, values_style, row_style}
 
 -- `step/bound`, or the step alone if there is no bound
@@ -199,9 +200,15 @@ abbrev pub fitting_count : Layout → ℕ → ℕ
 fitting_count Overwriting n = n
 fitting_count (Erasing height synchronized whole) n = if nat_lt n height then n else height - 2
 
--- the rows that are drawn
-abbrev pub fitting : Layout → List DrawnRow → List DrawnRow
-fitting layout rows = take (fitting_count layout (length rows)) rows
+-- those of rows before which fewer than n come
+abbrev pub preferred : ℕ → List DrawnRow → List DrawnRow
+preferred n rows = map (λ it. it.1) (filter (λ it. nat_lt it.0 n) (zip (places (map (λ drawn. drawn.0) rows)) rows))
+
+-- the rows that are drawn: as many as fit, the first of them, or those of running tasks before others
+abbrev pub fitting : Options → List DrawnRow → List DrawnRow
+fitting options rows =
+    let n = fitting_count (layout_of options) (length rows) in
+    if options.prefer_running then preferred n rows else take n rows
 
 -- an ellipsis: U+2026, or in ASCII three dots
 abbrev pub ellipsis : Bool → List ℕ

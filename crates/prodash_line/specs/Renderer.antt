@@ -68,6 +68,7 @@ default_options = record {
   bar_columns = None;
   ascii = false;
   times = false;
+  prefer_running = false;
 }
 
 -- the refusal of an ended renderer
@@ -155,7 +156,7 @@ drawn_rows r at rows = with_throughputs r.tracker at (filtered r.options.level_f
 
 -- those of them that fit the window
 abbrev pub fitting_rows : Renderer → ℕ → List PathRow → List DrawnRow
-fitting_rows r at rows = fitting (layout_of r.options) (drawn_rows r at rows)
+fitting_rows r at rows = fitting r.options (drawn_rows r at rows)
 
 -- the lines of the rows that fit, and the line that says how many are hidden
 abbrev pub drawn_lines : Renderer → ℕ → List PathRow → List Line

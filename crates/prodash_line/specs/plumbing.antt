@@ -8,5 +8,6 @@ pub mod Writing
 pub mod RowWriting
 pub mod OverwriteBytes
 pub mod Observing
+pub mod Choosing
 pub mod FrameWriting
 pub mod RenderedInputs

@@ -24,6 +24,8 @@ mod over_write;
 #[cfg(test)]
 mod pages;
 #[cfg(test)]
+mod preferred;
+#[cfg(test)]
 mod screens;
 #[cfg(test)]
 mod styles;

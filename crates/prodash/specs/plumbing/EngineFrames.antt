@@ -26,6 +26,7 @@ draw_options o = record {
   bar_columns = o.bar_columns;
   ascii = o.ascii;
   times = o.times;
+  prefer_running = o.prefer_running;
 }
 
 module _ {S W : Type 0} where

@@ -1,9 +1,9 @@
 -- What composing a frame writes, and what it leaves to the next frame.
-use Rattle.std.specs.Prelude.{◌≡◌, ℕ, Bool, List, [], ◌∷◌, ◌++◌, ◌+◌, ◌-◌, length, Option, Some, max}
+use Rattle.std.specs.Prelude.{◌≡◌, ℕ, Bool, true, List, [], ◌∷◌, ◌++◌, ◌+◌, ◌-◌, length, Option, Some, max}
 use Rattle.std.specs.Global.{Vec}
 use Rattle.prodash_base.specs.FrameTrackers.{FrameTracker}
 use Rattle.prodash_base.specs.declared.messages.Message.{Message}
-use Rattle.prodash_base.specs.Rows.{PathRow, rows_of}
+use Rattle.prodash_base.specs.Rows.{PathRow, row_of, rows_of}
 use Rattle.prodash_base.specs.Trackers.{Tracker}
 use Rattle.prodash_base.specs.declared.progress.Row.{Row}
 use Rattle.prodash_line.specs.declared.render.line.draw.input.Input.{Input}
@@ -17,17 +17,21 @@ use Rattle.prodash_line.specs.declared.render.line.draw.layout.Layout.TheVariant
 use Rattle.prodash_line.specs.declared.render.line.draw.action.Action.TheVariants.{Leave}
 use Rattle.prodash_line.specs.declared.render.line.page.sign.Sign.TheVariants.{EraseBelow}
 use Rattle.prodash_line.specs.declared.render.line.draw.frame.Scene.{Scene}
+use Rattle.prodash_line.specs.declared.render.line.draw.rank.Quotas.{Quotas}
+use Rattle.prodash_line.specs.declared.render.line.draw.row.Measured.{Measured}
 use Rattle.prodash_line.specs.declared.render.line.draw.line_writer.LineWriter.{LineWriter}
 use Rattle.prodash_line.specs.declared.render.line.page.sign.Sign.{Sign}
 use Rattle.prodash_line.specs.Signs.{spelling}
-use Rattle.prodash_line.specs.Lines.{Line}
+use Rattle.prodash_line.specs.Lines.{Line, columns_of}
+use Rattle.prodash_line.specs.RowRanks.{ranks_of}
 use Rattle.prodash_line.specs.DrawnLines.{layout_of, as_drawn}
 use Rattle.prodash_line.specs.Frames.{Body, covered, erased_rows, lines_start, message_layout, messages_start, erasing_start, erasing_end, left_over, cursor_up, redraw, body_signs, widths_of, Frame, Closes, frame_signs}
-use Rattle.prodash_line.specs.ProgressRows.{DrawnRow, Times, times_at, filtered, fitting_count, fitting, more_line, more_lines, row_lines, greatest_midpoint}
+use Rattle.prodash_line.specs.ProgressRows.{DrawnRow, Times, times_at, filtered, fitting_count, fitting, more_line, more_lines, row_line, row_lines, midpoint_of, greatest_midpoint}
 use Rattle.prodash_line.specs.MessageLines.{message_lines, widths_of_origins}
 use Rattle.prodash_base.specs.declared.refusal.Refusal.TheVariants as refusals
 use Rattle.prodash_line.specs.Renderer.{Renderer, Drawing, FrameState, drawing_of, body_of, opening_of, ending_of, state_after, state_at, action_at, remember, latest_rows, frame_bytes, ended_after, is_cursor_hidden}
 use Rattle.prodash_line.specs.plumbing.OverwriteBytes.{lines_bytes}
+use Rattle.prodash_line.specs.plumbing.Choosing.{quotas_of, all_reserved, chosen}
 use Rattle.prodash_line.specs.plumbing.Observing.{shown_by, ahead_of, tracker_by}
 use Rattle.prodash_line.specs.Tracking.{kept_of, tracked}
 
@@ -221,7 +225,7 @@ WritesRows scene tracker widths rows old new =
 
 -- the rows of these that fit
 abbrev pub fitting_shown : Options → Option Tracker → List Row → List DrawnRow
-fitting_shown options tracker rows = fitting (layout_of options) (shown_rows options tracker rows)
+fitting_shown options tracker rows = fitting options (shown_rows options tracker rows)
 
 -- their lines, and the line that says how many are hidden
 abbrev pub fitting_lines : Options → ℕ → Times → Option Tracker → List Row → List Line
@@ -255,6 +259,61 @@ count_of levels rows = length (filtered levels (rows_of rows))
 pub record SplitsFitting (layout : Layout) (levels : Option (ℕ × ℕ)) (rows shown others : List Row) : Type 0 where
   pub whole : rows ≡ shown ++ others
   pub count : count_of levels shown ≡ fitting_count layout (count_of levels rows)
+
+-- the rows of a scene are split so
+abbrev pub SplitsScene : Scene → List Row → List Row → Type 0
+SplitsScene scene shown others = SplitsFitting (layout_of scene.options) scene.options.level_filter scene.rows.now shown others
+
+-- all rows are drawn, or the first ones
+abbrev pub DrawsFirst : Options → List Row → Type 0
+DrawsFirst options others = options.prefer_running ≡ true → count_of options.level_filter others ≡ 0
+
+-- rows that are chosen by quotas
+abbrev pub chosen_rows : Options → Quotas → Option Tracker → List Row → List DrawnRow
+chosen_rows options quotas tracker rows = chosen quotas (ranks_of (filtered options.level_filter (rows_of rows))) (shown_rows options tracker rows)
+
+-- and their lines
+abbrev pub chosen_lines : Options → ℕ → Times → Quotas → Option Tracker → List Row → List Line
+chosen_lines options midpoint times quotas tracker rows = row_lines options midpoint times (chosen_rows options quotas tracker rows)
+
+-- the quotas of these rows if this many are drawn
+abbrev pub quotas_for : Option (ℕ × ℕ) → List Row → ℕ → Quotas
+quotas_for levels rows most = all_reserved (quotas_of most) (ranks_of (filtered levels (rows_of rows)))
+
+-- rows chosen by quotas have been drawn besides those of old, aligned to this midpoint
+pub record AddsChosen (options : Options) (aligned : ℕ) (times : Times) (quotas : Quotas) (tracker : Option Tracker) (rows : List Row) (old new : Drawn) : Type 0 where
+  pub widths : new.widths.items ≡ old.widths.items ++ widths_of (chosen_lines options aligned times quotas tracker rows)
+  pub midpoint : new.midpoint ≡ max old.midpoint (greatest_midpoint options.defensive (chosen_rows options quotas tracker rows))
+  pub rows_erased : new.rows_erased ≡ old.rows_erased
+  pub action : new.action ≡ old.action
+
+-- as many of a scene have been drawn besides those of old
+abbrev pub DrawsChosen : Scene → ℕ → Option FrameTracker → Drawn → Drawn → Type 0
+DrawsChosen scene most tracker old new =
+    AddsChosen scene.options scene.past.now.midpoint (times_in scene) (quotas_for scene.options.level_filter scene.rows.now most) (ahead_of tracker) scene.rows.now old new
+
+-- their lines follow the bytes of old
+abbrev pub WritesChosen : Scene → ℕ → Option FrameTracker → LineWriter → LineWriter → Type 0
+WritesChosen scene most tracker old new =
+    let quotas = quotas_for scene.options.level_filter scene.rows.now most in
+    let lines = chosen_lines scene.options scene.past.now.midpoint (times_in scene) quotas (ahead_of tracker) scene.rows.now in
+    AppendsOver (layout_of scene.options) old [] lines new
+
+-- the line of a row of a scene, with what is measured of it
+abbrev pub measured_line : Scene → Row → Measured → Line
+measured_line scene row measured =
+    as_drawn scene.options (row_line scene.options.defensive scene.options.terminal_dimensions.0 scene.options.bar_columns scene.past.now.midpoint (row_of row, measured.throughput) (times_at measured.timer.now measured.at (row_of row)))
+
+-- it follows the bytes of old
+abbrev pub WritesRow : Scene → Row → Measured → LineWriter → LineWriter → Type 0
+WritesRow scene row measured old new = AppendsOver (layout_of scene.options) old [] (measured_line scene row measured ∷ []) new
+
+-- the row has been drawn besides those of old
+pub record DrawsRowOf (scene : Scene) (row : Row) (measured : Measured) (old new : Drawn) : Type 0 where
+  pub widths : new.widths.items ≡ old.widths.items ++ columns_of (measured_line scene row measured) ∷ []
+  pub midpoint : new.midpoint ≡ max old.midpoint (midpoint_of scene.options.defensive (row_of row, measured.throughput))
+  pub rows_erased : new.rows_erased ≡ old.rows_erased
+  pub action : new.action ≡ old.action
 
 -- the line that says how many of these rows are hidden
 abbrev pub more_of : Options → List Row → List Line

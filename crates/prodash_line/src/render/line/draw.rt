@@ -20,6 +20,7 @@ mod message;
 mod more;
 mod over_write;
 pub(crate) mod plain_progress;
+mod rank;
 mod room;
 mod row;
 mod row_time;

@@ -56,6 +56,10 @@ pub struct Options {
     /// long the task has run, how long the rest takes, for how long there was no step, or how long
     /// it took. The bar gives way to it.
     pub times: bool,
+    /// Whether the rows of running tasks are drawn before others where not all fit, then the rows
+    /// above them, those of waiting tasks, the rows above those, and last those of finished tasks.
+    /// They keep their order. Otherwise the first rows are drawn.
+    pub prefer_running: bool,
     /// Whether rows show the throughput of values whose unit asks for it.
     pub throughput: bool,
     /// The lowest and the highest level of the rows that are drawn, or `None` to draw all rows.

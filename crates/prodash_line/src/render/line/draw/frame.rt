@@ -1,9 +1,10 @@
 //! Frames: the lines of messages and rows, written over the lines on screen.
-ghost use Rattle.std.specs.Prelude.{◌≡◌, [], ◌++◌, drop, OnOk, IfOk, IsOkUnless};
+ghost use Rattle.std.specs.Prelude.{◌≡◌, ℕ, true, List, [], ◌++◌, drop, OnOk, IfOk, IsOkUnless};
 ghost use Rattle.prodash_line.specs.declared.render.line.draw.action.Action.TheVariants.{Redraw};
 ghost use Rattle.prodash_line.specs.Frames.{first_width, redraw, cursor_up};
+ghost use Rattle.prodash_line.specs.DrawnLines.{prefers_running};
 ghost use Rattle.prodash_line.specs.Renderer.{ending_of};
-ghost use Rattle.prodash_line.specs.plumbing.FrameWriting.{closing_signs, closing_bytes, Composes, AppendsSigns, AppendsBody, AppendsRedraw, BeginsFrame, FinishesRedraw, LeftBy, LeftByTick, LeftByAction, AddsOrigins, DrawsRows, DrawsFitting, WritesMessages, WritesRows, WritesFitting, resize_to, tick_seeing};
+ghost use Rattle.prodash_line.specs.plumbing.FrameWriting.{closing_signs, closing_bytes, Composes, AppendsSigns, AppendsBody, AppendsRedraw, BeginsFrame, FinishesRedraw, LeftBy, LeftByTick, LeftByAction, AddsOrigins, DrawsRows, DrawsFitting, WritesMessages, WritesRows, WritesRow, WritesChosen, WritesFitting, SplitsScene, DrawsFirst, DrawsRowOf, DrawsChosen, resize_to, tick_seeing};
 ghost use Rattle.prodash_line.specs.Tracking.{kept_of};
 ghost use Rattle.prodash_line.specs.plumbing.Observing.{ObservesDrawn, ObservesScene};
 ghost use Rattle.prodash_line.specs.plumbing.OverwriteBytes.{blank_bytes};
@@ -17,7 +18,8 @@ use crate::render::line::draw::input::Options;
 use crate::render::line::draw::layout::Layout;
 use crate::render::line::draw::line_writer::LineWriter;
 use crate::render::line::draw::message::{greatest_width, push_message};
-use crate::render::line::draw::more::{split_fitting, write_more};
+use crate::render::line::draw::more::{count_drawn, split_fitting, write_hidden, write_more};
+use crate::render::line::draw::rank::{quotas_for, rank_of};
 use crate::render::line::draw::row::{Measured, RowTexts, is_row_drawn, push_row};
 use crate::render::line::draw::state::{Past, keep_latest};
 use crate::render::line::draw::tracker::{begin_observing, observe_row};
@@ -323,7 +325,7 @@ fn redraw_rows(
 }
 
 /// Writes the lines of the rows that are drawn and fit over the lines on screen, and the line that
-/// says how many are hidden. Observes all rows that are drawn.
+/// says how many are hidden. Observes all rows that pass the filter.
 fn write_fitting(
     alloc: Global,
     out: &mut LineWriter,
@@ -340,11 +342,125 @@ fn write_fitting(
     ensures reason { IsOkUnless result Refusal.Memory }
 {
     let options = &scene.options;
+    let parts = split_fitting(options.layout(), options.level_filter, scene.rows);
+    if options.prefers_running() && !parts.1.is_empty() {
+        write_preferred(alloc, out, tracker, drawn, scene, parts)
+    } else {
+        write_first(alloc, out, tracker, drawn, scene, widths, parts)
+    }
+}
+
+/// Does what `write_fitting` does if rows of running tasks aren't preferred, or all rows fit.
+/// `parts` are the rows up to the last one that is drawn and fits, and the others.
+#[inline(always)]
+fn write_first(
+    alloc: Global,
+    out: &mut LineWriter,
+    tracker: &mut Option<FrameThroughput>,
+    drawn: &mut Drawn,
+    scene: &Scene<'_>,
+    widths: &[u16],
+    parts: (&[Row], &[Row]),
+) -> Result<(), Refusal>
+    requires split { SplitsScene scene.now parts.0.now parts.1.now }
+    requires first { DrawsFirst scene.now.options parts.1.now }
+    ensures bytes { OnOk result
+        (WritesFitting scene.now tracker.old widths.now out.old out.new) }
+    ensures drawn { OnOk result (DrawsFitting scene.now tracker.old drawn.old drawn.new) }
+    ensures observed { OnOk result (ObservesScene scene.now tracker.old tracker.new) }
+    ensures kept { kept_of tracker.new ≡ kept_of tracker.old }
+    ensures reason { IsOkUnless result Refusal.Memory }
+{
+    let (shown, others) = parts;
+    let options = &scene.options;
     let layout = options.layout();
-    let (shown, others) = split_fitting(layout, options.level_filter, scene.rows);
     let covered = layout.covered_widths(widths);
     write_rows(alloc, out, tracker, drawn, scene, covered, shown)?;
     write_more(alloc, out, tracker, drawn, options, others)?;
+    Ok(())
+}
+
+/// Does what `write_fitting` does if rows of running tasks are preferred. `parts` are the rows up
+/// to the last one of as many as fit, and the others.
+fn write_preferred(
+    alloc: Global,
+    out: &mut LineWriter,
+    tracker: &mut Option<FrameThroughput>,
+    drawn: &mut Drawn,
+    scene: &Scene<'_>,
+    parts: (&[Row], &[Row]),
+) -> Result<(), Refusal>
+    requires split { SplitsScene scene.now parts.0.now parts.1.now }
+    requires preferred { prefers_running scene.now.options ≡ true }
+    ensures bytes { (widths : List ℕ) → OnOk result
+        (WritesFitting scene.now tracker.old widths out.old out.new) }
+    ensures drawn { OnOk result (DrawsFitting scene.now tracker.old drawn.old drawn.new) }
+    ensures observed { OnOk result (ObservesScene scene.now tracker.old tracker.new) }
+    ensures kept { kept_of tracker.new ≡ kept_of tracker.old }
+    ensures reason { IsOkUnless result Refusal.Memory }
+{
+    let (first, others) = parts;
+    let most = count_drawn(scene.options.level_filter, first);
+    write_chosen(alloc, out, tracker, drawn, scene, most)?;
+    write_hidden(out, drawn, &scene.options, others)?;
+    Ok(())
+}
+
+/// Writes the lines of as many rows, those of running tasks before others, each on a row of the
+/// terminal that is erased first. Adds their widths to those that are drawn, and observes all rows
+/// that pass the filter.
+fn write_chosen(
+    alloc: Global,
+    out: &mut LineWriter,
+    tracker: &mut Option<FrameThroughput>,
+    drawn: &mut Drawn,
+    scene: &Scene<'_>,
+    most: usize,
+) -> Result<(), Refusal>
+    ensures bytes { OnOk result (WritesChosen scene.now most tracker.old out.old out.new) }
+    ensures drawn { OnOk result (DrawsChosen scene.now most tracker.old drawn.old drawn.new) }
+    ensures observed { OnOk result (ObservesScene scene.now tracker.old tracker.new) }
+    ensures kept { kept_of tracker.new ≡ kept_of tracker.old }
+    ensures reason { IsOkUnless result Refusal.Memory }
+{
+    let (rows, levels) = (scene.rows, scene.options.level_filter);
+    let mut quotas = quotas_for(levels, rows, most);
+    let mut texts = RowTexts::new(alloc);
+    for (n, row) in rows.iter().enumerate() {
+        if !is_row_drawn(levels, row) {
+            continue;
+        }
+        let throughput = observe_row(alloc, tracker, row)?;
+        if quotas.take(rank_of(levels, row, &rows[n + 1..])) {
+            let measured = Measured {
+                throughput,
+                timer: scene.timer,
+                at: scene.at,
+            };
+            write_row(alloc, out, &mut texts, drawn, scene, row, measured)?;
+        }
+    }
+    Ok(())
+}
+
+/// Writes the line of a row over no line, and adds its width to those that are drawn.
+fn write_row(
+    alloc: Global,
+    out: &mut LineWriter,
+    texts: &mut RowTexts,
+    drawn: &mut Drawn,
+    scene: &Scene<'_>,
+    row: &Row,
+    measured: Measured<'_>,
+) -> Result<(), Refusal>
+    ensures bytes { OnOk result (WritesRow scene.now row.now measured.entry out.old out.new) }
+    ensures drawn { OnOk result (DrawsRowOf scene.now row.now measured.entry drawn.old drawn.new) }
+    ensures reason { IsOkUnless result Refusal.Memory }
+{
+    let midpoint = scene.past.midpoint();
+    let own_midpoint = push_row(alloc, out, texts, &scene.options, midpoint, row, measured)?;
+    drawn.midpoint = drawn.midpoint.max(own_midpoint);
+    drawn.widths.push(out.end_line_over(0)?)?;
     Ok(())
 }
 

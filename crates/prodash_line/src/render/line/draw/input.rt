@@ -1,6 +1,6 @@
 //! Inputs of the renderer, its options, and its answers.
 ghost use Rattle.std.specs.Prelude.{◌≡◌};
-ghost use Rattle.prodash_line.specs.DrawnLines.{limit_of, message_limit_of, erases_rows, layout_of};
+ghost use Rattle.prodash_line.specs.DrawnLines.{limit_of, message_limit_of, erases_rows, prefers_running, layout_of};
 ghost use Rattle.prodash_line.specs.Renderer.{default_options};
 
 use crate::render::line::draw::layout::Layout;
@@ -63,13 +63,18 @@ pub struct Options {
     /// the task has run, how long the rest takes, for how long there was no step, or how long it
     /// took. The bar gives way to it.
     pub times: bool,
+    /// Whether the rows of running tasks are drawn before others where not all fit, then the rows
+    /// above them, those of waiting tasks, the rows above those, and last those of finished tasks.
+    /// They keep their order. Otherwise the first rows are drawn.
+    pub prefer_running: bool,
 }
 
 impl Default for Options {
     /// Returns options for a coloured terminal of 80 columns and 20 rows. Rows of all levels are
     /// drawn, messages have no timestamps, the cursor stays visible, frames are neither
     /// defensive nor synchronized, messages are cut, and aligned without an origin too, bars take
-    /// all columns that are left, rows show no times, and the renderer keeps running without rows.
+    /// all columns that are left, rows show no times, the first rows are drawn if not all fit, and
+    /// the renderer keeps running without rows.
     fn default() -> Options
         ensures { result ≡ default_options }
     {
@@ -88,6 +93,7 @@ impl Default for Options {
             bar_columns: None,
             ascii: false,
             times: false,
+            prefer_running: false,
         }
     }
 }
@@ -118,6 +124,13 @@ impl Options {
         ensures { result ≡ erases_rows self.now }
     {
         self.defensive && self.output_is_terminal
+    }
+
+    /// Whether rows of running tasks are drawn before others where frames have room for some only.
+    pub(crate) fn prefers_running(&self) -> bool
+        ensures { result ≡ prefers_running self.now }
+    {
+        self.prefer_running && self.erases_rows()
     }
 
     /// Returns how frames are laid out.

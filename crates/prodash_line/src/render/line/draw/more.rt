@@ -42,7 +42,7 @@ pub(crate) fn split_fitting(
 }
 
 /// Returns how many rows the filter of levels lets through.
-fn count_drawn(levels: Option<(Level, Level)>, rows: &[Row]) -> usize
+pub(crate) fn count_drawn(levels: Option<(Level, Level)>, rows: &[Row]) -> usize
     ensures { result ≡ count_of levels rows.now }
 {
     let mut count = 0;
@@ -88,12 +88,27 @@ pub(crate) fn write_more(
     ensures kept { kept_of tracker.new ≡ kept_of tracker.old }
     ensures reason { IsOkUnless result Refusal.Memory }
 {
+    write_hidden(out, drawn, options, others)?;
+    observe_rows(alloc, tracker, options.level_filter, others)
+}
+
+/// Writes the line that says that as many rows are hidden as there are among these, if there are
+/// any and there is a row for it.
+pub(crate) fn write_hidden(
+    out: &mut LineWriter,
+    drawn: &mut Drawn,
+    options: &Options,
+    others: &[Row],
+) -> Result<(), AllocError>
+    ensures bytes { OnOk result (WritesMore options.now others.now out.old out.new) }
+    ensures drawn { OnOk result (CountsRows options.now others.now drawn.old drawn.new) }
+{
     let hidden = count_drawn(options.level_filter, others);
     let (_, height) = options.terminal_dimensions;
     if hidden > 0 && height >= 2 {
         drawn.widths.push(write_count(out, options, hidden)?)?;
     }
-    observe_rows(alloc, tracker, options.level_filter, others)
+    Ok(())
 }
 
 /// Writes the line that says that `count` rows are hidden. Returns its width as it is cut.

@@ -34,6 +34,7 @@ impl Options {
             bar_columns: self.bar_columns,
             ascii: self.ascii,
             times: self.times,
+            prefer_running: self.prefer_running,
         }
     }
 }
@@ -43,7 +44,8 @@ impl Default for Options {
     /// second, no initial delay and no throughput: a coloured terminal of 80 columns and 20 rows,
     /// all levels, no timestamps, a visible cursor, frames that are neither defensive nor
     /// synchronized, messages that are cut, and aligned without an origin too, bars on all columns
-    /// that are left, rows without times, and a renderer that keeps running without rows.
+    /// that are left, rows without times, the first rows if not all fit, and a renderer that keeps
+    /// running without rows.
     fn default() -> Options
         ensures { result ≡ default_options }
     {
@@ -62,6 +64,7 @@ impl Default for Options {
             bar_columns,
             ascii,
             times,
+            prefer_running,
         } = draw::Options::default();
         Options {
             output_is_terminal,
@@ -76,6 +79,7 @@ impl Default for Options {
             bar_columns,
             ascii,
             times,
+            prefer_running,
             throughput: false,
             level_filter,
             initial_delay: None,

@@ -40,7 +40,7 @@ lines : (c : goal.In_ok-finish_redraw)
 lines c =
     let options = c.args.scene.now.options in
     let layout = layout_of options in
-    ap (λ (rows : List DrawnRow). row_lines options c.args.scene.now.past.now.midpoint (times_in c.args.scene.now) (fitting layout rows) ++ more_lines options (length rows - length (fitting layout rows))) (shown c)
+    ap (λ (rows : List DrawnRow). row_lines options c.args.scene.now.past.now.midpoint (times_in c.args.scene.now) (fitting options rows) ++ more_lines options (length rows - length (fitting options rows))) (shown c)
 
 widths_are : (c : goal.In_ok-finish_redraw) → c.write_fitting.new.drawn.widths.items ≡ widths_of (drawing_in c.args.scene.now (before c)).lines
 widths_are c =
@@ -69,7 +69,7 @@ returns-clause-state c =
     let widths = widths_are c in
     let action = c.in_ok-write_fitting.ensures.drawn.action in
     let midpoint : c.write_fitting.new.drawn.midpoint ≡ greatest_midpoint c.args.scene.now.options.defensive (fitting_rows (renderer c) at rows) =
-    omega (arith, c.in_ok-write_fitting.ensures.drawn.midpoint, ap (λ (rs : List DrawnRow). greatest_midpoint c.args.scene.now.options.defensive (fitting layout rs)) (shown c)) in
+    omega (arith, c.in_ok-write_fitting.ensures.drawn.midpoint, ap (λ (rs : List DrawnRow). greatest_midpoint c.args.scene.now.options.defensive (fitting c.args.scene.now.options rs)) (shown c)) in
     let tracker =
     ap (λ (a : Action). tracker_by a c.write_fitting.new.tracker rows) action
     ∙ ap (λ t. option_map (λ t. reconcile t rows) t) (c.in_ok-write_fitting.ensures.observed
