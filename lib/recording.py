@@ -19,7 +19,7 @@ FAULT = re.compile("line ([0-9]+): not an event")
 # The most columns and rows that a terminal may have.
 MOST = 65535
 # How the program draws: as prodash-live does.
-HOW = ("--any-unit", "--defensive", "--times")
+HOW = ("--any-unit", "--defensive", "--times", "--prefer-running")
 # How many bytes are read at a time, and how many characters of a faulty line are shown.
 READ, SHOWN = 65536, 60
 

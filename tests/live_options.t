@@ -37,6 +37,7 @@ The version, the help, and what is refused.
         --no-color              no colours, as with $NO_COLOR
         --timestamps            messages with their time of day, in UTC
         --no-times              rows without the times of their tasks
+        --no-prefer-running     the first rows where not all fit, not those of running tasks first
         --throughput            no effect: units that end in /s have their throughput
         --stdout                draw on standard output, not on standard error
         --strict                end at the first line that is faulty

@@ -165,12 +165,13 @@ An output that can't be written.
     ROWS           rows of the terminal, 1 to 65535
   
   Options:
-    --defensive    erase the rows that frames write on, as prodash-live does
-    --colored      write colours
-    --any-unit     take units of any name, as recordings of prodash-live have
-    --times        rows with the times of their tasks, as prodash-live draws them
-    --help         print help
-    --version      print version
+    --defensive       erase the rows that frames write on, as prodash-live does
+    --colored         write colours
+    --any-unit        take units of any name, as recordings of prodash-live have
+    --times           rows with the times of their tasks, as prodash-live draws them
+    --prefer-running  with --defensive, the rows of running tasks first where not all fit
+    --help            print help
+    --version         print version
   $ prodash-replay --help | head -n 1
   Replays event lines from standard input, and writes the frames that they draw
   $ prodash-replay page --version

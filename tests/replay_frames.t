@@ -150,6 +150,40 @@ the row is erased and drawn again.
    b
    \xe2\x80\xa6 and 3 more (esc)
   
+
+With `--prefer-running` the rows of running tasks are drawn first, then those above them, and in the
+order of the tree: `b` has finished, `c` waits, and `d` and `f` run.
+
+  $ {
+  >   printf 'add 0 a\nadd 1 b\nadd 1 c\nadd 1 d\nadd 1 e\nadd 1 f\n'
+  >   for n in 2 3 4 5 6; do echo "init $n 3 -"; done
+  >   printf 'set 2 3\nset 4 1\nset 6 2\ntick 0\n'
+  > } >six
+  $ prodash-replay page 20 5 --defensive <six
+   a
+    b 3/3 [=========>]
+    c 0/3 [>---------]
+   \xe2\x80\xa6 and 3 more (esc)
+  
+  $ prodash-replay page 20 5 --defensive --prefer-running <six
+   a
+    d 1/3 [===>------]
+    f 2/3 [======>---]
+   \xe2\x80\xa6 and 3 more (esc)
+  
+  $ prodash-replay page 20 4 --defensive --prefer-running <six
+    d 1/3 [===>------]
+    f 2/3 [======>---]
+   \xe2\x80\xa6 and 4 more (esc)
+  
+
+Frames that erase no rows draw all.
+
+  $ prodash-replay page 20 5 --prefer-running <six | grep -c /3
+  5
+
+On a window of two rows there is only the line that says how many are hidden.
+
   $ prodash-replay bytes 40 2 --defensive <five | tr '\033' E
   \rE[?7lE[2K \xe2\x80\xa6 and 5 more (esc)
   E[JE[1AE[?7h (no-eol)

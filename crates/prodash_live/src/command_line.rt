@@ -51,6 +51,7 @@ Options:
       --no-color              no colours, as with $NO_COLOR
       --timestamps            messages with their time of day, in UTC
       --no-times              rows without the times of their tasks
+      --no-prefer-running     the first rows where not all fit, not those of running tasks first
       --throughput            no effect: units that end in /s have their throughput
       --stdout                draw on standard output, not on standard error
       --strict                end at the first line that is faulty
@@ -119,6 +120,7 @@ fn set_flag(options: &mut Options<'_>, flag: &str) -> bool {
         "--no-color" => options.colors = ColorChoice::Never,
         "--timestamps" => options.has_timestamps = true,
         "--no-times" => options.has_times = false,
+        "--no-prefer-running" => options.prefers_running = false,
         "--throughput" => {}
         "--stdout" => options.to_stdout = true,
         "--strict" => options.is_strict = true,

@@ -35,6 +35,8 @@ pub struct Options<'a> {
     pub has_timestamps: bool,
     /// Whether rows on a terminal say how long their tasks have run, and still take.
     pub has_times: bool,
+    /// Whether the rows of running tasks are drawn before others where not all fit.
+    pub prefers_running: bool,
     /// Whether to draw on standard output in place of standard error.
     pub to_stdout: bool,
     /// Whether the first faulty line ends the program.
@@ -70,6 +72,7 @@ impl<'a> Options<'a> {
             is_ascii: !env.is_utf8,
             has_timestamps: false,
             has_times: true,
+            prefers_running: true,
             to_stdout: false,
             is_strict: false,
             replaces_words: false,
@@ -104,6 +107,7 @@ impl<'a> Options<'a> {
             bar_columns: Some(self.bar_columns),
             throughput: true,
             times: self.has_times,
+            prefer_running: self.prefers_running,
             defensive: true,
             synchronized: !self.has_marks,
             whole_messages: true,

@@ -24,12 +24,13 @@ Arguments:
   ROWS           rows of the terminal, 1 to 65535
 
 Options:
-  --defensive    erase the rows that frames write on, as prodash-live does
-  --colored      write colours
-  --any-unit     take units of any name, as recordings of prodash-live have
-  --times        rows with the times of their tasks, as prodash-live draws them
-  --help         print help
-  --version      print version
+  --defensive       erase the rows that frames write on, as prodash-live does
+  --colored         write colours
+  --any-unit        take units of any name, as recordings of prodash-live have
+  --times           rows with the times of their tasks, as prodash-live draws them
+  --prefer-running  with --defensive, the rows of running tasks first where not all fit
+  --help            print help
+  --version         print version
 ";
 
 /// What lines end in that begin an item in one of the units that are read without `--any-unit`.
@@ -81,16 +82,18 @@ struct ReplayOptions {
     any_unit: bool,
     /// Whether rows have the times of their tasks.
     times: bool,
+    /// Whether the rows of running tasks are drawn before others where not all fit.
+    prefer_running: bool,
     ghost wide: { 0 < columns },
     ghost high: { 0 < rows },
 }
 
 /// Runs the program: replays the events of `input`, one per line. `words` are the program's name,
 /// and then `bytes COLUMNS ROWS` or `page COLUMNS ROWS`, and perhaps `--defensive`, `--colored`,
-/// `--any-unit` and `--times`. `bytes` writes the bytes of all frames to `out`; `page` plays them on a page of that
-/// size and writes each row that it ever had, without trailing blanks. With `--help` anywhere among
-/// the words the help is written instead, and else with `--version` the version. Returns the exit
-/// status.
+/// `--any-unit`, `--times` and `--prefer-running`. `bytes` writes the bytes of all frames to `out`;
+/// `page` plays them on a page of that size and writes each row that it ever had, without trailing
+/// blanks. With `--help` anywhere among the words the help is written instead, and else with
+/// `--version` the version. Returns the exit status.
 ///
 /// If anything fails, one line on `err` says what. Unless it was `out` that failed, nothing has
 /// been written to `out` then.
@@ -141,13 +144,15 @@ fn parse_command_line(words: &[String]) -> Result<Command, Fault> {
     let [_, format, columns, rows, flags @ ..] = words else {
         return Err(USAGE);
     };
-    let (mut defensive, mut colored, mut any_unit, mut times) = (false, false, false, false);
+    let (mut defensive, mut colored, mut any_unit) = (false, false, false);
+    let (mut times, mut prefer_running) = (false, false);
     for flag in flags {
         match flag.as_str() {
             "--defensive" => defensive = true,
             "--colored" => colored = true,
             "--any-unit" => any_unit = true,
             "--times" => times = true,
+            "--prefer-running" => prefer_running = true,
             _ => return Err(USAGE),
         }
     }
@@ -166,6 +171,7 @@ fn parse_command_line(words: &[String]) -> Result<Command, Fault> {
         colored,
         any_unit,
         times,
+        prefer_running,
     }))
 }
 
@@ -236,6 +242,7 @@ fn drawn(alloc: Global, options: &ReplayOptions, events: &[Event]) -> Result<Mem
             bar_columns: None,
             ascii: false,
             times: options.times,
+            prefer_running: options.prefer_running,
         },
         throughput: true,
     };
