@@ -1,5 +1,5 @@
 -- The marks of tasks: as many as are kept.
-use Rattle.std.proofs.Common.{◌≡◌, ℕ, suc, ◌-◌, ◌<◌, nat_lt, Bool, true, false, cond, List, [], ◌∷◌, length, take, replicate, get_or, Option, Some, None, refl, ap, ◌∙◌, arith}
+use Rattle.std.proofs.Common.{◌≡◌, ℕ, suc, ◌-◌, ◌<◌, nat_lt, Bool, true, false, cond, List, [], ◌∷◌, length, take, get_or, Option, Some, None, refl, ap, ◌∙◌, arith}
 use Rattle.std.specs.Prelude.{IfSome}
 use Rattle.std.specs.Ordering.{is_eq}
 use Rattle.std.specs.declared.cmp.Ordering.{Ordering}
@@ -10,7 +10,7 @@ use Rattle.std.proofs.lemmas.List.{length-take, length-replicate}
 use Rattle.prodash_base.specs.Path.{Path, path_cmp}
 use Rattle.prodash_base.specs.Rows.{PathRow, RowProgress}
 use Rattle.prodash_base.specs.Samples.{one_second}
-use Rattle.prodash_base.specs.Timers.{kept_marks, first_marks, mark_at, with_mark, earliest_mark, Timing, Timings, begins_anew, first_timing, later_timing, next_timing, with_timing, with_timings, HoldsMarks}
+use Rattle.prodash_base.specs.Timers.{kept_marks, mark_at, with_mark, earliest_mark, Timing, Timings, begins_anew, first_timing, later_timing, next_timing, with_timing, with_timings, HoldsMarks}
 use Rattle.prodash_base.specs.declared.timing.marks.Mark.{Mark}
 
 -- the earliest mark is the last of the list

@@ -1,9 +1,8 @@
 -- Worked rows of times as texts.
-use Rattle.std.proofs.Common.{◌≡◌, ℕ, ◌^◌, ◌-◌, codes, Option, Some, None, true, false, refl}
+use Rattle.std.proofs.Common.{◌≡◌, ◌^◌, ◌-◌, codes, Some, None, true, false, refl}
 use Rattle.std.specs.Fmt.{digits}
 use Rattle.prodash_base.specs.Numerals.{last_digits}
 use Rattle.prodash_base.specs.Times.{seconds_text, duration_text, stopwatch_text, remaining_seconds, time_text}
-use Rattle.prodash_base.specs.declared.timing.task_time.TaskTime.{TaskTime}
 
 pub seconds : seconds_text 42 ≡ codes "42s"
 unfolding digits last_digits

@@ -2,11 +2,11 @@
 use Rattle.std.specs.Prelude.{◌≡◌, ℕ, ◌+◌, ◌-◌, ◌*◌, ◌^◌, min, nat_eq, nat_lt, nat_le, Bool, true, false, not, ◌||◌, List, [], ◌∷◌, length, take, replicate, Option, Some, None, if◌then◌else◌, unwrap_or}
 use Rattle.std.specs.Bool.{then_some}
 use Rattle.std.specs.List.{AllByRecursion}
-use Rattle.std.specs.Option.{option_map, option_eq}
+use Rattle.std.specs.Option.{option_eq}
 use Rattle.std.specs.FinMap.{find, put}
 use Rattle.prodash_base.specs.Path.{Path, path_cmp}
 use Rattle.prodash_base.specs.Units.{Measure, same_measure}
-use Rattle.prodash_base.specs.Rows.{Phase, Blocked, Halted, Running, RowProgress, PathRow}
+use Rattle.prodash_base.specs.Rows.{Phase, Running, RowProgress, PathRow}
 use Rattle.prodash_base.specs.Moments.{seconds_of}
 use Rattle.prodash_base.specs.Samples.{one_second}
 use Rattle.prodash_base.specs.Times.{is_past, finished_at, remaining_seconds}
