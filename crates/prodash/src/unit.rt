@@ -5,6 +5,6 @@ pub mod label_texts;
 
 pub use human::Human;
 pub use prodash_base::unit::{
-    Bytes, DisplayValue, Duration, Kind, Range, Unit, dynamic, dynamic_and_mode, label,
-    label_and_mode, throughput_message,
+    Bytes, DisplayValue, Duration, Kind, Range, Scale, ScaleError, Scaled, Scales, Unit, dynamic,
+    dynamic_and_mode, label, label_and_mode, throughput_message,
 };

@@ -4,6 +4,7 @@ pub mod AdjacencyLaws
 pub mod AncestorLaws
 pub mod RingLaws
 pub mod SameKinds
+pub mod ScaleLaws
 pub mod WorkedAdjacency
 pub mod WorkedPaths
 pub mod Prefixes

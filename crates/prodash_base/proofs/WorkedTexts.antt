@@ -1,10 +1,11 @@
 -- The definitions of texts on worked values, each computed.
 use Rattle.std.proofs.Common.{◌≡◌, ℕ, ◌-◌, ◌*◌, ◌^◌, Some, None, true, false, refl}
-use Rattle.std.specs.Prelude.{Option, codes}
+use Rattle.std.specs.Prelude.{List, [], ◌∷◌, Option, codes}
 use Rattle.std.specs.Fmt.{digits}
 use Rattle.prodash_base.specs.Numerals.{last_digits}
 use Rattle.prodash_base.specs.Quantities.{percentage_of, bytes_text, human_text, duration_text}
-use Rattle.prodash_base.specs.Shown.{Shown, label_shown, range_shown, bytes_shown, duration_shown, human_shown, label_fraction, throughput_text}
+use Rattle.prodash_base.specs.Shown.{Shown, label_shown, range_shown, bytes_shown, duration_shown, human_shown, scaled_shown, label_fraction, throughput_text}
+use Rattle.prodash_base.specs.Scales.{Scaling, Scalings, scaled_text}
 use Rattle.prodash_base.specs.Displays.{amount, all_text, values_text, unit_text}
 use Rattle.prodash_base.specs.ThroughputMessages.{message_text, seconds_text}
 use Rattle.prodash_base.specs.declared.unit.display.Mode.{Mode}
@@ -164,3 +165,60 @@ message_of_no_time = refl
 pub half_hundredth : seconds_text 1_005_000_000 ≡ codes "1.01"
 unfolding digits last_digits
 half_hundredth = refl
+
+abbrev scale : ℕ → ℕ → List ℕ → Scaling
+scale factor decimals suffix = record { factor = factor; decimals = decimals; suffix = suffix }
+
+abbrev binary : Scalings
+binary = record {
+  separator = codes " of ";
+  scales =
+      scale 1 0 (codes " B") ∷ scale 1024 1 (codes " KiB") ∷ scale (1024 ^ 2) 2 (codes " MiB") ∷ [];
+}
+
+abbrev cents : Scalings
+cents = record { separator = codes "/"; scales = scale 100 2 [] ∷ [] }
+
+pub each_value_has_its_scale : all_text (scaled_shown binary (codes "read")) percentage_first (amount 1536 (Some (2 * 1024 ^ 2)) None) ≡ codes "[0%] 1.5 KiB of 2.00 MiB read"
+unfolding digits last_digits
+each_value_has_its_scale = refl
+
+pub below_a_factor : scaled_text binary.scales 1023 ≡ codes "1023 B"
+unfolding digits last_digits
+below_a_factor = refl
+
+pub from_a_factor_on : scaled_text binary.scales 1024 ≡ codes "1.0 KiB"
+unfolding digits last_digits
+from_a_factor_on = refl
+
+pub scales_round_down : scaled_text binary.scales (1024 ^ 2 - 1) ≡ codes "1023.9 KiB"
+unfolding digits last_digits
+scales_round_down = refl
+
+pub greatest_of_scales : scaled_text binary.scales (2 ^ 64 - 1) ≡ codes "17592186044415.99 MiB"
+unfolding digits last_digits
+greatest_of_scales = refl
+
+pub below_the_first_factor : all_text (scaled_shown cents (codes "EUR")) None (amount 1234 (Some 5) None) ≡ codes "12.34/0.05 EUR"
+unfolding digits last_digits
+below_the_first_factor = refl
+
+pub throughput_in_scales : throughput_text (scaled_shown cents (codes "EUR")) (five_in 1_000_000_000) ≡ codes "|0.05/s|"
+unfolding digits last_digits
+throughput_in_scales = refl
+
+pub nothing_in_scales : scaled_text cents.scales 0 ≡ codes "0.00"
+unfolding digits last_digits
+nothing_in_scales = refl
+
+pub without_scales : scaled_text [] 1234 ≡ codes "1234"
+unfolding digits
+without_scales = refl
+
+pub factor_zero_counts_as_one : scaled_text (scale 0 1 [] ∷ []) 12 ≡ codes "12.0"
+unfolding digits last_digits
+factor_zero_counts_as_one = refl
+
+pub seven_decimals_count_as_six : scaled_text (scale 1 7 [] ∷ []) 12 ≡ codes "12.000000"
+unfolding digits last_digits
+seven_decimals_count_as_six = refl

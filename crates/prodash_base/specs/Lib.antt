@@ -10,6 +10,7 @@ pub mod Rings
 pub mod Appending
 pub mod Numerals
 pub mod Quantities
+pub mod Scales
 pub mod Shown
 pub mod Kinds
 pub mod Displays

@@ -4,6 +4,7 @@ use Rattle.std.specs.Fmt.{decimal}
 use Rattle.prodash_base.specs.Moments.{seconds_of}
 use Rattle.prodash_base.specs.Numerals.{fraction_text}
 use Rattle.prodash_base.specs.Quantities.{bytes_text, human_text, duration_text}
+use Rattle.prodash_base.specs.Scales.{Scalings, scaled_text}
 use Rattle.prodash_base.specs.declared.unit.display.Throughput.{Throughput}
 
 -- the text of each call of a kind; value and separator take the value and its bound, upper_bound takes the bound and its value
@@ -116,4 +117,12 @@ abbrev pub human_shown : ℕ → List ℕ → Shown
 human_shown places name = with_throughput (record (label_shown name) {
   value = λ value _. human_text places value;
   upper_bound = λ bound _. human_text places bound;
+})
+
+-- values in scales, with a separator and a name, as `12.34/20.00 EUR`
+abbrev pub scaled_shown : Scalings → List ℕ → Shown
+scaled_shown s name = with_throughput (record (label_shown name) {
+  value = λ value _. scaled_text s.scales value;
+  separator = λ _ _. s.separator;
+  upper_bound = λ bound _. scaled_text s.scales bound;
 })

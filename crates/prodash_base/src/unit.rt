@@ -19,6 +19,7 @@ pub mod label_texts;
 mod message;
 mod quantities;
 mod range;
+mod scaled;
 mod traits;
 mod units;
 
@@ -28,5 +29,6 @@ pub use human::Human;
 pub use kind::Kind;
 pub use message::throughput_message;
 pub use range::Range;
+pub use scaled::{Scale, ScaleError, Scaled, Scales};
 pub use traits::DisplayValue;
 pub use units::{Unit, dynamic, dynamic_and_mode, label, label_and_mode};

@@ -9,7 +9,7 @@ use Rattle.std.proofs.lemmas.Bool.Decides.{nat_tests}
 use Rattle.prodash_base.specs.declared.unit.display.Location.TheVariants.{BeforeValue}
 use Rattle.prodash_base.specs.declared.unit.display.Mode.{Mode}
 use Rattle.prodash_base.specs.declared.unit.kind.Kind.{Kind}
-use Rattle.prodash_base.specs.declared.unit.kind.Kind.TheVariants.{Label, Bytes, Duration, Human, Range}
+use Rattle.prodash_base.specs.declared.unit.kind.Kind.TheVariants.{Label, Bytes, Duration, Human, Range, Scaled}
 use Rattle.prodash_base.specs.declared.unit.units.Unit.{Unit}
 use Rattle.prodash_base.specs.contracts.unit.kind.KindPartialEq.TheImpl as kind
 use Rattle.prodash_base.specs.contracts.unit.units.UnitPartialEq.TheImpl as unit
@@ -18,17 +18,35 @@ use Rattle.prodash_script.specs.Units.{NamesUnit, is_unit_name, kind_in, name_an
 use Rattle.prodash_script.specs.plumbing.Lines.{HasNoWordWith}
 use Rattle.prodash_script.specs.Words.{after_prefix, before_suffix, plain_kind, plain_unit}
 
-if_same_kind : (k l : Kind) → kind.ghosts.eq k l ≡ true → plain_kind k ≡ plain_kind l
-if_same_kind k l = search (rules, bytes_eq-Decides, nat_tests)
+abbrev is_scaled : Kind → Bool
+is_scaled (Scaled scaled) = true
+is_scaled (Label name) = false
+is_scaled (Human human) = false
+is_scaled (Range range) = false
+is_scaled (Bytes bytes) = false
+is_scaled (Duration duration) = false
 
-same_if_kind : (k l : Kind) → plain_kind k ≡ plain_kind l → kind.ghosts.eq k l ≡ true
-same_if_kind k l = search (rules, bytes_eq-Decides, nat_tests)
+-- no name is that of a scaled kind
+never_scaled : (name : List ℕ) (k : Kind) → plain_kind k ≡ kind_in name → is_scaled k ≡ false
+never_scaled name (Scaled scaled) is =
+    let named : is_scaled (kind_in name) ≡ false = search (rules, tests) in ap is_scaled is ∙ named
+never_scaled name (Label label) is = refl
+never_scaled name (Human human) is = refl
+never_scaled name (Range range) is = refl
+never_scaled name (Bytes bytes) is = refl
+never_scaled name (Duration duration) is = refl
 
-pub if_same_unit : (u v : Unit) → unit.ghosts.eq u v ≡ true → plain_unit u ≡ plain_unit v
-if_same_unit u v = search (rules, if_same_kind, nat_tests)
+if_same_kind : (k l : Kind) → is_scaled k ≡ false → kind.ghosts.eq k l ≡ true → plain_kind k ≡ plain_kind l
+if_same_kind k l unscaled = search (rules, bytes_eq-Decides, nat_tests)
 
-pub same_if_unit : (u v : Unit) → plain_unit u ≡ plain_unit v → unit.ghosts.eq u v ≡ true
-same_if_unit u v = search (rules, same_if_kind, nat_tests)
+same_if_kind : (k l : Kind) → is_scaled k ≡ false → plain_kind k ≡ plain_kind l → kind.ghosts.eq k l ≡ true
+same_if_kind k l unscaled = search (rules, bytes_eq-Decides, nat_tests)
+
+if_same_unit : (u v : Unit) → is_scaled u.kind ≡ false → unit.ghosts.eq u v ≡ true → plain_unit u ≡ plain_unit v
+if_same_unit u v unscaled = search (rules, if_same_kind, nat_tests)
+
+same_if_unit : (u v : Unit) → is_scaled u.kind ≡ false → plain_unit u ≡ plain_unit v → unit.ghosts.eq u v ≡ true
+same_if_unit u v unscaled = search (rules, same_if_kind, nat_tests)
 
 -- what is before or after signs
 
@@ -86,6 +104,7 @@ name_anywhere (Human human) = refl
 name_anywhere (Range range) = refl
 name_anywhere (Bytes bytes) = refl
 name_anywhere (Duration duration) = refl
+name_anywhere (Scaled scaled) = refl
 
 kind_by : (b c : Bool) → (kind : Kind) → (mode : Option Mode) → (u : Unit) → (if b then Some None else if c then Some (Some (record { kind = kind; mode = mode })) else None) ≡ Some (Some u) → kind ≡ u.kind
 kind_by true c k mode u h = search rules
@@ -120,9 +139,10 @@ no_word u both percentage throughput neither word names =
 -- a unit that is made of what a word says names another exactly if both are the same
 pub named : (word : List ℕ) → (n u : Unit) → (r : Bool) → bytes_eq word (codes "-") ≡ false → is_unit_name (name_and_mode word).0 ≡ true → plain_kind n.kind ≡ kind_in (name_and_mode word).0 → n.mode ≡ (name_and_mode word).1 → r ≡ unit.ghosts.eq n u → (r ≡ true → NamesUnit (Some u) word) × (NamesUnit (Some u) word → r ≡ true)
 named word n u r dash is kind mode same =
+    let unscaled = never_scaled (name_and_mode word).0 n.kind kind in
     let reads : unit_in word ≡ Some (Some (plain_unit n)) = rw (dash, is, kind, mode) in (
-      λ t. reads ∙ ap (λ v. Some (Some v)) (if_same_unit n u (sym same ∙ t)),
-      λ names. let both : Some (Some (plain_unit n)) ≡ Some (Some (plain_unit u)) = sym reads ∙ names in same ∙ same_if_unit n u (search rules),
+      λ t. reads ∙ ap (λ v. Some (Some v)) (if_same_unit n u unscaled (sym same ∙ t)),
+      λ names. let both : Some (Some (plain_unit n)) ≡ Some (Some (plain_unit u)) = sym reads ∙ names in same ∙ same_if_unit n u unscaled (search rules),
     )
 
 -- the word of a unit, once no signs but none have made one

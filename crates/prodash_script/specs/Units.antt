@@ -5,7 +5,7 @@ use Rattle.std.specs.Option.{option_map_or}
 use Rattle.prodash_base.specs.declared.unit.display.Location.TheVariants.{BeforeValue, AfterUnit}
 use Rattle.prodash_base.specs.declared.unit.display.Mode.{Mode}
 use Rattle.prodash_base.specs.declared.unit.kind.Kind.{Kind}
-use Rattle.prodash_base.specs.declared.unit.kind.Kind.TheVariants.{Label, Bytes, Duration, Human, Range}
+use Rattle.prodash_base.specs.declared.unit.kind.Kind.TheVariants.{Label, Bytes, Duration, Human, Range, Scaled}
 use Rattle.prodash_base.specs.declared.unit.units.Unit.{Unit}
 use Rattle.prodash_script.specs.Words.{Reader, after_prefix, before_suffix, lookup, plain_unit, ref_to}
 
@@ -88,13 +88,14 @@ script_unit_in = unit_by (λ name. kind_in (line_name name))
 abbrev pub label_name : List ℕ → List ℕ
 label_name name = if bytes_eq name (codes "steps") then codes "label:steps" else name
 
--- the name of a kind of unit
+-- the name of a kind of unit; a scaled one has none
 abbrev pub name_in : Kind → List ℕ
 name_in (Label name) = label_name name.now
 name_in (Human human) = human.name.now
 name_in (Range range) = range.name.now
 name_in (Bytes bytes) = codes "bytes"
 name_in (Duration duration) = codes "duration"
+name_in (Scaled scaled) = []
 
 -- a word that says a unit; `-` says none
 abbrev pub NamesUnit : Option Unit → List ℕ → Type 0
@@ -115,6 +116,7 @@ names_with names (Bytes bytes) = names
 names_with names (Duration duration) = names
 names_with names (Human human) = names
 names_with names (Range range) = names
+names_with names (Scaled scaled) = names
 
 -- whether a kind of unit is a label whose name isn't kept yet
 abbrev pub is_new_label : List (List ℕ) → Kind → Bool
@@ -123,6 +125,7 @@ is_new_label names (Bytes bytes) = false
 is_new_label names (Duration duration) = false
 is_new_label names (Human human) = false
 is_new_label names (Range range) = false
+is_new_label names (Scaled scaled) = false
 
 -- whether what was parsed is a unit whose name isn't kept yet
 abbrev pub is_new_name : List (List ℕ) → Option (Option Unit) → Bool

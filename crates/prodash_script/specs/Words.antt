@@ -5,7 +5,7 @@ use Rattle.std.specs.List.{starts_with, ends_with}
 use Rattle.std.specs.Str.{all_ascii_digits}
 use Rattle.std.specs.Str.Parse.{digits_value}
 use Rattle.prodash_base.specs.declared.unit.kind.Kind.{Kind}
-use Rattle.prodash_base.specs.declared.unit.kind.Kind.TheVariants.{Label, Bytes, Duration, Human, Range}
+use Rattle.prodash_base.specs.declared.unit.kind.Kind.TheVariants.{Label, Bytes, Duration, Human, Range, Scaled}
 use Rattle.prodash_base.specs.declared.unit.units.Unit.{Unit}
 
 -- what a reader makes of words: a value, or nothing if they are not such
@@ -42,7 +42,7 @@ lookup (entry ∷ table) word =
 abbrev pub ref_to : List ℕ → Bor (List ℕ)
 ref_to text = record { ref_ptr = (0, 0); now = text }
 
--- a kind of unit, wherever its name is stored
+-- a kind of unit, wherever its name is stored; a scaled one, which no word names, as it is
 abbrev pub plain_kind : Kind → Kind
 plain_kind (Label name) = Label (ref_to name.now)
 plain_kind (Human human) =
@@ -50,6 +50,7 @@ plain_kind (Human human) =
 plain_kind (Range range) = Range (record { name = ref_to range.name.now })
 plain_kind (Bytes bytes) = Bytes bytes
 plain_kind (Duration duration) = Duration duration
+plain_kind (Scaled scaled) = Scaled scaled
 
 -- a unit, wherever its name is stored
 abbrev pub plain_unit : Unit → Unit

@@ -48,7 +48,7 @@ fn with_signs(alloc: Global, signs: &str, unit: Unit) -> Result<Option<String>, 
     Ok(None)
 }
 
-/// Returns the name of a kind of unit.
+/// Returns the name of a kind of unit. A scaled one has none, so it has no word.
 fn name_of(kind: &Kind) -> &'static str
     ensures { result.now ≡ name_in kind.now }
 {
@@ -58,6 +58,7 @@ fn name_of(kind: &Kind) -> &'static str
         Kind::Range(range) => range.name,
         Kind::Bytes(_) => "bytes",
         Kind::Duration(_) => "duration",
+        Kind::Scaled(_) => "",
     }
 }
 

@@ -1,7 +1,7 @@
 ghost use Rattle.prodash_base.specs.Kinds.{kind_shown};
 
 use super::display::Throughput;
-use super::{Bytes, DisplayValue, Duration, Human, Range};
+use super::{Bytes, DisplayValue, Duration, Human, Range, Scaled};
 use crate::progress::Step;
 use std::alloc::AllocError;
 
@@ -18,6 +18,8 @@ pub enum Kind {
     Human(Human),
     /// Values shown from one and a name, as `2 of 5 steps`.
     Range(Range),
+    /// Values in scales of your own, as `1.5 KiB`.
+    Scaled(Scaled),
 }
 
 impl DisplayValue for Kind {
@@ -35,6 +37,7 @@ impl DisplayValue for Kind {
             Kind::Duration(kind) => kind.display_current_value(out, value, upper),
             Kind::Human(kind) => kind.display_current_value(out, value, upper),
             Kind::Range(kind) => kind.display_current_value(out, value, upper),
+            Kind::Scaled(kind) => kind.display_current_value(out, value, upper),
         }
     }
 
@@ -50,6 +53,7 @@ impl DisplayValue for Kind {
             Kind::Duration(kind) => kind.separator(out, value, upper),
             Kind::Human(kind) => kind.separator(out, value, upper),
             Kind::Range(kind) => kind.separator(out, value, upper),
+            Kind::Scaled(kind) => kind.separator(out, value, upper),
         }
     }
 
@@ -65,6 +69,7 @@ impl DisplayValue for Kind {
             Kind::Duration(kind) => kind.display_upper_bound(out, upper_bound, value),
             Kind::Human(kind) => kind.display_upper_bound(out, upper_bound, value),
             Kind::Range(kind) => kind.display_upper_bound(out, upper_bound, value),
+            Kind::Scaled(kind) => kind.display_upper_bound(out, upper_bound, value),
         }
     }
 
@@ -75,6 +80,7 @@ impl DisplayValue for Kind {
             Kind::Duration(kind) => kind.display_unit(out, value),
             Kind::Human(kind) => kind.display_unit(out, value),
             Kind::Range(kind) => kind.display_unit(out, value),
+            Kind::Scaled(kind) => kind.display_unit(out, value),
         }
     }
 
@@ -85,6 +91,7 @@ impl DisplayValue for Kind {
             Kind::Duration(kind) => kind.display_percentage(out, percentage),
             Kind::Human(kind) => kind.display_percentage(out, percentage),
             Kind::Range(kind) => kind.display_percentage(out, percentage),
+            Kind::Scaled(kind) => kind.display_percentage(out, percentage),
         }
     }
 
@@ -95,6 +102,7 @@ impl DisplayValue for Kind {
             Kind::Duration(kind) => kind.fraction_and_time_unit(nanoseconds),
             Kind::Human(kind) => kind.fraction_and_time_unit(nanoseconds),
             Kind::Range(kind) => kind.fraction_and_time_unit(nanoseconds),
+            Kind::Scaled(kind) => kind.fraction_and_time_unit(nanoseconds),
         }
     }
 
@@ -109,6 +117,7 @@ impl DisplayValue for Kind {
             Kind::Duration(kind) => kind.display_throughput(out, throughput),
             Kind::Human(kind) => kind.display_throughput(out, throughput),
             Kind::Range(kind) => kind.display_throughput(out, throughput),
+            Kind::Scaled(kind) => kind.display_throughput(out, throughput),
         }
     }
 }
