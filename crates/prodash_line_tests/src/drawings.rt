@@ -5,7 +5,7 @@ use crate::fixtures::{
 use prodash_base::Refusal;
 use prodash_base::messages::MessageCopyState;
 use prodash_base::progress::{Row, Rows, State, Value};
-use prodash_base::unit::{Kind, dynamic};
+use prodash_base::unit::{Kind, Scaled, Scales, dynamic};
 use prodash_line::render::line::draw::{self, Answer, Input, MemoryScreen, Screen};
 use std::alloc::Global;
 use std::process::Abort;
@@ -26,6 +26,8 @@ pub(crate) enum Ask {
     PrintHidden(&'static [ShortMessage], &'static [Task]),
     /// A tick that shows a task `t` with a kind of unit, a step and a bound.
     Measure(Kind, u64, Option<u64>),
+    /// A tick that shows a task `t` with scales, a name of its unit, a step and a bound.
+    Scale(&'static Scales, &'static str, u64, Option<u64>),
     /// A tick without a root, and whether it shows rows.
     Rootless(bool),
     /// The columns and rows of a resize that shows rows.
@@ -93,6 +95,16 @@ fn input(rt: &impl Abort, alloc: Global, ask: Ask) -> Input {
         Ask::Print(printed, tasks) => tick(rt, alloc, true, printed, rows(rt, alloc, tasks)),
         Ask::PrintHidden(printed, tasks) => tick(rt, alloc, false, printed, rows(rt, alloc, tasks)),
         Ask::Measure(kind, step, bound) => {
+            tick(
+                rt,
+                alloc,
+                true,
+                &[],
+                measured_row(rt, alloc, kind, step, bound),
+            )
+        }
+        Ask::Scale(scales, name, step, bound) => {
+            let kind = Kind::Scaled(Scaled::new(scales, name).expect(rt, "scales"));
             tick(
                 rt,
                 alloc,

@@ -26,6 +26,8 @@ mod pages;
 #[cfg(test)]
 mod preferred;
 #[cfg(test)]
+mod scales;
+#[cfg(test)]
 mod screens;
 #[cfg(test)]
 mod styles;
