@@ -8,3 +8,4 @@ mod WorkedItems
 mod PlainTables
 mod ParentPaths
 mod WorkedPlainLines
+pub mod CallerLaws

@@ -5,6 +5,7 @@ pub mod Engines
 pub mod Logs
 pub mod Wrappers
 pub mod Reporters
+pub mod Callers
 pub mod Journals
 pub mod PlainLines
 pub mod plumbing

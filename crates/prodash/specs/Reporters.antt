@@ -1,8 +1,9 @@
 -- Reporters: what they send at a moment of their clock, which promises nothing, and their children.
-use Rattle.std.specs.Prelude.{ℕ, List, Option}
+use Rattle.std.specs.Prelude.{ℕ, List, Option, IfSome}
 use Rattle.prodash_base.specs.declared.messages.MessageLevel.{MessageLevel}
 use Rattle.prodash_base.specs.declared.messages.MessageLevel.TheVariants.{Info}
 use Rattle.prodash_base.specs.declared.unit.units.Unit.{Unit}
+use Rattle.prodash_base.specs.Rows.{unknown_id}
 use Rattle.prodash_base.specs.ThroughputMessages.{done_message}
 use Rattle.prodash_core.specs.Traits.{SendsThroughput}
 use Rattle.prodash.specs.declared.progress.utils.reporter.Reporter.{Reporter}
@@ -31,3 +32,9 @@ abbrev pub GetsReporter : {P S K : Type 0} → (P → List ℕ → List ℕ → 
     → Reporter P K → List ℕ → List ℕ → Reporter P K → Reporter S K → Type 0
 GetsReporter gets_child old name id new child =
     gets_child old.progress name id new.progress child.progress
+
+-- The same without an identifier, under the name that a value is displayed as, if that is specified.
+abbrev pub GetsFormatted : {P S K : Type 0} → (P → List ℕ → List ℕ → P → S → Type 0)
+    → Reporter P K → Option (List ℕ) → Reporter P K → Reporter S K → Type 0
+GetsFormatted gets_child old displayed new child =
+    IfSome displayed (λ name. GetsReporter gets_child old name unknown_id new child)

@@ -64,6 +64,7 @@
 //! without a tree.
 #![tactic(auto)]
 
+pub mod bounds;
 pub mod laws;
 pub mod messages;
 pub mod progress;
@@ -73,6 +74,7 @@ pub mod time;
 pub mod tree;
 pub mod unit;
 
+pub use bounds::Runtime;
 pub use prodash_base::{Refusal, Text, Throughput};
 pub use prodash_core::traits::{BoxedProgress, Count, NestedProgress, Progress, Root, WeakRoot};
 pub use unit::Unit;

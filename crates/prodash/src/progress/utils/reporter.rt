@@ -3,7 +3,7 @@ ghost use Rattle.std.specs.Prelude.{◌≡◌, OnOk, OnErr, IfOk, IfErr, option_
 ghost use Rattle.prodash_base.specs.Refusals.{RefusesMessage};
 ghost use Rattle.prodash_base.specs.Rows.{unknown_id};
 ghost use Rattle.prodash_base.specs.declared.messages.MessageLevel.TheVariants.{Info, Failure, Success};
-ghost use Rattle.prodash.specs.Reporters.{SendsAtSomeMoment, ReportsThroughput, ReportsSteps, GetsReporter};
+ghost use Rattle.prodash.specs.Reporters.{SendsAtSomeMoment, ReportsThroughput, ReportsSteps, GetsReporter, GetsFormatted};
 
 use crate::messages::MessageLevel;
 use crate::progress::{Id, Step, StepShared};
@@ -12,6 +12,7 @@ use crate::unit::Unit;
 use prodash_base::Refusal;
 use prodash_core::traits::{Count, NestedProgress, Progress};
 use std::alloc::Global;
+use std::fmt::Display;
 use std::sync::Arc;
 
 /// Progress with an allocator and a clock, so that its calls take the arguments of the Rust
@@ -46,6 +47,11 @@ impl<P, K> Reporter<P, K> {
             alloc,
             clock,
         }
+    }
+
+    /// Returns the allocator, for example for `format!`.
+    pub fn alloc(&self) -> Global {
+        self.alloc
     }
 }
 
@@ -287,6 +293,28 @@ impl<P: NestedProgress, K: Clock + Drop> Reporter<P, K> {
             alloc: self.alloc,
             clock,
         })
+    }
+
+    /// Adds a task below, without an identifier, under a name that is formatted.
+    ///
+    /// ```rust
+    /// let part = job.add_child_fmt(format_args!("part {n}"))?;
+    /// ```
+    ///
+    /// # Errors
+    ///
+    /// `Memory`, if there is no memory for it or for its name; then nothing changes.
+    pub fn add_child_fmt<D: Display + Drop>(
+        &mut self,
+        name: D,
+    ) -> Result<Reporter<P::SubProgress, K>, Refusal>
+        ensures ok { IfOk result
+            (GetsFormatted P.gets_child self.old (D.output name) self.new) }
+        ensures err { OnErr result (self.new ≡ self.old) }
+        ensures reason { IsOkUnless result Refusal.Memory }
+    {
+        let name = name.to_string(self.alloc)?;
+        self.add_child(&name)
     }
 
     /// Adds a task below.
