@@ -17,6 +17,8 @@ mod mirror;
 #[cfg(test)]
 mod paths;
 #[cfg(test)]
+mod proving;
+#[cfg(test)]
 mod receipts;
 #[cfg(test)]
 mod recorded;
