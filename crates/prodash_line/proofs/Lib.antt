@@ -4,6 +4,7 @@ pub mod PlainRows
 pub mod PlainPages
 pub mod PlainProgress
 pub mod Prefixes
+pub mod AddedWidths
 pub mod Cutting
 pub mod LineWriting
 pub mod JoinedTexts

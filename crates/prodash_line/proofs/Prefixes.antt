@@ -86,16 +86,19 @@ prefix_found columns text (c ∷ cs) e h =
     let fits : str_width false (take (suc (length cs)) text) ≤ columns = subst (λ (t : List ℕ). str_width false t ≤ columns) e h in
     ap (λ b. cond b (take (suc (length cs)) text) (longest_prefix_of columns text (length cs))) (le-leb (str_width false (take (suc (length cs)) text)) columns fits) ∙ sym e
 
-pub without_last-chars : (text rest : List ℕ) (c : ℕ) → IsUtf8 text → IsUtf8 rest → text ≡ rest ++ encode_utf8 c → chars rest ≡ take (length (chars text) - 1) (chars text)
-without_last-chars text rest c u v e =
+pub chars-last : (text rest : List ℕ) (c : ℕ) → IsUtf8 text → IsUtf8 rest → text ≡ rest ++ encode_utf8 c → chars text ≡ chars rest ++ c ∷ []
+chars-last text rest c u v e =
     let prefix : take (length rest) text ≡ rest = ap (take (length rest)) e ∙ take_at rest (encode_utf8 c) (length rest) refl in
     let back : drop (length rest) text ≡ encode_utf8 c = ap (drop (length rest)) e ∙ drop_at rest (encode_utf8 c) (length rest) refl in
     let size : length rest ≤ length text = omega (arith, ap length e, length-append rest (encode_utf8 c)) in
     let last : IsUtf8 (encode_utf8 c) = subst IsUtf8 back (IsUtf8-drop text (length rest) u (IsCharBoundary-from_take text (length rest) u size (subst IsUtf8 (sym prefix) v))) in
     let one : chars (encode_utf8 c) ≡ c ∷ [] = chars_past_char (encode_utf8 c) [] c last (sym (append-nil (encode_utf8 c))) ∙ ap (λ t. c ∷ t) chars-nil in
-    let whole : chars text ≡ chars rest ++ c ∷ [] = ap chars e ∙ chars-append rest (encode_utf8 c) v ∙ ap (λ t. chars rest ++ t) one in
-    let count : length (chars text) - 1 ≡ length (chars rest) = omega (arith, ap length whole, length-append (chars rest) (c ∷ [])) in
-    sym (take_at (chars rest) (c ∷ []) (length (chars text) - 1) (sym count)) ∙ ap (take (length (chars text) - 1)) (sym whole)
+    ap chars e ∙ chars-append rest (encode_utf8 c) v ∙ ap (λ t. chars rest ++ t) one
+
+pub without_last : (text rest : List ℕ) (c : ℕ) → text ≡ rest ++ c ∷ [] → rest ≡ take (length text - 1) text
+without_last text rest c whole =
+    let count : length text - 1 ≡ length rest = omega (arith, ap length whole, length-append rest (c ∷ [])) in
+    sym (take_at rest (c ∷ []) (length text - 1) (sym count)) ∙ ap (take (length text - 1)) (sym whole)
 
 pub none_left : (text rest : List ℕ) → length text ≡ 0 → rest ≡ text → chars rest ≡ take (length (chars text) - 1) (chars text)
 none_left [] rest l e = ap chars e ∙ chars-nil ∙ ap (λ t. take (length t - 1) t) (sym chars-nil)

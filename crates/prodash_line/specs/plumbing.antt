@@ -3,6 +3,7 @@ pub mod PageInside
 pub mod Endings
 pub mod Calls
 pub mod SignReading
+pub mod AddedWidths
 pub mod Cutting
 pub mod Writing
 pub mod RowWriting

@@ -76,12 +76,12 @@ fn fit_columns(left: u16, text: &str, width: u16) -> (&str, Room)
     ensures text { chars result.0.now ≡ written_in (Room.Columns left) (chars text.now) }
     ensures room { result.1 ≡ room_after (Room.Columns left) (chars text.now) }
 {
-    if whole_width(text, width) <= usize::from(left) {
+    let whole = whole_width(text, width);
+    if whole <= usize::from(left) {
         return (text, Room::Columns(left - width));
     }
-    let prefix = longest_prefix(text, left);
-    let blank = left - uncapped_width(prefix) as u16;
-    (prefix, Room::Full(blank))
+    let (prefix, columns) = longest_prefix(text, whole, left);
+    (prefix, Room::Full(left - columns as u16))
 }
 
 /// Returns the width of a text, in columns, given that width, at most 65535.

@@ -1,12 +1,14 @@
 //! The widths of texts, and their longest prefixes of a width.
-ghost use Rattle.std.specs.Prelude.{◌≡◌, ◌-◌, ◌∷◌, [], chars, false, length, take};
+ghost use Rattle.std.specs.Prelude.{◌≡◌, ◌-◌, ◌∷◌, [], ◌++◌, chars, false, length, take, IfSome};
 ghost use Rattle.unicode_width.specs.Width.{str_width};
 ghost use Rattle.std.specs.Bool.{then_some};
 ghost use Rattle.std.specs.Int.{is_in_range};
+ghost use Rattle.std.specs.Str.{IsUtf8};
 ghost use Rattle.prodash_line.specs.Lines.{piece, capped, columns_of, longest_prefix};
+ghost use Rattle.prodash_line.specs.plumbing.AddedWidths.{AddsWidth, adds_its_width};
 ghost use Rattle.prodash_line.specs.plumbing.Writing.{is_printable};
 
-use unicode_width::UnicodeWidthStr;
+use unicode_width::{UnicodeWidthChar, UnicodeWidthStr};
 
 /// Whether a byte is a printable ASCII character.
 #[inline]
@@ -76,25 +78,70 @@ fn capped(width: usize) -> u16
     width.min(usize::from(u16::MAX)) as u16
 }
 
-/// Returns the text without its last character.
-fn without_last_char(text: &str) -> &str
-    ensures { chars result.now ≡ take (length (chars text.now) - 1) (chars text.now) }
+/// Whether a character is one of those that are known to make any text wider by their own width. It
+/// is none of those that may end a sequence with a width of its own, as emoji do.
+fn adds_its_width(c: char) -> bool
+    ensures { result ≡ adds_its_width c }
 {
-    let mut characters = text.chars();
-    let _ = characters.next_back();
-    characters.as_str()
+    match c {
+        ' '..='~' | '\u{A1}'..='\u{337}' | '\u{339}'..='\u{5DB}' => true,
+        '\u{900}'..='\u{177F}' | '\u{1A11}'..='\u{2319}' => true,
+        '\u{2D70}'..='\u{A4FB}' | '\u{A4FE}'..='\u{FB3B}' => true,
+        '\u{FF00}'..='\u{FFFD}' | '\u{20000}'..='\u{3FFFD}' => true,
+        _ => false,
+    }
 }
 
-/// Returns the longest prefix of a text that is at most `columns` wide.
-pub(crate) fn longest_prefix(text: &str, columns: u16) -> &str
-    ensures { chars result.now ≡ longest_prefix columns (chars text.now) }
+/// Returns by how many columns a character makes any text wider, if that is known.
+fn added_width(c: char) -> Option<usize>
+    ensures { IfSome result (AddsWidth c) }
 {
+    if adds_its_width(c) { c.width() } else { None }
+}
+
+/// Returns the width of a text, given that of the text with one more character.
+fn width_before(text: &str, last: char, width: usize) -> usize
+    requires { width ≡ str_width false (chars text.now ++ last ∷ []) }
+    ensures { result ≡ str_width false (chars text.now) }
+{
+    match added_width(last) {
+        Some(added) => width - added,
+        None => uncapped_width(text),
+    }
+}
+
+/// Returns a text without its last character, and the width of that, given the width of the text.
+fn without_last_char(text: &str, width: usize) -> (&str, usize)
+    requires { width ≡ str_width false (chars text.now) }
+    ensures text { chars result.0.now ≡ take (length (chars text.now) - 1) (chars text.now) }
+    ensures utf8 { IsUtf8 result.0.now }
+    ensures width { result.1 ≡ str_width false (chars result.0.now) }
+{
+    let mut characters = text.chars();
+    match characters.next_back() {
+        None => (text, width),
+        Some(last) => {
+            let rest = characters.as_str();
+            (rest, width_before(rest, last, width))
+        }
+    }
+}
+
+/// Returns the longest prefix of a text that is at most `columns` wide, and its width. `width` is
+/// the width of the text.
+pub(crate) fn longest_prefix(text: &str, width: usize, columns: u16) -> (&str, usize)
+    requires { width ≡ str_width false (chars text.now) }
+    ensures text { chars result.0.now ≡ longest_prefix columns (chars text.now) }
+    ensures width { result.1 ≡ str_width false (chars result.0.now) }
+{
+    let columns = usize::from(columns);
     if is_all_printable(text.as_bytes()) {
-        return &text[..usize::from(columns).min(text.len())];
+        let length = columns.min(text.len());
+        return (&text[..length], length);
     }
-    let mut prefix = text;
-    while uncapped_width(prefix) > usize::from(columns) {
-        prefix = without_last_char(prefix);
+    let (mut prefix, mut left) = (text, width);
+    while left > columns {
+        (prefix, left) = without_last_char(prefix, left);
     }
-    prefix
+    (prefix, left)
 }
