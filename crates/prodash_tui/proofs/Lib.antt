@@ -1,0 +1,9 @@
+pub mod SplicedRows
+pub mod WrittenTexts
+pub mod GridRows
+pub mod GridCells
+pub mod WorkedGrids
+pub mod RowDifferences
+pub mod ProperRows
+pub mod ProperGrids
+pub mod WorkedSigns

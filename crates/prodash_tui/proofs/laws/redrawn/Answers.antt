@@ -1,0 +1,5 @@
+use Rattle.prodash_tui.proofs.RowDifferences.{redrawn_row}
+use Rattle.prodash_tui.proofs.laws.redrawn.Goals as goal
+
+pub returns : goal.returns
+returns c = redrawn_row

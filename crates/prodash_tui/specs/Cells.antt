@@ -1,0 +1,39 @@
+-- The cells of a grid.
+use Rattle.std.specs.Prelude.{ℕ, Bool, true, false, List, [], ◌∷◌, ◌++◌, take, replicate, slice_index_or, None}
+use Rattle.prodash_tui.specs.declared.cell.Cell.{Cell}
+use Rattle.prodash_tui.specs.declared.cell.Cell.TheVariants.{Holds, Half}
+use Rattle.prodash_tui.specs.declared.style.Style.{Style}
+
+-- the style of a blank cell
+abbrev pub plain : Style
+plain = record { bold = false; foreground = None; background = None }
+
+-- a cell with a character by itself
+abbrev pub cell_of : Style → ℕ → Cell
+cell_of style c = Holds c [] style
+
+-- a blank cell is a space
+abbrev pub blank_cell : Cell
+blank_cell = cell_of plain 32
+
+-- so many blank cells
+abbrev pub blank_cells : ℕ → List Cell
+blank_cells n = replicate n blank_cell
+
+-- the test of a second half
+abbrev pub is_half : Cell → Bool
+is_half (Holds c joined style) = false
+is_half Half = true
+
+-- the cell in place k, a blank one if there is none
+abbrev pub cell_at : List Cell → ℕ → Cell
+cell_at cells k = slice_index_or cells k blank_cell
+
+-- the characters of no column that a cell holds with its own: the first four
+abbrev pub held : List ℕ → List ℕ
+held joined = take 4 joined
+
+-- a character joins the one in a cell
+abbrev pub joined_by : ℕ → Cell → Cell
+joined_by c (Holds d joined style) = Holds d (held (joined ++ c ∷ [])) style
+joined_by c Half = Half

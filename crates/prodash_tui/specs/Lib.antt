@@ -1,0 +1,9 @@
+pub mod Cells
+pub mod Texts
+pub mod Rows
+pub mod Rects
+pub mod Grids
+pub mod Outside
+pub mod Differences
+pub mod Signs
+pub mod plumbing

@@ -1,0 +1,35 @@
+-- The cells of a grid that are inside and outside a rectangle.
+use Rattle.std.specs.Prelude.{◌≡◌, ℕ, ◌+◌, ◌<◌, ◌≤◌, false, List, [], length, take, drop, slice_index_or}
+use Rattle.prodash_core.specs.declared.render.tui.event.Rect.{Rect}
+use Rattle.prodash_tui.specs.declared.cell.Cell.{Cell}
+use Rattle.prodash_tui.specs.Cells.{cell_at, is_half}
+use Rattle.prodash_tui.specs.Grids.{Sheet, left_of}
+
+-- row y of a grid; it has no cells if there are fewer rows
+abbrev pub row_at : Sheet → ℕ → List Cell
+row_at g y = slice_index_or g.rows y []
+
+-- the cell in row y and column x; a blank one if there is none
+abbrev pub grid_cell : Sheet → ℕ → ℕ → Cell
+grid_cell g y x = cell_at (row_at g y) x
+
+-- a row of a rectangle
+abbrev pub IsRowOf : Rect → ℕ → Type 0
+IsRowOf area y = (area.y ≤ y) × (y < area.y + area.height)
+
+-- a cell of a rectangle
+abbrev pub IsIn : Rect → ℕ → ℕ → Type 0
+IsIn area y x = IsRowOf area y × (area.x ≤ x) × (x < area.x + area.width)
+
+-- neither the left nor the right edge of a rectangle goes through a character of two columns
+pub record CutsNone (area : Rect) (g : Sheet) : Type 0 where
+  pub left : (y : ℕ) → IsRowOf area y → is_half (grid_cell g y area.x) ≡ false
+  pub right : (y : ℕ) → IsRowOf area y → is_half (grid_cell g y (area.x + area.width)) ≡ false
+
+-- outside a rectangle two grids have the same cells
+abbrev pub SameOutside : Rect → Sheet → Sheet → Type 0
+SameOutside area g h = (y x : ℕ) → (IsIn area y x → ⊥) → grid_cell h y x ≡ grid_cell g y x
+
+-- row y of a grid has these cells at the left edge of a rectangle
+abbrev pub Shows : Rect → Sheet → ℕ → List Cell → Type 0
+Shows area g y cells = take (length cells) (drop (left_of area g) (row_at g y)) ≡ cells

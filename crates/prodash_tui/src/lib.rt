@@ -1,0 +1,17 @@
+//! A grid of cells for a dashboard, and the words that draw on it.
+#![tactic(auto)]
+
+mod cell;
+mod grid;
+pub mod laws;
+pub mod rect;
+mod row;
+mod sign;
+mod style;
+mod text;
+
+pub use cell::{Cell, Joined};
+pub use grid::Grid;
+pub use sign::{Sign, spell};
+pub use style::{Color, Style};
+pub use text::block_width;

@@ -1,0 +1,214 @@
+//! The cells of a row of a grid.
+ghost use Rattle.std.specs.Prelude.{◌≡◌, ◌+◌, ◌-◌, ◌^◌, ◌<◌, ◌≤◌, ◌++◌, length, take, drop, replicate, IfOk};
+ghost use Rattle.prodash_line.specs.CellRows.{char_columns};
+ghost use Rattle.prodash_tui.specs.Cells.{blank_cell, blank_cells, cell_of, is_half, joined_by};
+ghost use Rattle.prodash_tui.specs.Rows.{front, healed, splice};
+ghost use Rattle.prodash_tui.specs.Texts.{filling, text_cut, text_shortened};
+ghost use Rattle.prodash_tui.specs.plumbing.Writing.{IsInside, after_char, pen_at};
+
+use crate::cell::{Cell, Joined};
+use crate::style::Style;
+use crate::text::text_columns;
+use prodash_line::render::line::draw::safe_char;
+use prodash_line::render::line::page::{CharColumns, UnicodeWidth};
+use std::alloc::{AllocError, Global};
+use std::marker::Model;
+
+/// Where the next character of a text goes.
+#[derive(Clone, Copy)]
+struct Pen {
+    at: usize,
+    /// The column behind the last one that it may write.
+    end: usize,
+    /// The cell of the last character that was written, which others may join.
+    last: Option<usize>,
+}
+
+/// The cells of a row. Contracts see their list.
+#[derive(Drop)]
+pub(crate) struct Row {
+    cells: Vec<Cell>,
+}
+
+impl Model for Row {
+    ghost use Rattle.std.specs.Prelude.{List};
+    ghost use Rattle.prodash_tui.specs.declared.cell.Cell.{Cell};
+
+    ghost Value = { List Cell };
+
+    ghost view = { λ row. row.cells.items };
+}
+
+/// Returns a cell with a character by itself.
+fn cell_of(c: char, style: Style) -> Cell
+    ensures { result ≡ cell_of style c }
+{
+    Cell::Holds(c, Joined::new(), style)
+}
+
+/// Returns a blank cell.
+fn blank_cell() -> Cell
+    ensures { result ≡ blank_cell }
+{
+    cell_of(' ', Style::new())
+}
+
+/// Whether a cell is the second half of a character.
+fn is_half(cell: &Cell) -> bool
+    ensures { result ≡ is_half cell.now }
+{
+    match cell {
+        Cell::Holds(..) => false,
+        Cell::Half => true,
+    }
+}
+
+/// Joins a character to the one in a cell.
+fn join_cell(cell: &mut Cell, c: char)
+    ensures { cell.new ≡ joined_by c cell.old }
+{
+    match cell {
+        Cell::Holds(_, joined, _) => joined.push(c),
+        Cell::Half => {}
+    }
+}
+
+impl Row {
+    /// Returns a blank row. Fails if out of memory.
+    pub(crate) fn blank(alloc: Global, width: u16) -> Result<Row, AllocError>
+        ensures { IfOk result (λ row. row ≡ blank_cells width) }
+    {
+        let mut cells = Vec::new(alloc);
+        for _ in 0..width {
+            cells.push(blank_cell())?;
+        }
+        Ok(Row { cells })
+    }
+
+    /// Returns the cells.
+    pub(crate) fn as_slice(&self) -> &[Cell]
+        ensures { result.now ≡ self.now }
+    {
+        self.cells.as_slice()
+    }
+
+    /// Blanks the cell before column `x` if its other half is in that column.
+    fn heal_before(&mut self, x: usize)
+        requires { x ≤ length self.old }
+        ensures { self.new ≡ front x self.old ++ drop x self.old }
+    {
+        if 0 < x && x < self.cells.len() && is_half(&self.cells[x]) {
+            self.cells[x - 1] = blank_cell();
+        }
+    }
+
+    /// Blanks the cell of column `x` if it is the second half of a character.
+    fn heal_behind(&mut self, x: usize)
+        requires { x ≤ length self.old }
+        ensures { self.new ≡ take x self.old ++ healed (drop x self.old) }
+    {
+        if x < self.cells.len() && is_half(&self.cells[x]) {
+            self.cells[x] = blank_cell();
+        }
+    }
+
+    /// Writes a character where it has room.
+    fn push(&mut self, pen: &mut Pen, c: char, style: Style)
+        requires { IsInside self.old pen.old }
+        ensures step { (self.new, pen.new)
+            ≡ after_char style (char_columns c) c (self.old, pen.old) }
+        ensures inside { IsInside self.new pen.new }
+    {
+        let columns = UnicodeWidth.columns(c).min(2);
+        if columns == 0 {
+            if let Some(last) = pen.last {
+                join_cell(&mut self.cells[last], c);
+            }
+            return;
+        }
+        if pen.end - pen.at < columns {
+            pen.end = pen.at;
+            pen.last = None;
+            return;
+        }
+        self.cells[pen.at] = cell_of(c, style);
+        if columns == 2 {
+            self.cells[pen.at + 1] = Cell::Half;
+        }
+        pen.last = Some(pen.at);
+        pen.at += columns;
+    }
+
+    /// Returns a pen for the columns from `x` up to `end`, and blanks what it tears at the first.
+    fn begin(&mut self, x: usize, end: usize) -> Pen
+        requires order { x ≤ end }
+        requires end { end ≤ length self.old }
+        ensures cells { self.new ≡ front x self.old ++ drop x self.old }
+        ensures pen { result ≡ pen_at x end }
+        ensures inside { IsInside self.new result }
+    {
+        self.heal_before(x);
+        Pen {
+            at: x,
+            end,
+            last: None,
+        }
+    }
+
+    /// Draws a text in the columns from `x` up to `end`, and returns the column behind it.
+    pub(crate) fn draw_text(&mut self, x: usize, end: usize, text: &str, style: Style) -> usize
+        requires order { x ≤ end }
+        requires end { end ≤ length self.old }
+        ensures cells { self.new ≡ splice x (text_cut style (end - x) text.now) self.old }
+        ensures behind { result ≡ x + length (text_cut style (end - x) text.now) }
+        ensures width { length self.new ≡ length self.old }
+    {
+        let mut pen = self.begin(x, end);
+        for c in text.chars() {
+            self.push(&mut pen, safe_char(c), style);
+        }
+        self.heal_behind(pen.at);
+        pen.at
+    }
+
+    /// Fills the columns from `x` up to `end` with a character.
+    pub(crate) fn fill(&mut self, x: usize, end: usize, c: char, style: Style)
+        requires order { x ≤ end }
+        requires end { end ≤ length self.old }
+        ensures cells { self.new ≡ splice x (filling style (end - x) c) self.old }
+        ensures width { length self.new ≡ length self.old }
+    {
+        let c = safe_char(c);
+        let room = end - x;
+        let mut pen = self.begin(x, end);
+        for _ in 0..room {
+            self.push(&mut pen, c, style);
+        }
+        self.heal_behind(pen.at);
+    }
+
+    /// Draws a text in the columns from `x` up to `end`, with an ellipsis if it has more.
+    pub(crate) fn draw_shortened(&mut self, x: usize, end: usize, text: &str, style: Style)
+        requires order { x ≤ end }
+        requires end { end ≤ length self.old }
+        requires narrow { end < 2 ^ 16 }
+        ensures cells { self.new ≡ splice x (text_shortened style (end - x) text.now) self.old }
+        ensures width { length self.new ≡ length self.old }
+    {
+        if x == end || text_columns(text) as usize <= end - x {
+            self.draw_text(x, end, text, style);
+            return;
+        }
+        let behind = self.draw_text(x, end - 1, text, style);
+        self.fill(behind, behind + 1, '…', style);
+    }
+
+    /// Blanks all cells.
+    pub(crate) fn clear(&mut self)
+        ensures { self.new ≡ blank_cells (length self.old) }
+    {
+        for k in 0..self.cells.len() {
+            self.cells[k] = blank_cell();
+        }
+    }
+}

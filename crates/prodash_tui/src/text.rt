@@ -1,0 +1,26 @@
+//! How many columns a text has.
+ghost use Rattle.std.specs.Prelude.{◌≡◌, min};
+ghost use Rattle.prodash_line.specs.CellRows.{char_columns, text_columns};
+ghost use Rattle.prodash_tui.specs.Texts.{drawn_text};
+
+use prodash_line::render::line::draw::safe_char;
+use prodash_line::render::line::page::{CharColumns, UnicodeWidth};
+
+/// Returns how many columns a text has, at most 65536.
+pub(crate) fn text_columns(text: &str) -> u32
+    ensures { result ≡ min (text_columns char_columns (drawn_text text.now)) 65536 }
+{
+    let mut columns = 0;
+    for c in text.chars() {
+        let more = UnicodeWidth.columns(safe_char(c)).min(2) as u32;
+        columns = (columns + more).min(65536);
+    }
+    columns
+}
+
+/// Returns how many columns a text has as it is drawn, at most 65535.
+pub fn block_width(text: &str) -> u16
+    ensures { result ≡ min (text_columns char_columns (drawn_text text.now)) 65535 }
+{
+    text_columns(text).min(65535) as u16
+}
