@@ -7,3 +7,4 @@ pub mod RowDifferences
 pub mod ProperRows
 pub mod ProperGrids
 pub mod WorkedSigns
+pub mod BorderCells

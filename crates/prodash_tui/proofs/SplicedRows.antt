@@ -66,7 +66,7 @@ healed_whole cells x whole =
     (healed_all (drop x cells)
     (ap is_half (get_or-drop x cells 0 blank_cell ∙ ap (λ (n : ℕ). cell_at cells n) (let e : x + 0 ≡ x = omega arith in e)) ∙ whole))
 
-whole_healed : (cells : List Cell) → is_half (cell_at (healed cells) 0) ≡ false
+pub whole_healed : (cells : List Cell) → is_half (cell_at (healed cells) 0) ≡ false
 whole_healed [] = refl
 whole_healed (Holds c joined style ∷ cells) = refl
 whole_healed (Half ∷ cells) = refl

@@ -352,3 +352,16 @@ shortened_within false style n cells long = omega (arith, length-take n (cut (n 
 
 pub length-shortened : (style : Style) (n : ℕ) (cells : List Cell) → length (shortened style n cells) ≤ n
 length-shortened style n cells = shortened_within (nat_le (length cells) n) style n cells refl
+
+take_first : (n : ℕ) (cells : List Cell) → is_half (cell_at cells 0) ≡ false → is_half (cell_at (take n cells) 0) ≡ false
+take_first zero cells whole = refl
+take_first (suc n) [] whole = refl
+take_first (suc n) (x ∷ cells) whole = whole
+
+cut_first : (b : Bool) (n : ℕ) (cells : List Cell) → is_half (cell_at cells 0) ≡ false → is_half (cell_at (cond b (take (n - 1) cells) (take n cells)) 0) ≡ false
+cut_first true n cells whole = take_first (n - 1) cells whole
+cut_first false n cells whole = take_first n cells whole
+
+-- cells that are cut begin with no second half either
+pub whole_cut : (n : ℕ) (cells : List Cell) → is_half (cell_at cells 0) ≡ false → is_half (cell_at (cut n cells) 0) ≡ false
+whole_cut n cells whole = cut_first (is_half (cell_at cells n)) n cells whole

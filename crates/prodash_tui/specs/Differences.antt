@@ -2,6 +2,7 @@
 use Rattle.std.specs.Prelude.{◌≡◌, ℕ, ◌+◌, ◌≤◌, Bool, true, ◌||◌, List, [], ◌∷◌, if◌then◌else◌}
 use Rattle.std.specs.List.{All, AllByRecursion}
 use Rattle.prodash_line.specs.CellRows.{char_columns}
+use Rattle.prodash_core.specs.declared.render.tui.event.Rect.{Rect}
 use Rattle.prodash_tui.specs.declared.cell.Cell.{Cell}
 use Rattle.prodash_tui.specs.declared.cell.Cell.TheVariants.{Holds, Half}
 use Rattle.prodash_tui.specs.Cells.{is_half}
@@ -39,3 +40,11 @@ redrawn (c ∷ changes) row = redrawn changes (splice c.0 c.1 row)
 pub record IsProperSheet (g : Sheet) : Type 0 where
   pub sheet : IsSheet g
   pub proper : All (IsProper char_columns) g.rows
+
+-- a way to draw in a rectangle that leaves proper rows
+abbrev pub KeepsProper : (Rect → Sheet → Sheet) → Type 0
+KeepsProper draw = (area : Rect) (g : Sheet) → IsProperSheet g → IsProperSheet (draw area g)
+
+-- a row with its changes written into it is the new row
+abbrev pub IsRedrawn : (Cell → Cell → Bool) → List Cell → List Cell → Type 0
+IsRedrawn same old new = redrawn (row_changes same 0 old new) old ≡ new

@@ -1,9 +1,9 @@
 -- The cells of a grid that are inside and outside a rectangle.
-use Rattle.std.specs.Prelude.{◌≡◌, ℕ, ◌+◌, ◌<◌, ◌≤◌, false, List, [], length, take, drop, slice_index_or}
+use Rattle.std.specs.Prelude.{◌≡◌, ℕ, ◌+◌, ◌^◌, ◌<◌, ◌≤◌, false, List, [], length, take, drop, slice_index_or}
 use Rattle.prodash_core.specs.declared.render.tui.event.Rect.{Rect}
 use Rattle.prodash_tui.specs.declared.cell.Cell.{Cell}
 use Rattle.prodash_tui.specs.Cells.{cell_at, is_half}
-use Rattle.prodash_tui.specs.Grids.{Sheet, left_of}
+use Rattle.prodash_tui.specs.Grids.{IsSheet, Sheet, left_of, room_of}
 
 -- row y of a grid; it has no cells if there are fewer rows
 abbrev pub row_at : Sheet → ℕ → List Cell
@@ -33,3 +33,21 @@ SameOutside area g h = (y x : ℕ) → (IsIn area y x → ⊥) → grid_cell h y
 -- row y of a grid has these cells at the left edge of a rectangle
 abbrev pub Shows : Rect → Sheet → ℕ → List Cell → Type 0
 Shows area g y cells = take (length cells) (drop (left_of area g) (row_at g y)) ≡ cells
+
+-- a rectangle that begins at a row and a column of 16 bits, as each `Rect` does
+abbrev pub IsRect : Rect → Type 0
+IsRect area = (area.x < 2 ^ 16) × (area.y < 2 ^ 16)
+
+-- a way to draw in a rectangle that changes no cell outside it, if its edges go through no character of two columns
+abbrev pub StaysInside : (Rect → Sheet → Sheet) → Type 0
+StaysInside draw = (area : Rect) (g : Sheet) → IsRect area → IsSheet g → CutsNone area g → SameOutside area g (draw area g)
+
+-- a way to draw in a rectangle whose first row then has these cells, which depend on how many columns there are
+abbrev pub ShowsFirst : (Rect → Sheet → Sheet) → (ℕ → List Cell) → Type 0
+ShowsFirst draw cells =
+    (area : Rect) (g : Sheet) → IsSheet g → 0 < area.height → area.y < g.height → Shows area (draw area g) area.y (cells (room_of area g))
+
+-- a way to draw in a rectangle of which then each row has these cells
+abbrev pub ShowsInAll : (Rect → Sheet → Sheet) → (ℕ → List Cell) → Type 0
+ShowsInAll draw cells =
+    (area : Rect) (g : Sheet) (y : ℕ) → IsSheet g → IsRowOf area y → y < g.height → Shows area (draw area g) y (cells (room_of area g))

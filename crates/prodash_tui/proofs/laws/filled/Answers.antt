@@ -9,10 +9,10 @@ use Rattle.prodash_tui.proofs.WrittenTexts.{length-cut}
 use Rattle.prodash_tui.proofs.laws.filled.Goals as goal
 
 pub returns-clause-shows : goal.returns-clause-shows
-returns-clause-shows c = λ area style d y g whole in_row inside.
+returns-clause-shows c = λ style d area g y whole in_row inside.
     cells_shown area area.height (filling style (room_of area g) d) g y whole in_row.0 in_row.1 inside
 
 pub returns-clause-outside : goal.returns-clause-outside
-returns-clause-outside c = λ area style d g whole cuts.
+returns-clause-outside c = λ style d area g small whole cuts.
     cells_outside area area.height (filling style (room_of area g) d) g whole cuts (omega arith)
     (length-cut (room_of area g) (text_cells char_columns style (replicate (room_of area g) (safe_char d))))

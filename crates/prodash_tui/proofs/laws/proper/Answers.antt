@@ -12,20 +12,20 @@ pub returns-clause-blank : goal.returns-clause-blank
 returns-clause-blank c = proper_blank
 
 pub returns-clause-text : goal.returns-clause-text
-returns-clause-text c = λ area style text g h.
+returns-clause-text c = λ style text area g h.
     let room = room_of area g in
     let cells = text_cells char_columns style (drawn_text text) in
     proper_cells area (min 1 area.height) (text_cut style room text) g (proper_cut char_columns room cells (proper_text char_columns style (drawn_text text))) (length-cut room cells) h
 
 pub returns-clause-shortened : goal.returns-clause-shortened
-returns-clause-shortened c = λ area style text g h.
+returns-clause-shortened c = λ style text area g h.
     let room = room_of area g in
     let cells = text_cells char_columns style (drawn_text text) in
     proper_cells area (min 1 area.height) (text_shortened style room text) g
     (proper_shortened char_columns style room cells ellipsis_columns (proper_text char_columns style (drawn_text text))) (length-shortened style room cells) h
 
 pub returns-clause-filled : goal.returns-clause-filled
-returns-clause-filled c = proper_filling
+returns-clause-filled c = λ style d area g h. proper_filling area style d g h
 
 pub returns-clause-border : goal.returns-clause-border
-returns-clause-border c = λ area style g h. proper_fillings style (border area) g h
+returns-clause-border c = λ style area g h. proper_fillings style (border area) g h

@@ -8,10 +8,10 @@ use Rattle.prodash_tui.proofs.WrittenTexts.{length-shortened}
 use Rattle.prodash_tui.proofs.laws.shortened_text.Goals as goal
 
 pub returns-clause-shows : goal.returns-clause-shows
-returns-clause-shows c = λ area style text g whole some inside.
+returns-clause-shows c = λ style text area g whole some inside.
     cells_shown area (min 1 area.height) (text_shortened style (room_of area g) text) g area.y whole (omega arith) (omega arith) inside
 
 pub returns-clause-outside : goal.returns-clause-outside
-returns-clause-outside c = λ area style text g whole cuts.
+returns-clause-outside c = λ style text area g small whole cuts.
     cells_outside area (min 1 area.height) (text_shortened style (room_of area g) text) g whole cuts (omega arith)
     (length-shortened style (room_of area g) (text_cells char_columns style (drawn_text text)))
