@@ -7,6 +7,7 @@ use Rattle.prodash_core.specs.declared.tree.event.Reply.{Reply}
 use Rattle.prodash_core.specs.Replies.{owns_memory}
 use Rattle.prodash_core.proofs.AppliedEvents.{reads_only, memory_only, no_handle_limit}
 use Rattle.prodash.specs.Journals.{Leads, Replays, IsJournal, amount_of, amount}
+use Rattle.prodash.proofs.HistoryLaws.{open_known}
 
 -- one accepted event more leads to the tree after it
 pub leads_more : (t : Tree) (entries : List (Event × Reply)) (t' : Tree) (e : Event) (reply : Reply) (t'' : Tree) → Leads t entries t' → Applies t' e (Ok reply) t'' → Leads t (entries ++ (e, reply) ∷ []) t''
@@ -37,4 +38,4 @@ pub ruleset applying = (leads_more, no_handle_limit)
 pub ruleset copying = (keeps_tree, memory_only)
 
 -- an entry more is one call more, with what it adds
-pub ruleset counting = (length_more, amount_more)
+pub ruleset counting = (length_more, amount_more, open_known)

@@ -3,6 +3,10 @@ mod HistoryLaws
 mod HistorySteps
 mod JournalLaws
 mod ListPrefixes
+mod ShownTrees
+mod CallLaws
+mod ViewTurns
+mod ViewTicks
 mod TurnLaws
 mod WorkedItems
 mod PlainTables

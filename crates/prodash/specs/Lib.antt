@@ -7,6 +7,7 @@ pub mod Wrappers
 pub mod Reporters
 pub mod Callers
 pub mod Journals
+pub mod Views
 pub mod PlainLines
 pub mod plumbing
 pub use Rattle.prodash_base.specs.Path

@@ -29,4 +29,6 @@ mod system_clock;
 #[cfg(test)]
 mod traits;
 #[cfg(test)]
+mod views;
+#[cfg(test)]
 mod wrappers;

@@ -16,6 +16,12 @@ history_of (entry ∷ entries) = Call entry ∷ history_of entries
 abbrev pub ended : List (Event × Reply) → List HistoryEntry
 ended entries = history_of entries ++ End ∷ []
 
+-- the calls of a history, up to its end
+abbrev pub calls_in : List HistoryEntry → List (Event × Reply)
+calls_in [] = []
+calls_in (Call entry ∷ history) = entry ∷ calls_in history
+calls_in (End ∷ history) = []
+
 -- the entry with this number, counted from 0, is this call
 abbrev pub HasCallAt : List HistoryEntry → ℕ → Event × Reply → Type 0
 HasCallAt history number entry = slice_get history number ≡ Some (Call entry)

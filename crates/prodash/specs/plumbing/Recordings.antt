@@ -1,5 +1,7 @@
 -- Calls on a recorded tree under its lock: their entries and receipts.
-use Rattle.std.specs.Prelude.{◌≡◌, [], ◌∷◌, ◌++◌, length, Option, Some, None, Ok}
+use Rattle.prodash_base.specs.declared.refusal.Refusal.{Refusal}
+use Rattle.prodash_core.specs.declared.tree.event.Reply.TheVariants as replies
+use Rattle.std.specs.Prelude.{◌≡◌, ℕ, Result, [], ◌∷◌, ◌++◌, length, Option, Some, None, Ok}
 use Rattle.prodash_core.specs.Trees.{Applies}
 use Rattle.prodash_core.specs.declared.tree.event.Event.{Event}
 use Rattle.prodash_core.specs.declared.tree.event.Reply.{Reply}
@@ -20,3 +22,8 @@ abbrev pub IsReceiptOf : Option Recorded → Event → Reply → Received → Ty
 IsReceiptOf (Some recorded) e reply receipt =
     receipt ≡ record { number = length recorded.entries; event = e; reply = reply }
 IsReceiptOf None e reply receipt = ⊥
+
+-- the number in a reply to `NumTasks`, or 0 if there is none
+abbrev pub count_in : Result Reply Refusal → ℕ
+count_in (Ok (replies.Count tasks)) = tasks
+count_in _ = 0

@@ -5,20 +5,30 @@
 //! the events and their replies, as one thread could have made them, with as many entries as calls
 //! were accepted. For each accepted call there is a [`Receipt`], by which its caller finds it in
 //! the journal.
+mod audited_root;
+mod closed_recording;
 mod history;
 mod journal;
 mod ledgers;
 mod locked_recording;
+mod look_receipt;
 mod receipt;
 mod root;
 mod share;
+mod shown;
 mod state;
+mod traits;
+pub(crate) mod turns;
 mod unshared_parts;
+mod view;
 
+pub use audited_root::AuditedRoot;
 pub use history::History;
 pub use journal::Journal;
 pub use ledgers::{Ledgers, TreeLedger};
+pub use look_receipt::LookReceipt;
 pub use receipt::Receipt;
 pub use root::{RecordedItem, RecordedRoot, Unclosed};
 pub use share::Share;
 pub use state::RecordedState;
+pub use view::{RecordedView, WeakView};

@@ -10,6 +10,13 @@ pub struct Turn {
     number: u8,
 }
 
+impl Turn {
+    /// Returns a turn.
+    pub(crate) fn new() -> Turn {
+        Turn { number: 0 }
+    }
+}
+
 /// A runtime whose threads take turns at the lock of a tree. Every type that meets
 /// these bounds is one.
 ///

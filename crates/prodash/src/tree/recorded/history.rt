@@ -158,6 +158,13 @@ impl<C: TreeLedger> HistoryPrefix<C> {
         }
     }
 
+    /// Returns the number of entries.
+    pub(crate) fn len(&self) -> u64
+        ensures { result ≡ length self.now }
+    {
+        self.len
+    }
+
     /// Proof only: every prefix of the history is one of the whole history.
     pub(crate) fn covers(&self, other: &HistoryPrefix<C>)
         ensures { (entries : _) → self.now ≡ ended entries → IsPrefix other.now self.now }

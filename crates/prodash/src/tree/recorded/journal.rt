@@ -1,12 +1,13 @@
 //! Journals of recorded trees.
-ghost use Rattle.std.specs.Prelude.{◌≡◌, true};
+ghost use Rattle.std.specs.Prelude.{◌≡◌, ◌≤◌, true, length};
 ghost use Rattle.prodash.specs.plumbing.Histories.{ended};
 ghost use Rattle.prodash.specs.Journals.{IsJournal, HasEntryOf};
+ghost use Rattle.prodash.specs.Views.{IsFront};
 
 use crate::tree::recorded::history::HistoryPrefix;
 use crate::tree::recorded::ledgers::TreeLedger;
+use crate::tree::recorded::look_receipt::LookReceipt;
 use crate::tree::recorded::receipt::Receipt;
-use crate::tree::recorded::state::RecordedState;
 use prodash_core::tree::{Event, Reply};
 use std::marker::Model;
 
@@ -36,15 +37,12 @@ impl<C: TreeLedger> Model for Journal<C> {
 
 impl<C: TreeLedger> Journal<C> {
     /// Returns the journal of a tree, whose history has ended.
-    pub(crate) fn new(state: RecordedState, history: HistoryPrefix<C>) -> Journal<C>
-        requires capacity { state.capacity ≡ C.message_buffer_capacity }
-        requires history { history ≡ ended state.entries }
-        ensures { result ≡ state.entries }
+    pub(crate) fn new(entries: Vec<(Event, Reply)>, history: HistoryPrefix<C>) -> Journal<C>
+        requires replays { IsJournal C.message_buffer_capacity entries.items }
+        requires history { history ≡ ended entries.items }
+        ensures { result ≡ entries.items }
     {
-        Journal {
-            entries: state.into_entries(),
-            history,
-        }
+        Journal { entries, history }
     }
 
     /// Returns the events and their replies.
@@ -63,5 +61,17 @@ impl<C: TreeLedger> Journal<C> {
     {
         self.history.covers(receipt.prefix());
         receipt.number() < self.entries.len() as u64
+    }
+
+    /// Returns whether there are as many entries as the look saw. There always are, and those that
+    /// it saw are the first of the journal, so its rows and its messages are those of a tree which
+    /// accepts these entries. A receipt of another tree has another type.
+    pub fn begins_with(&self, look: &LookReceipt<C>) -> bool
+        ensures value { result ≡ true }
+        ensures front { IsFront look.now self.now }
+        ensures length { length look.now ≤ length self.now }
+    {
+        self.history.covers(look.prefix());
+        look.calls() <= self.entries.len() as u64
     }
 }

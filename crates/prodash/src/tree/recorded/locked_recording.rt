@@ -1,18 +1,25 @@
 //! What the lock of a recorded tree protects.
-ghost use Rattle.std.specs.Prelude.{◌≡◌, ◌≢◌, ◌≤◌, ◌↔◌, [], Some, Err, false, IfOk, IfErr, OnOk, OnErr, length};
+ghost use Rattle.std.specs.Prelude.{◌≡◌, ◌≢◌, ◌≤◌, ◌<◌, ◌+◌, ◌-◌, ◌↔◌, [], Some, Err, true, false, is_some, IfOk, IfErr, OnOk, OnErr, IsOkUnless, length};
 ghost use Rattle.std.specs.Option.{ForSome, ForNone};
 ghost use Rattle.prodash_core.specs.Trees.{is_frame};
-ghost use Rattle.prodash.specs.plumbing.Histories.{history_of, ended, last_number};
+ghost use Rattle.prodash.specs.plumbing.Histories.{IsOpen, history_of, ended, last_number};
 ghost use Rattle.prodash_core.specs.Refusals.{refusal_of};
 ghost use Rattle.prodash.specs.declared.tree.recorded.ledgers.TheConstants.{PARTS};
+ghost use Rattle.prodash.specs.Views.{Sees, viewed, owned_by, tasks_of};
 ghost use Rattle.prodash.specs.Journals.{IsAfter, RefusesOn, RefusesCall, MayRefuse, with_call, amount};
+ghost use Rattle.prodash_base.specs.Refusals.{RefusesHandle};
 ghost use Rattle.prodash.specs.plumbing.Recordings.{Records, RecordsIn, IsReceiptOf};
 
+use crate::messages::{MessageCopyState, Messages};
+use crate::progress::Rows;
+use crate::tree::recorded::closed_recording::ClosedRecording;
 use crate::tree::recorded::history::{HistoryLength, HistoryPrefix};
 use crate::tree::recorded::journal::Journal;
 use crate::tree::recorded::ledgers::{PARTS, PartCount, TreeLedger};
+use crate::tree::recorded::look_receipt::LookReceipt;
 use crate::tree::recorded::receipt::Receipt;
 use crate::tree::recorded::share::Share;
+use crate::tree::recorded::shown::Looked;
 use crate::tree::recorded::state::RecordedState;
 use prodash_base::Refusal;
 use prodash_core::tree::{Event, Reply};
@@ -23,14 +30,18 @@ use std::sync::{Wait, ledger};
 /// What the lock of a recorded tree protects: the tree with its journal, its history, and the
 /// totals of all calls. Once the journal is taken out, no share has a part of the ledgers.
 #[derive(Drop)]
-pub(crate) struct LockedRecording<C: TreeLedger, S: Ledger> {
+pub struct LockedRecording<C: TreeLedger, S: Ledger> {
+    /// The number of views.
+    owners: u64,
     state: Option<RecordedState>,
+    /// The tree, once the journal is taken out.
+    last: Option<ClosedRecording<C>>,
     calls: Book<C>,
     sums: Book<S>,
     /// All parts of the ledger of calls, once the journal is taken out.
     all: ledger::Share<C>,
     word: HistoryLength<C>,
-    /// The history, until the journal is taken out.
+    /// The history, without its end once the journal is taken out.
     history: HistoryPrefix<C>,
     call_parts: PartCount<C>,
     sum_parts: PartCount<S>,
@@ -39,6 +50,8 @@ pub(crate) struct LockedRecording<C: TreeLedger, S: Ledger> {
     ghost summed: { ForSome state (λ s. sums.total ≡ amount s.entries) },
     ghost known: { ForSome state (λ s. history ≡ history_of s.entries) },
     ghost taken: { ForNone state (all.parts ≡ PARTS) },
+    ghost shown: { ForNone state (is_some last ≡ true) },
+    ghost open: { IsOpen history },
 }
 
 impl<C: TreeLedger, S: Ledger> LockedRecording<C, S> {
@@ -57,7 +70,9 @@ impl<C: TreeLedger, S: Ledger> LockedRecording<C, S> {
     {
         let (word, history) = of_tree;
         LockedRecording {
+            owners: 0,
             state: Some(state),
+            last: None,
             calls,
             sums,
             all: none,
@@ -118,6 +133,75 @@ impl<C: TreeLedger, S: Ledger> LockedRecording<C, S> {
         }
     }
 
+    /// Returns what a frame sees of the tree, and the receipt.
+    pub(crate) fn look(
+        &self,
+        spare: (Rows, Messages),
+        previous: Option<MessageCopyState>,
+    ) -> Result<(Option<Looked>, LookReceipt<C>), Refusal>
+        ensures ok { IfOk result (λ r. Sees C.message_buffer_capacity previous r.1 r.0
+            (viewed self.now.owners self.now.state self.now.last)) }
+        ensures reason { IsOkUnless result Refusal.Memory }
+    {
+        match &self.state {
+            Some(state) => look_at_open(state, &self.history, spare, previous),
+            None => match &self.last {
+                Some(last) => last.look(spare, previous),
+                None => unreachable!(),
+            },
+        }
+    }
+
+    /// Returns the number of tasks that a view shows.
+    pub(crate) fn num_tasks(&mut self, alloc: Global) -> usize
+        ensures value { result ≡ tasks_of
+            (viewed self.old.owners self.old.state self.old.last).tree }
+        ensures owners { self.new.owners ≡ self.old.owners }
+        ensures state { self.new.state ≡ self.old.state }
+        ensures last { self.new.last ≡ self.old.last }
+    {
+        let LockedRecording { state, last, .. } = self;
+        match state {
+            Some(state) => state.num_tasks(alloc),
+            None => match last {
+                Some(last) => last.num_tasks(alloc),
+                None => unreachable!(),
+            },
+        }
+    }
+
+    /// Adds a view.
+    pub(crate) fn add_owner(&mut self) -> Result<(), Refusal>
+        ensures ok { OnOk result (self.new.owners ≡ self.old.owners + 1) }
+        ensures err { OnErr result (self.new.owners ≡ self.old.owners) }
+        ensures state { self.new.state ≡ self.old.state }
+        ensures last { self.new.last ≡ self.old.last }
+        ensures full { (result ≡ Err Refusal.TooManyHandles) ↔ (self.old.owners ≡ u64.MAX) }
+        ensures reason { IfErr result RefusesHandle }
+    {
+        if self.owners == u64::MAX {
+            return Err(Refusal::TooManyHandles);
+        }
+        self.owners += 1;
+        Ok(())
+    }
+
+    /// Returns the number of views.
+    pub(crate) fn owners(&self) -> u64
+        ensures { result ≡ self.now.owners }
+    {
+        self.owners
+    }
+
+    /// Removes a view.
+    pub(crate) fn remove_owner(&mut self)
+        ensures owners { self.new.owners ≡ self.old.owners - 1 }
+        ensures state { self.new.state ≡ self.old.state }
+        ensures last { self.new.last ≡ self.old.last }
+    {
+        self.owners = self.owners.saturating_sub(1);
+    }
+
     /// Takes the journal out, in exchange for all parts of the ledgers.
     pub(crate) fn take_journal<R: Wait>(
         &mut self,
@@ -129,6 +213,9 @@ impl<C: TreeLedger, S: Ledger> LockedRecording<C, S> {
         requires sums { PARTS ≤ sums.parts }
         ensures count { length result ≡ calls.amount }
         ensures sum { amount result ≡ sums.amount }
+        ensures entries { result ≡ (viewed self.new.owners self.new.state self.new.last).entries }
+        ensures kept { viewed self.new.owners self.new.state self.new.last
+            ≡ viewed self.old.owners self.old.state self.old.last }
     {
         self.call_parts.show_parts();
         self.sum_parts.show_parts();
@@ -142,7 +229,9 @@ impl<C: TreeLedger, S: Ledger> LockedRecording<C, S> {
                 self.sums.audit(&mut sums);
                 self.all = calls;
                 let history = ended_history(rt, &self.word, &self.history, &state);
-                Journal::new(state, history)
+                let (last, journal) = split_recording(state, &self.history, history);
+                self.last = Some(last);
+                journal
             }
             None => {
                 self.all.give(&mut calls, 0, 0);
@@ -150,6 +239,42 @@ impl<C: TreeLedger, S: Ledger> LockedRecording<C, S> {
             }
         }
     }
+}
+
+/// Returns the tree and the journal of a recording, which has this history and its end.
+#[tactic(auto, using(crate::proofs::CallLaws::closing))]
+fn split_recording<C: TreeLedger>(
+    state: RecordedState,
+    history: &HistoryPrefix<C>,
+    whole: HistoryPrefix<C>,
+) -> (ClosedRecording<C>, Journal<C>)
+    requires capacity { state.capacity ≡ C.message_buffer_capacity }
+    requires known { history.now ≡ history_of state.entries }
+    requires whole { whole ≡ ended state.entries }
+    ensures last { result.0 ≡ state }
+    ensures entries { result.1 ≡ state.entries }
+{
+    let (tree, entries) = state.into_parts();
+    let last = ClosedRecording::new(tree, history.duplicate());
+    (last, Journal::new(entries, whole))
+}
+
+/// Returns what a frame sees of a tree with its journal, and the receipt.
+#[tactic(auto, using(crate::proofs::CallLaws::looking_open))]
+fn look_at_open<C: TreeLedger>(
+    state: &RecordedState,
+    history: &HistoryPrefix<C>,
+    spare: (Rows, Messages),
+    previous: Option<MessageCopyState>,
+) -> Result<(Option<Looked>, LookReceipt<C>), Refusal>
+    requires capacity { state.now.capacity ≡ C.message_buffer_capacity }
+    requires known { history.now ≡ history_of state.now.entries }
+    ensures ok { IfOk result (λ r. Sees C.message_buffer_capacity previous r.1 r.0
+        (owned_by 0 state.now)) }
+    ensures reason { IsOkUnless result Refusal.Memory }
+{
+    let seen = state.look(spare, previous)?;
+    Ok((seen, LookReceipt::new(history.duplicate())))
 }
 
 /// Applies an event that is no frame, and appends it to the journal and to the history. Returns the

@@ -3,6 +3,7 @@ ghost use Rattle.std.specs.Prelude.{◌≡◌, ◌+◌, ◌<◌, ◌↔◌, [], 
 ghost use Rattle.prodash.specs.declared.tree.recorded.ledgers.TheConstants.{PARTS};
 ghost use Rattle.prodash_base.specs.Refusals.{RefusesHandle};
 ghost use Rattle.prodash_core.specs.Trees.{is_frame};
+ghost use Rattle.prodash.specs.Views.{InOneTurn, GetsView};
 ghost use Rattle.prodash.specs.Journals.{IsJournal, IsAfter, RefusesCall, new_caller, after_call, amount, calls_of, sum_of};
 
 use crate::tree::recorded::history::HistoryPrefix;
@@ -12,7 +13,9 @@ use crate::tree::recorded::locked_recording::LockedRecording;
 use crate::tree::recorded::receipt::Receipt;
 use crate::tree::recorded::share::Share;
 use crate::tree::recorded::state::RecordedState;
+use crate::tree::recorded::turns::TakesViewTurns;
 use crate::tree::recorded::unshared_parts::{LockedParts, UnsharedParts};
+use crate::tree::recorded::view::RecordedView;
 use crate::tree::root::Options;
 use prodash_base::Refusal;
 use prodash_core::tree::{Event, Reply};
@@ -42,6 +45,8 @@ pub struct RecordedRoot<C: TreeLedger, S: Ledger> {
     unshared: LockedParts<C, S>,
     /// The empty history, which is all that a new item has seen.
     start: HistoryPrefix<C>,
+    /// The greatest number of messages that the tree keeps.
+    capacity: usize,
 }
 
 impl<C: TreeLedger, S: Ledger> Model for RecordedRoot<C, S> {
@@ -52,7 +57,8 @@ impl<C: TreeLedger, S: Ledger> Model for RecordedRoot<C, S> {
 
     ghost view = { λ root. record { made = root.unshared } };
 
-    ghost invariant = { λ root. root.start ≡ [] };
+    ghost invariant = { λ root. (root.start ≡ [])
+        × (root.capacity ≡ C.message_buffer_capacity) };
 }
 
 /// Makes calls on a recorded tree. Contracts see how many calls were accepted, their sum, and the
@@ -119,6 +125,7 @@ impl<C: TreeLedger, S: Ledger> RecordedRoot<C, S> {
             tree,
             unshared,
             start,
+            capacity: options.message_buffer_capacity,
         })
     }
 
@@ -135,9 +142,27 @@ impl<C: TreeLedger, S: Ledger> RecordedRoot<C, S> {
         make_item(&self.tree, &mut self.unshared.lock(rt), &self.start)
     }
 
+    /// Returns a view of the tree, by which it is drawn. May wait for the lock of the tree.
+    ///
+    /// # Errors
+    ///
+    /// `TooManyHandles`, if there are 2^64-1 views. `Memory`, if the reference count of the tree is
+    /// at its limit.
+    pub fn view<R: TakesViewTurns>(
+        &self,
+        rt: &R,
+        alloc: Global,
+    ) -> Result<RecordedView<R, C, S>, Refusal>
+        ensures ok { OnOk result (InOneTurn R.found R.left GetsView) }
+        ensures reason { IfErr result RefusesHandle }
+    {
+        RecordedView::open(rt, alloc, self.capacity, &self.tree)
+    }
+
     /// Returns the journal of all calls, if `shares` has all shares that have been made: an empty
-    /// list, if none has. May wait for the lock of the tree. If the history had an entry that the
-    /// journal lacks, this call would never return, as `RecordedItem::call`.
+    /// list, if none has. Views don't matter, and go on to show the tree as it is then. May wait for
+    /// the lock of the tree. If the history had an entry that the journal lacks, this call would
+    /// never return, as `RecordedItem::call`.
     ///
     /// # Errors
     ///
@@ -157,6 +182,7 @@ impl<C: TreeLedger, S: Ledger> RecordedRoot<C, S> {
             tree,
             unshared,
             start,
+            capacity,
         } = self;
         let unshared = unshared.into_parts();
         if !unshared.is_complete_with(&shares) {
@@ -165,6 +191,7 @@ impl<C: TreeLedger, S: Ledger> RecordedRoot<C, S> {
                 tree,
                 unshared,
                 start,
+                capacity,
             };
             return Err(Unclosed { root, shares });
         }

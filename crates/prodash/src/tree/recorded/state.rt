@@ -1,10 +1,14 @@
 //! A tree beside its journal.
 ghost use Rattle.std.specs.Prelude.{◌≡◌, ◌≢◌, ◌++◌, ◌∷◌, [], Ok, Err, None, false, IfOk, IfErr, OnErr, IfSome, IfNone, length, IsOkUnless};
-ghost use Rattle.prodash_core.specs.Trees.{new_tree, is_frame, Applies};
+ghost use Rattle.prodash_core.specs.Trees.{new_tree, is_frame, snapshot_of, Applies};
 ghost use Rattle.prodash_core.specs.Refusals.{refusal_of};
 ghost use Rattle.prodash_core.specs.Replies.{owns_memory};
 ghost use Rattle.prodash.specs.Journals.{Replays};
+ghost use Rattle.prodash.specs.Views.{tasks_of};
 
+use crate::messages::{MessageCopyState, Messages};
+use crate::progress::Rows;
+use crate::tree::recorded::shown::count_tasks;
 use crate::tree::root::Options;
 use prodash_base::Refusal;
 use prodash_core::tree::{Event, Reply, RootOptions, TreeState};
@@ -128,17 +132,39 @@ impl RecordedState {
         self.entries.as_slice()
     }
 
-    /// Returns the journal.
-    pub(crate) fn into_entries(self) -> Vec<(Event, Reply)>
-        ensures same { result.items ≡ self.entries }
-        ensures replays { Replays self.capacity result.items self.tree }
+    /// Returns what a frame sees of the tree, in the memory of `spare`.
+    pub(crate) fn look(
+        &self,
+        spare: (Rows, Messages),
+        previous: Option<MessageCopyState>,
+    ) -> Result<Option<(Rows, Messages, MessageCopyState)>, Refusal>
+        ensures ok { IfOk result (λ seen. seen ≡ snapshot_of self.now.tree previous) }
+        ensures replays { Replays self.now.capacity self.now.entries self.now.tree }
+        ensures reason { IsOkUnless result Refusal.Memory }
+    {
+        self.tree.look(spare, previous)
+    }
+
+    /// Returns the number of tasks that a view shows.
+    pub(crate) fn num_tasks(&mut self, alloc: Global) -> usize
+        ensures value { result ≡ tasks_of self.old.tree }
+        ensures kept { self.new ≡ self.old }
+    {
+        count_tasks(&mut self.tree, alloc)
+    }
+
+    /// Returns the tree and the journal.
+    pub(crate) fn into_parts(self) -> (TreeState, Vec<(Event, Reply)>)
+        ensures tree { result.0 ≡ self.tree }
+        ensures same { result.1.items ≡ self.entries }
+        ensures replays { Replays self.capacity result.1.items result.0 }
     {
         let RecordedState {
             capacity: _,
-            tree: _,
+            tree,
             entries,
         } = self;
-        entries
+        (tree, entries)
     }
 }
 

@@ -4,6 +4,8 @@ ghost use Rattle.prodash_base.specs.Refusals.{RefusesHandle};
 ghost use Rattle.prodash.specs.Engines.{EngineSees, EngineSteps, new_engine};
 ghost use Rattle.prodash.specs.plumbing.EngineFrames.{EngineRenders};
 
+mod audited;
+
 use crate::messages::{MessageCopyState, Messages};
 use crate::progress::Rows;
 use crate::render::line::draw::{self, Answer, Input, Screen};
