@@ -5,6 +5,8 @@ mod JournalLaws
 mod ListPrefixes
 mod ShownTrees
 mod CallLaws
+mod KeptCallLaws
+mod CallTurns
 mod ViewTurns
 mod ViewTicks
 mod TurnLaws

@@ -8,6 +8,7 @@ pub mod Reporters
 pub mod Callers
 pub mod Journals
 pub mod Views
+pub mod Recorders
 pub mod PlainLines
 pub mod plumbing
 pub use Rattle.prodash_base.specs.Path
