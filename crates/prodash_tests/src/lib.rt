@@ -27,6 +27,8 @@ mod reporters;
 #[cfg(test)]
 mod system_clock;
 #[cfg(test)]
+mod tasks;
+#[cfg(test)]
 mod traits;
 #[cfg(test)]
 mod views;

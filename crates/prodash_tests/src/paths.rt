@@ -105,6 +105,10 @@ mod recorded {
     };
 }
 
+mod recorders {
+    pub use prodash::tree::recorded::{RecordedCalls, RecordedTask, Recorder};
+}
+
 mod root {
     pub use prodash::tree::root::{Options, Root, WeakHandle};
 }
