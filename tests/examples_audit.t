@@ -3,8 +3,7 @@ prodash-examples: audit
 
 The receipts of all calls agree with the journal, which has a line for each call.
 
-  $ prodash-examples audit >journal 2>shown
-  $ tail -n 1 shown
+  $ prodash-examples audit >journal
   160 receipts agree
   $ wc -l <journal | tr -d ' '
   160
@@ -34,38 +33,9 @@ The tree that the lines rebuild has all jobs at their last step, and a message o
    parse 15/15 [========================>]
    write 15/15 [========================>]
 
-They are the last rows that a view showed of the tree while it was recorded, in the same order, and
-so are the messages that were drawn.
-
-  $ grep 15/15 page | sed 's/^ //; s/ \[.*//' >rows
-  $ grep 15/15 shown | cmp - rows
-  $ grep -c '^ part is done$' shown
-  8
-
-On a terminal the tree is drawn while the threads work. The job `build` is done first, and `write`
-last. What is left then are the messages, and below them the last rows.
-
-  $ on-terminal 40 30 <<'END' >window
-  > run env COLUMNS=40 LINES=30 NO_COLOR=1 prodash-examples audit check
-  > until build 15/15 [
-  > ended
-  > screen
-  > END
-  $ head -n 1 window
-  status 0
-  $ grep -c '^ part is done$' window
-  8
-  $ grep -c '^[a-z]* 15/15$' window
-  8
-  $ grep -c '\[' window
-  0
-  [1]
-  $ grep agree window
-  160 receipts agree
-
 Without the journal.
 
-  $ prodash-examples audit check 2>&1 | tail -n 1
+  $ prodash-examples audit check
   160 receipts agree
 
 Arguments other than this word.
@@ -79,7 +49,6 @@ Arguments other than this word.
 
 An output that can't be written.
 
-  $ prodash-examples audit 2>shown >/dev/full
-  [1]
-  $ tail -n 1 shown
+  $ prodash-examples audit >/dev/full
   output is broken
+  [1]

@@ -25,7 +25,7 @@ fn main(rt: HostRuntime) -> anyhow::Result<ExitCode> {
         Some("threads") => Ok(threads::run(rt, rt.stderr())?),
         Some("primes") => Ok(primes::run(rt, rt.stderr())?),
         Some("workers") => workers::run(&rt, rt.stderr()),
-        Some("audit") => audit::run(rt, rt.stderr(), &mut rt.stdout()),
+        Some("audit") => audit::run(rt, &mut rt.stdout()),
         Some("colors") => colors::run(&rt, &mut rt.stdout()),
         _ => Err(USAGE),
     };
