@@ -1,33 +1,14 @@
 //! Callers that docs/PROVING.md shows. Each is proved from the contracts of what it calls.
-ghost use Rattle.std.specs.Prelude.{◌≡◌, ◌<◌, Contains, OnOk, IfOk};
-ghost use Rattle.prodash_base.specs.Messages.{message_of};
+ghost use Rattle.std.specs.Prelude.{◌≡◌, Contains, OnOk, IfOk};
 ghost use Rattle.prodash_base.specs.Rows.{unknown_id};
 ghost use Rattle.prodash_core.specs.Trees.{tree_rows};
 ghost use Rattle.prodash.specs.Callers.{added_row};
-ghost use Rattle.prodash_base.specs.declared.messages.MessageLevel.TheVariants.{Info};
 
-use prodash::messages::{MessageLevel, MessageRingBuffer};
 use prodash::progress::{Rows, UNKNOWN};
-use prodash::time::Moment;
 use prodash::tree::recorded::{Journal, Receipt, TreeLedger};
 use prodash::tree::{Event, Reply, TreeState};
 use prodash::{Refusal, Text};
 use std::alloc::Global;
-
-/// Sends a message to a ring that keeps at least one. The ring has it then.
-#[tactic(auto, using(prodash::proofs::CallerLaws::push_keeps))]
-pub fn tell(
-    alloc: Global,
-    ring: &mut MessageRingBuffer,
-    at: Moment,
-    text: &str,
-) -> Result<(), Refusal>
-    requires { 0 < ring.old.capacity }
-    ensures kept { OnOk result
-        (Contains ring.new.messages (message_of at Info "backup" text.now)) }
-{
-    ring.push_overwrite(alloc, at, MessageLevel::Info, "backup", text)
-}
 
 /// Adds a task below the root. The rows of the tree have its row then.
 #[tactic(auto, using(prodash::proofs::CallerLaws::added_is_listed))]
