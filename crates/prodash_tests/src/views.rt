@@ -4,16 +4,14 @@ ghost use Rattle.prodash_core.specs.Trees.{is_frame};
 
 use crate::fixtures::assert_same;
 use crate::recorded::{add_task, make_call};
+use prodash::Text;
 use prodash::messages::{MessageCopyState, MessageLevel, Messages};
 use prodash::progress::Rows;
-use prodash::render::line::draw::{self, MemoryScreen};
-use prodash::render::line::engine::{Engine, EngineEvent};
 use prodash::tree::recorded::{
     Journal, Ledgers, Receipt, RecordedItem, RecordedRoot, RecordedView, TreeLedger,
 };
 use prodash::tree::root::Options;
-use prodash::tree::{Event, Reply, RootOptions, SessionOptions, run};
-use prodash::{Root, Text, WeakRoot};
+use prodash::tree::{Event, Reply};
 use std::alloc::Global;
 use std::marker::Brand;
 use std::process::Abort;
@@ -61,13 +59,10 @@ fn view_tree<C: TreeLedger, S: Ledger, R: Wait + Abort + Copy>(
     );
     assert_counts(&rt, &view, 1);
     assert_lists(&rt, alloc, &view);
-    let frame = frame_of(&rt, alloc, weak.upgrade().expect(&rt, "no refusal"));
-    assert_tick(&rt, alloc, &view, Some(4), &frame);
     let mut shares = Vec::new(alloc);
     shares.push(item.give_back()).expect(&rt, "memory");
     let journal = root.close(&rt, shares).ok().expect(&rt, "a journal");
     assert_same(&rt, journal.entries().len(), 4, "a look is no entry");
-    assert_frame(&rt, alloc, &journal, &frame);
     assert_closed(&rt, alloc, &view, &journal);
     let is_found = weak.upgrade().expect(&rt, "no refusal").is_some();
     assert_same(&rt, is_found, true, "a view is left");
@@ -154,71 +149,6 @@ fn assert_lists<R: Wait + Abort + Copy, C: TreeLedger, S: Ledger>(
     assert_same(rt, sent.expect(rt, "no refusal").pushed(), 1, "sent");
     let seen = view.snapshot_and_new_messages(&mut rows, &mut messages, None);
     assert_same(rt, seen.expect(rt, "no refusal").pushed(), 1, "seen");
-}
-
-/// Returns the bytes of the first frame of a view.
-fn frame_of<R: Wait + Abort + Copy, C: TreeLedger, S: Ledger>(
-    rt: &R,
-    alloc: Global,
-    view: Option<RecordedView<R, C, S>>,
-) -> Vec<u8> {
-    let view = view.expect(rt, "a view");
-    let screen = MemoryScreen::new(alloc, 4096).expect(rt, "memory");
-    let weak = view.downgrade().expect(rt, "no refusal");
-    let engine = Engine::new(alloc, screen, weak, draw::Options::default(), false);
-    let mut engine = engine.expect(rt, "memory");
-    let drawn = engine.step(EngineEvent::Tick { at: 0, show: true });
-    assert_same(rt, drawn.is_ok(), true, "a frame");
-    let mut bytes = Vec::new(alloc);
-    bytes
-        .extend_from_slice(engine.screen().bytes())
-        .expect(rt, "memory");
-    bytes
-}
-
-/// Asserts that the first tick of an engine over a view draws this frame, and how many calls its
-/// receipt has.
-fn assert_tick<R: Wait + Abort + Copy, C: TreeLedger, S: Ledger>(
-    rt: &R,
-    alloc: Global,
-    view: &RecordedView<R, C, S>,
-    calls: Option<u64>,
-    frame: &[u8],
-) {
-    let screen = MemoryScreen::new(alloc, 4096).expect(rt, "memory");
-    let weak = view.downgrade().expect(rt, "no refusal");
-    let engine = Engine::new(alloc, screen, weak, draw::Options::default(), false);
-    let mut engine = engine.expect(rt, "memory");
-    let (_, receipt) = engine.tick(0, true).expect(rt, "a frame");
-    assert_same(rt, receipt.map(|it| it.calls()), calls, "calls of a tick");
-    assert_same(
-        rt,
-        engine.screen().bytes() == frame,
-        true,
-        "the frame of a tick",
-    );
-}
-
-/// Asserts that a session which applies the events of a journal draws the same frame.
-fn assert_frame<C: TreeLedger>(rt: &impl Abort, alloc: Global, journal: &Journal<C>, frame: &[u8]) {
-    let mut events = Vec::new(alloc);
-    for (event, _) in journal.entries() {
-        events
-            .push(event.clone().expect(rt, "memory"))
-            .expect(rt, "memory");
-    }
-    events
-        .push(Event::Tick { at: 0, show: true })
-        .expect(rt, "memory");
-    let mut screen = MemoryScreen::new(alloc, 4096).expect(rt, "memory");
-    let options = SessionOptions {
-        root: RootOptions::default(),
-        draw: draw::Options::default(),
-        throughput: false,
-    };
-    let replies = run(alloc, &options, &events, &mut screen);
-    assert_same(rt, replies.is_ok(), true, "a run");
-    assert_same(rt, screen.bytes() == frame, true, "the frame of a session");
 }
 
 /// Asserts that a view shows the tree that was closed, and that its look saw the whole journal.
