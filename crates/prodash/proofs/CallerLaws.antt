@@ -15,24 +15,30 @@ use Rattle.prodash_base.specs.Rings.{Ring, push}
 use Rattle.prodash_base.specs.plumbing.KeyHash.{same_path}
 use Rattle.prodash_base.specs.declared.messages.Message.{Message}
 use Rattle.prodash_base.specs.declared.refusal.Refusal.{Refusal}
-use Rattle.prodash_core.specs.Tables.{Table, TaskEntry, new_entry, frozen}
-use Rattle.prodash_core.specs.Trees.{Tree, slot_at, tree_rows, counter_at, add_child, with_child, new_slot, for_slot, Outcome, Applies}
+use Rattle.prodash_core.specs.Tables.{TaskEntry, new_entry, frozen}
+use Rattle.prodash_core.specs.Trees.{Tree, slot_at, tree_rows, counter_at, add_child, for_slot, Applies}
 use Rattle.prodash_core.specs.declared.tree.slot.Slot.{Slot}
 use Rattle.prodash_core.specs.declared.tree.event.Event.TheVariants.{AddChild}
 use Rattle.prodash_core.specs.declared.tree.event.Reply.{Reply}
 use Rattle.prodash_core.specs.declared.tree.event.Reply.TheVariants.{Made}
 use Rattle.prodash_core.specs.Sessions.{tree_after}
-use Rattle.prodash.specs.Callers.{next_path, added_row}
+use Rattle.prodash.specs.Callers.{HasMessage, KeepsPushed, next_path, added_row}
 
 -- A ring keeps a message that is pushed, unless it keeps none.
-pub push_keeps : (ring : Ring) (m : Message) → 0 < ring.capacity → Contains (push ring m).messages m
+pub push_keeps : (ring : Ring) (m : Message) → KeepsPushed ring m
 push_keeps ring m h =
     let all = ring.messages ++ m ∷ [] in
     let count : length all ≡ length ring.messages + 1 = length-append ring.messages (m ∷ []) in
     let older : List Message = drop (length all - ring.capacity) ring.messages in
     let kept : drop (length all - ring.capacity) all ≡ older ++ m ∷ [] =
     drop-append-le (length all - ring.capacity) ring.messages (m ∷ []) (omega arith) in
-    subst (λ ms. Contains ms m) (sym kept) (Contains-append_right older (m ∷ []) m (0, omega arith, refl))
+    (refl, subst (λ ms. Contains ms m) (sym kept) (Contains-append_right older (m ∷ []) m (0, omega arith, refl)))
+
+-- the same after a call
+pub pushed_is_kept : {X : Type 0} (before ring : Ring) (m : Message) (result : Result X Refusal) → OnOk result (ring ≡ push before m) → 0 < before.capacity
+    → OnOk result (HasMessage before ring m)
+pushed_is_kept before ring m (Ok x) h some = subst (λ r. HasMessage before r m) (sym h) (push_keeps before m some)
+pushed_is_kept before ring m (Err refusal) h some = tt
 
 -- an entry that is put among others is one of them
 put_by : {V : Type 0} (k : Path) (v : V) (e : Path × V) (es : List (Path × V)) (o : Ordering) → path_cmp k e.0 ≡ o → Contains (put path_cmp k v es) (k, v)

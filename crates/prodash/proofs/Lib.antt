@@ -15,3 +15,4 @@ mod PlainTables
 mod ParentPaths
 mod WorkedPlainLines
 pub mod CallerLaws
+pub mod FirstFrames

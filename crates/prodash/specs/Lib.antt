@@ -6,6 +6,7 @@ pub mod Logs
 pub mod Wrappers
 pub mod Reporters
 pub mod Callers
+pub mod FirstFrames
 pub mod Journals
 pub mod Views
 pub mod Recorders

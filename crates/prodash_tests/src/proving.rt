@@ -1,14 +1,35 @@
 //! Callers that docs/PROVING.md shows. Each is proved from the contracts of what it calls.
-ghost use Rattle.std.specs.Prelude.{◌≡◌, Contains, OnOk, IfOk};
+ghost use Rattle.std.specs.Prelude.{◌≡◌, ◌<◌, Contains, OnOk, IfOk, codes};
+ghost use Rattle.prodash_base.specs.Messages.{message_of};
 ghost use Rattle.prodash_base.specs.Rows.{unknown_id};
 ghost use Rattle.prodash_core.specs.Trees.{tree_rows};
-ghost use Rattle.prodash.specs.Callers.{added_row};
+ghost use Rattle.prodash.specs.Callers.{HasMessage, added_row};
+ghost use Rattle.prodash.specs.FirstFrames.{ShowsTask};
+ghost use Rattle.prodash_base.specs.declared.messages.MessageLevel.TheVariants.{Info};
 
-use prodash::progress::{Rows, UNKNOWN};
+use prodash::messages::{MessageLevel, MessageRingBuffer};
+use prodash::progress::{Rows, Step, UNKNOWN};
+use prodash::render::line::draw::{self, Screen};
+use prodash::time::Moment;
 use prodash::tree::recorded::{Journal, Receipt, TreeLedger};
-use prodash::tree::{Event, Reply, TreeState};
+use prodash::tree::{Event, Reply, RootOptions, SessionOptions, TreeState, run};
 use prodash::{Refusal, Text};
 use std::alloc::Global;
+
+/// Sends a message to a ring that keeps at least one. The ring has it then.
+#[tactic(auto, using(prodash::proofs::CallerLaws::pushed_is_kept))]
+pub fn tell(
+    alloc: Global,
+    ring: &mut MessageRingBuffer,
+    at: Moment,
+    text: &str,
+) -> Result<(), Refusal>
+    requires { 0 < ring.old.capacity }
+    ensures kept { OnOk result
+        (HasMessage ring.old ring.new (message_of at Info (codes "backup") text.now)) }
+{
+    ring.push_overwrite(alloc, at, MessageLevel::Info, "backup", text)
+}
 
 /// Adds a task below the root. The rows of the tree have its row then.
 #[tactic(auto, using(prodash::proofs::CallerLaws::added_is_listed))]
@@ -27,6 +48,35 @@ pub fn begin_and_list(alloc: Global, tree: &mut TreeState, name: Text) -> Result
 {
     begin(alloc, tree, name)?;
     tree.rows(alloc)
+}
+
+/// Draws a task at a step of ten, in a new session. The screen gets the line of its row, if nothing
+/// is refused.
+#[tactic(auto, using(prodash::proofs::FirstFrames::shows_task))]
+pub fn show_step<S: Screen>(
+    alloc: Global,
+    name: Text,
+    step: Step,
+    screen: &mut S,
+) -> Result<Vec<Reply>, Refusal>
+    ensures line { ShowsTask name step 10 result (S.state screen.old) (S.state screen.new) }
+{
+    let root = RootOptions::default();
+    let draw = draw::Options::default();
+    let options = SessionOptions {
+        root,
+        draw,
+        throughput: false,
+    };
+    let (parent, id) = (0, UNKNOWN);
+    let (max, unit) = (Some(10), None);
+    let events = vec![in alloc;
+        Event::AddChild { parent, name, id },
+        Event::Init { item: 1, max, unit },
+        Event::Set { item: 1, step },
+        Event::Tick { at: 0, show: true },
+    ]?;
+    run(alloc, &options, &events, screen)
 }
 
 /// Returns the reply that a journal has for the call of a receipt: the one that the caller got.
