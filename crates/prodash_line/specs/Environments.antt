@@ -67,3 +67,20 @@ pub record IsSaidBy (v : Variables) (it : Environment) : Type 0 where
   pub columns : SomeIff it.columns (IsDimension v.columns.now) (digits_value 10 v.columns.now)
   -- the rows that LINES names
   pub rows : SomeIff it.rows (IsDimension v.lines.now) (digits_value 10 v.lines.now)
+
+-- Each variable's value is what was given for its name.
+pub record AreGiven (gave : List ℕ → List ℕ → Type 0) (v : Variables) : Type 0 where
+  pub no_color : gave (codes "NO_COLOR") v.no_color.now
+  pub clicolor : gave (codes "CLICOLOR") v.clicolor.now
+  pub clicolor_force : gave (codes "CLICOLOR_FORCE") v.clicolor_force.now
+  pub force_color : gave (codes "FORCE_COLOR") v.force_color.now
+  pub term : gave (codes "TERM") v.term.now
+  pub lc_all : gave (codes "LC_ALL") v.lc_all.now
+  pub lc_ctype : gave (codes "LC_CTYPE") v.lc_ctype.now
+  pub lang : gave (codes "LANG") v.lang.now
+  pub columns : gave (codes "COLUMNS") v.columns.now
+  pub lines : gave (codes "LINES") v.lines.now
+
+-- what the values say that were given for the names of the variables
+abbrev pub IsReadFrom : (List ℕ → List ℕ → Type 0) → Environment → Type 0
+IsReadFrom gave it = (v : Variables) × AreGiven gave v × IsSaidBy v it

@@ -1,18 +1,17 @@
 //! What the environment of a program says about the terminal, and the words that name its size.
-ghost use Rattle.std.specs.Prelude.{◌≡◌, ◌<◌, SomeIff, IfSome};
+ghost use Rattle.std.specs.Prelude.{◌≡◌, SomeIff};
 ghost use Rattle.std.specs.Str.Parse.{digits_value};
 ghost use Rattle.prodash_line.specs.Dimensions.{IsDimension};
 ghost use Rattle.prodash_line.specs.Environments as environments;
-ghost use Rattle.prodash_line.specs.Environments.{IsSaidBy};
+ghost use Rattle.prodash_line.specs.Environments.{IsSaidBy, IsReadFrom};
 
 mod locale;
+mod source;
 mod variables;
 
 use crate::render::line::terminal::locale::is_utf8_locale;
+pub use crate::render::line::terminal::source::VariableSource;
 pub use crate::render::line::terminal::variables::Variables;
-use std::env::FillError;
-use std::rt::Env;
-use std::str;
 
 /// The greatest number of bytes of a value that is read.
 const GREATEST_LENGTH: usize = 32;
@@ -79,9 +78,8 @@ impl Environment {
     }
 
     /// Reads the variables. A value that has more than 32 bytes or isn't UTF-8 counts as `?`.
-    pub fn read<R: Env>(rt: &R) -> Environment
-        ensures columns { IfSome result.columns (λ n. 0 < n) }
-        ensures rows { IfSome result.rows (λ n. 0 < n) }
+    pub fn read<R: VariableSource>(rt: &R) -> Environment
+        ensures { IsReadFrom (R.gave rt.now) result }
     {
         let mut no_color = [0; GREATEST_LENGTH];
         let mut clicolor = [0; GREATEST_LENGTH];
@@ -94,16 +92,16 @@ impl Environment {
         let mut columns = [0; GREATEST_LENGTH];
         let mut lines = [0; GREATEST_LENGTH];
         Environment::new(&Variables {
-            no_color: read_variable(rt, "NO_COLOR", &mut no_color),
-            clicolor: read_variable(rt, "CLICOLOR", &mut clicolor),
-            clicolor_force: read_variable(rt, "CLICOLOR_FORCE", &mut clicolor_force),
-            force_color: read_variable(rt, "FORCE_COLOR", &mut force_color),
-            term: read_variable(rt, "TERM", &mut term),
-            lc_all: read_variable(rt, "LC_ALL", &mut lc_all),
-            lc_ctype: read_variable(rt, "LC_CTYPE", &mut lc_ctype),
-            lang: read_variable(rt, "LANG", &mut lang),
-            columns: read_variable(rt, "COLUMNS", &mut columns),
-            lines: read_variable(rt, "LINES", &mut lines),
+            no_color: rt.variable("NO_COLOR", &mut no_color),
+            clicolor: rt.variable("CLICOLOR", &mut clicolor),
+            clicolor_force: rt.variable("CLICOLOR_FORCE", &mut clicolor_force),
+            force_color: rt.variable("FORCE_COLOR", &mut force_color),
+            term: rt.variable("TERM", &mut term),
+            lc_all: rt.variable("LC_ALL", &mut lc_all),
+            lc_ctype: rt.variable("LC_CTYPE", &mut lc_ctype),
+            lang: rt.variable("LANG", &mut lang),
+            columns: rt.variable("COLUMNS", &mut columns),
+            lines: rt.variable("LINES", &mut lines),
         })
     }
 }
@@ -116,14 +114,4 @@ pub fn dimension(word: &str) -> Option<u16>
         return None;
     }
     word.parse::<u16>().ok().filter(|n| *n > 0)
-}
-
-/// Returns the value of a variable, or an empty text if it isn't set. A value that doesn't fit in
-/// the buffer or isn't UTF-8 is given as `?`.
-fn read_variable<'a, R: Env>(rt: &R, name: &str, buffer: &'a mut [u8]) -> &'a str {
-    match rt.var(name, buffer) {
-        Ok(length) => str::from_utf8(&buffer[..length]).unwrap_or("?"),
-        Err(FillError::TooLong) => "?",
-        Err(FillError::NotPresent) => "",
-    }
 }
