@@ -51,9 +51,9 @@ impl Text {
         Ok(self)
     }
 
-    /// Replaces the text with a copy of another, in the memory that it has. Fails if out of
-    /// memory.
-    pub(crate) fn replace(&mut self, text: &str) -> Result<(), AllocError>
+    /// Replaces the text with a copy of `text`, in the memory that it has if that is enough. Returns
+    /// an `AllocError` if out of memory.
+    pub fn replace(&mut self, text: &str) -> Result<(), AllocError>
         ensures { OnOk result (self.new ≡ text.now) }
     {
         self.text.clear();

@@ -440,6 +440,23 @@ fn update_below_name<C: Copy, N: Counters<C>>(row: &mut Row, key: Key, task: &Ta
     row.progress = value_of(&task.progress, counters);
 }
 
+/// The greatest number of bytes of a name in whose place in memory another one is copied. A longer
+/// one would take that memory for as long as there is a row at its place.
+const LONGEST_REPLACED: usize = 256;
+
+/// Replaces a name with a copy of another, in the memory that it has if both are short.
+fn replace_name(name: &mut Text, by: &Text) -> Result<(), AllocError>
+    ensures { OnOk result (name.new ≡ by.now) }
+{
+    let longest = name.as_str().len().max(by.as_str().len());
+    if longest <= LONGEST_REPLACED {
+        name.replace(by.as_str())?;
+    } else {
+        *name = by.clone()?;
+    }
+    Ok(())
+}
+
 /// Updates a row to that of a task. The name is copied only if it differs.
 fn update_row<C: Copy, N: Counters<C>>(
     row: &mut Row,
@@ -450,7 +467,7 @@ fn update_row<C: Copy, N: Counters<C>>(
     ensures { OnOk result (RowShowsTask (N.shows counters.now) key task.now row.new) }
 {
     if row.name != task.name {
-        row.name = task.name.clone()?;
+        replace_name(&mut row.name, &task.name)?;
     }
     update_below_name(row, key, task, counters);
     Ok(())
