@@ -1,4 +1,4 @@
-use crate::workloads::{add_groups, add_tasks, set_all};
+use crate::workloads::{NAME, add_groups, add_task, add_tasks, set_all};
 use prodash::Refusal;
 use prodash::messages::MessageLevel;
 use prodash::render::line::draw::{self, Input, OverWrite};
@@ -12,17 +12,62 @@ use std::sync::Wait;
 /// The nanoseconds between two frames.
 const PERIOD: u64 = 100_000_000;
 
+/// A name of characters that are two columns wide.
+const WIDE_NAME: &str = "タスクの名前";
+
+/// A name of emoji.
+const EMOJI_NAME: &str = "🚀 task 👩‍💻";
+
+/// A name of 200 characters.
+const LONG_NAME: &str = "0123456789012345678901234567890123456789012345678901234567890123456789\
+    0123456789012345678901234567890123456789012345678901234567890123456789\
+    012345678901234567890123456789012345678901234567890123456789";
+
+/// A name of 200 characters that are two columns wide.
+const WIDE_AND_LONG_NAME: &str = "進捗を表示するタスクの長い名前であるがこの行には入らないので\
+    途中で切られるのだが切る所を探すには端から一つずつ字を除いて幅を\
+    測り直すことになるから長い名前では字の数の二乗だけの時間が掛かって\
+    しまい多くの行を描くときには困ることになる進捗を表示するタスクの\
+    長い名前であるがこの行には入らないので途中で切られるのだが切る所を\
+    探すには端から一つずつ字を除いて幅を測り直すことになるから長い名前\
+    であるからです";
+
+/// The seven names of tasks that are added between frames.
+const NAMES: &[&str] = &[
+    "fetch",
+    "unpack",
+    "configure",
+    "compile",
+    "link",
+    "test",
+    "install",
+];
+
+/// What happens to tasks before a frame.
+#[derive(Clone, Copy)]
+enum Change {
+    /// Each is set.
+    Each,
+    /// One of each 1,000 is set.
+    Few,
+    /// A tenth of them is dropped, those that were added ten frames ago, and as many are added. Then
+    /// each is set.
+    Renewed,
+    /// None is set.
+    None,
+}
+
 /// What frames of 80 columns show.
 #[derive(Clone, Copy)]
 pub(crate) struct Scene {
+    name: &'static str,
     unit: Option<Unit>,
     has_groups: bool,
     colored: bool,
     throughput: bool,
     /// Whether rows have the times of their tasks.
     times: bool,
-    /// Whether the step of each task changes before each frame.
-    changes: bool,
+    change: Change,
     /// How many messages are sent before each frame.
     messages: u64,
     defensive: bool,
@@ -34,12 +79,13 @@ impl Scene {
     /// Returns the scene that a workload of this name draws, or `None` if it draws none.
     pub(crate) fn named(name: &str) -> Option<Scene> {
         let plain = Scene {
+            name: NAME,
             unit: None,
             has_groups: false,
             colored: false,
             throughput: false,
             times: false,
-            changes: true,
+            change: Change::Each,
             messages: 0,
             defensive: false,
             rows: 20,
@@ -59,6 +105,11 @@ impl Scene {
                 rows: 65535,
                 ..plain
             },
+            "window" => Scene {
+                defensive: true,
+                rows: 24,
+                ..plain
+            },
             "colored" => Scene {
                 colored: true,
                 ..plain
@@ -73,11 +124,35 @@ impl Scene {
                 ..plain
             },
             "unchanged" => Scene {
-                changes: false,
+                change: Change::None,
+                ..plain
+            },
+            "few" => Scene {
+                change: Change::Few,
+                ..plain
+            },
+            "renewed" => Scene {
+                change: Change::Renewed,
+                ..plain
+            },
+            "wide" => Scene {
+                name: WIDE_NAME,
+                ..plain
+            },
+            "emoji" => Scene {
+                name: EMOJI_NAME,
+                ..plain
+            },
+            "long" => Scene {
+                name: LONG_NAME,
+                ..plain
+            },
+            "wide_and_long" => Scene {
+                name: WIDE_AND_LONG_NAME,
                 ..plain
             },
             "messages" => Scene {
-                changes: false,
+                change: Change::None,
                 messages: 10,
                 ..plain
             },
@@ -94,10 +169,11 @@ impl Scene {
         count: u64,
     ) -> Result<(), Refusal> {
         let root = Root::new(rt, alloc)?;
-        let items = if self.has_groups {
-            add_groups(&root, alloc, tasks, self.unit)?
+        let (name, unit) = (self.name, self.unit);
+        let mut items = if self.has_groups {
+            add_groups(&root, alloc, tasks, unit)?
         } else {
-            add_tasks(&root, alloc, tasks, self.unit)?
+            add_tasks(&root, alloc, tasks, name, unit)?
         };
         let options = draw::Options {
             colored: self.colored,
@@ -108,7 +184,7 @@ impl Scene {
         };
         let mut state = draw::State::new(alloc, options, self.throughput);
         for n in 0..count {
-            self.change_tasks(&items, alloc, n)?;
+            self.change_tasks(&root, &mut items, alloc, n)?;
             draw_frame(&root, alloc, &mut state, n)?;
         }
         Ok(())
@@ -117,12 +193,19 @@ impl Scene {
     /// Does what the tasks do before a frame.
     fn change_tasks<R: Wait + Clone + Drop>(
         self,
-        items: &[Item<R>],
+        root: &Root<R>,
+        items: &mut Vec<Item<R>>,
         alloc: Global,
         n: u64,
     ) -> Result<(), Refusal> {
-        if self.changes {
-            set_all(items, n);
+        match self.change {
+            Change::Each => set_all(items, n),
+            Change::Few => set_few(items, n),
+            Change::Renewed => {
+                renew(root, alloc, items, n)?;
+                set_all(items, n);
+            }
+            Change::None => {}
         }
         if let Some(item) = items.first() {
             for _ in 0..self.messages {
@@ -131,6 +214,31 @@ impl Scene {
         }
         Ok(())
     }
+}
+
+/// Sets one of each 1,000 tasks to a step.
+fn set_few<R: Wait + Clone + Drop>(items: &[Item<R>], step: u64) {
+    for (at, item) in items.iter().enumerate() {
+        if at % 1000 == 0 {
+            item.set(step);
+        }
+    }
+}
+
+/// Drops each tenth task, from the `n`th on, and adds others in their place.
+fn renew<R: Wait + Clone + Drop>(
+    root: &Root<R>,
+    alloc: Global,
+    items: &mut [Item<R>],
+    n: u64,
+) -> Result<(), Refusal> {
+    for (at, item) in items.iter_mut().enumerate() {
+        if at as u64 % 10 == n % 10 {
+            let name = NAMES.get(at % 7).copied().unwrap_or(NAME);
+            *item = add_task(root, alloc, name, None)?;
+        }
+    }
+    Ok(())
 }
 
 /// Draws the frame of this number to a sink.

@@ -12,7 +12,7 @@ use std::io;
 use std::sync::Wait;
 
 /// The name of each task.
-const NAME: &str = "task name";
+pub(crate) const NAME: &str = "task name";
 
 /// Adds the tasks, and runs the workload of this name that many times.
 pub(crate) fn run<R: Wait + Clone + Drop>(
@@ -28,7 +28,7 @@ pub(crate) fn run<R: Wait + Clone + Drop>(
     let root = Root::new(rt, alloc)?;
     let items = match name {
         "snapshot_of_levels" => add_groups(&root, alloc, tasks, None)?,
-        _ => add_tasks(&root, alloc, tasks, None)?,
+        _ => add_tasks(&root, alloc, tasks, NAME, None)?,
     };
     match name {
         "set" | "inc" | "inc_by" | "step" => {
@@ -46,20 +46,31 @@ pub(crate) fn run<R: Wait + Clone + Drop>(
     Ok(())
 }
 
-/// Adds tasks below the root.
+/// Adds tasks of this name below the root.
 pub(crate) fn add_tasks<R: Wait + Clone + Drop>(
     root: &Root<R>,
     alloc: Global,
     tasks: u64,
+    name: &str,
     unit: Option<Unit>,
 ) -> Result<Vec<Item<R>>, Refusal> {
     let mut items = Vec::new(alloc);
     for _ in 0..tasks {
-        let item = root.add_child(alloc, NAME)?;
-        item.init(Some(1000), unit);
-        items.push(item)?;
+        items.push(add_task(root, alloc, name, unit)?)?;
     }
     Ok(items)
+}
+
+/// Adds a task below the root.
+pub(crate) fn add_task<R: Wait + Clone + Drop>(
+    root: &Root<R>,
+    alloc: Global,
+    name: &str,
+    unit: Option<Unit>,
+) -> Result<Item<R>, Refusal> {
+    let item = root.add_child(alloc, name)?;
+    item.init(Some(1000), unit);
+    Ok(item)
 }
 
 /// Adds tasks on two levels, in groups of one with nine children.
