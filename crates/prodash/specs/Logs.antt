@@ -6,9 +6,10 @@ use Rattle.prodash_base.specs.Displays.{amount}
 use Rattle.prodash_base.specs.Units.{all_text_of}
 use Rattle.prodash_base.specs.declared.unit.units.Unit.{Unit}
 use Rattle.prodash_base.specs.declared.messages.MessageLevel.{MessageLevel}
+use Rattle.prodash.specs.declared.tree.steps.Steps.{Steps}
 use Rattle.prodash_base.specs.declared.messages.MessageLevel.TheVariants.{Info, Failure, Success}
 
--- a log, but for its counter
+-- A log. Of its counter it has the owner, and not the step, which other threads may change.
 pub record LogState : Type 0 where
   -- the names of the logs above and its own, joined
   pub name : List ℕ
@@ -19,26 +20,28 @@ pub record LogState : Type 0 where
   pub level : ℕ
   -- the greatest level whose steps are logged, if there is one
   pub max_level : Option ℕ
+  pub steps : Steps
 
--- a log of this name and identifier at a level, which has no bound and no unit yet
-abbrev pub new_log : List ℕ → List ℕ → ℕ → Option ℕ → LogState
-new_log name id level max_level = record {
+-- a log of this name and identifier at a level, with this counter, which has no bound and no unit yet
+abbrev pub new_log : List ℕ → List ℕ → ℕ → Option ℕ → Steps → LogState
+new_log name id level max_level steps = record {
   name = name;
   id = id;
   max = None;
   unit = None;
   level = level;
   max_level = max_level;
+  steps = steps;
 }
 
 -- a name, and one below it
 abbrev pub joined : List ℕ → List ℕ → List ℕ
 joined name below = name ++ codes "::" ++ below
 
--- a log and its child: the names joined, and one level more
-abbrev pub child_log : LogState → List ℕ → List ℕ → LogState
-child_log log name id =
-    new_log (joined log.name name) id (min (log.level + 1) (2 ^ 64 - 1)) log.max_level
+-- the child of a log with a counter of its own: the names joined, and one level more
+abbrev pub child_log : LogState → List ℕ → List ℕ → Steps → LogState
+child_log log name id steps =
+    new_log (joined log.name name) id (min (log.level + 1) (2 ^ 64 - 1)) log.max_level steps
 
 -- ` → ` in UTF-8: U+2192 between spaces
 abbrev pub arrow : List ℕ

@@ -27,7 +27,7 @@ const STACK_SIZE: usize = 1 << 20;
 
 /// Progress whose steps are logged as lines, and whose messages are logged as they are sent. A log
 /// and all logs below it together log at most one step per half second of the clock `K`. It needs
-/// no tree and no renderer. Contracts see all but its counter.
+/// no tree and no renderer. Contracts see which counter it has, and not the step.
 ///
 /// ```rust
 /// let mut log = Log::new(&rt, alloc, "main", None, logger, clock)?;
@@ -63,6 +63,7 @@ impl<L: Logger + Drop, K: Clock + Drop> Model for Log<L, K> {
       unit = log.unit;
       level = log.level;
       max_level = log.max_level;
+      steps = log.steps;
     } };
 }
 
@@ -82,7 +83,8 @@ impl<L: Logger + Drop, K: Clock + Drop + Send + Sync + 'static> Log<L, K> {
         logger: L,
         clock: Arc<K>,
     ) -> Result<Log<L, K>, Refusal>
-        ensures ok { IfOk result (λ log. log ≡ new_log name.now UNKNOWN 0 max_level) }
+        ensures ok { IfOk result (λ log.
+            log ≡ new_log name.now UNKNOWN 0 max_level log.steps) }
         ensures reason { IfErr result RefusesThread }
     {
         Log::with_stack_size(rt, alloc, name, max_level, logger, clock, STACK_SIZE)
@@ -102,7 +104,8 @@ impl<L: Logger + Drop, K: Clock + Drop + Send + Sync + 'static> Log<L, K> {
         clock: Arc<K>,
         stack_size: usize,
     ) -> Result<Log<L, K>, Refusal>
-        ensures ok { IfOk result (λ log. log ≡ new_log name.now UNKNOWN 0 max_level) }
+        ensures ok { IfOk result (λ log.
+            log ≡ new_log name.now UNKNOWN 0 max_level log.steps) }
         ensures reason { IfErr result RefusesThread }
     {
         let log = Log {
@@ -288,7 +291,8 @@ impl<L: Logger + Drop, K: Clock + Drop> Log<L, K> {
     ///
     /// `Memory`, if there is no memory for it.
     pub fn add_child(&self, alloc: Global, name: &str) -> Result<Log<L, K>, Refusal>
-        ensures ok { IfOk result (λ child. child ≡ child_log self.now name.now UNKNOWN) }
+        ensures ok { IfOk result (λ child.
+            child ≡ child_log self.now name.now UNKNOWN child.steps) }
         ensures reason { IsOkUnless result Refusal.Memory }
     {
         self.add_child_with_id(alloc, name, UNKNOWN)
@@ -300,7 +304,8 @@ impl<L: Logger + Drop, K: Clock + Drop> Log<L, K> {
     ///
     /// `Memory`, if there is no memory for it.
     pub fn add_child_with_id(&self, alloc: Global, name: &str, id: Id) -> Result<Log<L, K>, Refusal>
-        ensures ok { IfOk result (λ child. child ≡ child_log self.now name.now id) }
+        ensures ok { IfOk result (λ child.
+            child ≡ child_log self.now name.now id child.steps) }
         ensures reason { IsOkUnless result Refusal.Memory }
     {
         Ok(Log {

@@ -102,7 +102,7 @@ impl<L: Logger + Drop + Send + Sync, K: Clock + Drop + Send + Sync> NestedProgre
     type SubProgress = Log<L, K>;
 
     ghost gets_child = { λ log name id after child. (after ≡ log)
-        × (child ≡ child_log log name id) };
+        × (child ≡ child_log log name id child.steps) };
 
     fn add_child(&mut self, alloc: Global, name: &str) -> Result<Log<L, K>, Refusal> {
         Log::add_child(self, alloc, name)

@@ -5,6 +5,7 @@ ghost use Rattle.prodash.specs.Items.{new_place, next_path, with_child};
 ghost use Rattle.prodash.specs.Logs.{child_log, joined, IsFirstPart, IsSecondPart};
 ghost use Rattle.prodash.specs.Turns.{Finds, Changes, HasName, HasId, HasBound, HasUnit, Begins, SetsName, SetsBound, Sends, AddsBelow};
 ghost use Rattle.prodash.specs.declared.progress.utils.any_progress.AnyProgress.TheVariants as any;
+ghost use Rattle.prodash.specs.declared.tree.steps.Steps.{Steps};
 
 use super::discard::Discard;
 use crate::messages::MessageLevel;
@@ -241,7 +242,8 @@ where
           (after ≡ any.Item (with_child item)) × (child ≡ any.Item (new_place (next_path item)))
           × Changes R.found R.left (AddsBelow item name id))
       | any.Log log ↦ (λ name id after child.
-          (after ≡ any.Log log) × (child ≡ any.Log (child_log log name id)))
+          (after ≡ any.Log log)
+          × (steps : Steps) × (child ≡ any.Log (child_log log name id steps)))
       | any.Discard none ↦ (λ name id after child.
           (after ≡ any.Discard none) × (child ≡ any.Discard none))
     ] };
