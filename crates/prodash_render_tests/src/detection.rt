@@ -22,6 +22,8 @@ impl Surroundings {
 }
 
 impl StandardStreams for Surroundings {
+    ghost answered = { λ _ stream is_terminal. Unit {0} };
+
     fn is_terminal(&self, stream: StreamKind) -> bool {
         matches!(stream, StreamKind::Stderr)
     }

@@ -5,5 +5,5 @@ pub mod page;
 
 pub use engine::{
     ColorChoice, Environment, JoinHandle, Options, StackSizes, StandardStreams, StreamKind,
-    Variables, render, render_with_stacks,
+    VariableSource, Variables, render, render_with_stacks,
 };

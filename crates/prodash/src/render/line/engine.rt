@@ -9,6 +9,8 @@ mod threads;
 
 pub use event::EngineEvent;
 pub use handle::JoinHandle;
-pub use options::{ColorChoice, Environment, Options, StandardStreams, StreamKind, Variables};
+pub use options::{
+    ColorChoice, Environment, Options, StandardStreams, StreamKind, VariableSource, Variables,
+};
 pub use step::Engine;
 pub use threads::{StackSizes, render, render_with_stacks};

@@ -4,7 +4,9 @@ mod values;
 
 use crate::progress::key::Level;
 pub use detection::StandardStreams;
-pub use prodash_line::render::line::terminal::{ColorChoice, Environment, Variables};
+pub use prodash_line::render::line::terminal::{
+    ColorChoice, Environment, VariableSource, Variables,
+};
 
 /// Options for a renderer with threads of its own.
 ///

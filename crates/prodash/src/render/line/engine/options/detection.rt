@@ -1,19 +1,28 @@
 //! The options for a stream, as the system and the environment describe it.
 ghost use Rattle.std.specs.Prelude.{◌≡◌, Bool};
 ghost use Rattle.prodash_line.specs.declared.render.line.terminal.Environment.{Environment as Said};
+ghost use Rattle.prodash_line.specs.Environments.{IsReadFrom};
 ghost use Rattle.prodash.specs.Engines.{terminal_options};
 
-use crate::render::line::engine::options::{Environment, Options, StreamKind};
+use crate::render::line::engine::options::{Environment, Options, StreamKind, VariableSource};
 use std::io::IsTerminal;
-use std::rt::Env;
 
 /// A runtime whose standard streams can be asked whether they are terminals.
 pub trait StandardStreams {
+    ghost use Rattle.std.specs.Prelude.{Bool};
+    ghost use Rattle.prodash.specs.declared.render.line.engine.options.StreamKind.{StreamKind};
+
+    /// The stream was asked, and this was the answer.
+    ghost answered: { Self → StreamKind → Bool → Type 0 };
+
     /// Returns whether a stream is a terminal.
-    fn is_terminal(&self, stream: StreamKind) -> bool;
+    fn is_terminal(&self, stream: StreamKind) -> bool
+        ensures { answered self.now stream result };
 }
 
 impl StandardStreams for HostRuntime {
+    ghost answered = { λ _ stream is_terminal. Unit {0} };
+
     fn is_terminal(&self, stream: StreamKind) -> bool {
         match stream {
             StreamKind::Stdout => self.stdout().is_terminal(),
@@ -34,8 +43,9 @@ impl Options {
     /// };
     /// let renderer = render(rt, alloc, rt.stderr(), root.downgrade()?, clock, options)?;
     /// ```
-    pub fn detect<R: Env + StandardStreams>(rt: &R, output: StreamKind) -> Options
+    pub fn detect<R: VariableSource + StandardStreams>(rt: &R, output: StreamKind) -> Options
         ensures { (is_terminal : Bool) × (said : Said)
+            × R.answered rt.now output is_terminal × IsReadFrom (R.gave rt.now) said
             × (result ≡ terminal_options is_terminal said) }
     {
         Options::for_terminal(rt.is_terminal(output), Environment::read(rt))
