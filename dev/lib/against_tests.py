@@ -37,6 +37,7 @@ PROGRAMS = {
     "prodash_live": "prodash-live",
     "prodash_pipe": "prodash-pipe",
     "prodash_replay": "prodash-replay",
+    "prodash_words": "prodash-words",
 }
 
 
