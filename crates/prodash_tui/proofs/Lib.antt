@@ -6,5 +6,9 @@ pub mod WorkedGrids
 pub mod RowDifferences
 pub mod ProperRows
 pub mod ProperGrids
+pub mod PlayedChanges
+pub mod PlayedFrames
+pub mod SpelledSigns
 pub mod WorkedSigns
+pub mod WorkedDisplays
 pub mod BorderCells

@@ -22,17 +22,17 @@ use Rattle.prodash_tui.proofs.WrittenTexts.{length-cut}
 abbrev IsGood : Sheet → List Cell → Type 0
 IsGood g row = (length row ≡ g.width) × IsProper char_columns row
 
-pub proper_blank : (width height : ℕ) → IsProperSheet (blank_sheet width height)
-proper_blank width height = record {
+pub proper_blank : (columns : ℕ → ℕ) → columns 32 ≡ 1 → (width height : ℕ) → IsProperSheet columns (blank_sheet width height)
+proper_blank columns space width height = record {
   sheet = record {
     high = length-replicate height (blank_cells width);
     each = All-replicate (λ (row : List Cell). length row ≡ width) height (blank_cells width) (length-replicate width blank_cell);
   };
-  proper = All-replicate (IsProper char_columns) height (blank_cells width) (proper_blanks width);
+  proper = All-replicate (IsProper columns) height (blank_cells width) (proper_blanks columns width space);
 }
 
 -- proper cells that have room
-pub proper_cells : (area : Rect) (count : ℕ) (new : List Cell) (g : Sheet) → IsProper char_columns new → length new ≤ room_of area g → IsProperSheet g → IsProperSheet (with_cells area count new g)
+pub proper_cells : (area : Rect) (count : ℕ) (new : List Cell) (g : Sheet) → IsProper char_columns new → length new ≤ room_of area g → IsProperSheet char_columns g → IsProperSheet char_columns (with_cells area count new g)
 proper_cells area count new g proper fits h =
     let x = left_of area g in
     let all : All (IsGood g) g.rows =
@@ -50,12 +50,12 @@ proper_cells area count new g proper fits h =
       proper = All-weaker (IsGood g) (IsProper char_columns) (λ (row : List Cell) (good : IsGood g row). good.1) rows drawn;
     }
 
-pub proper_filling : (area : Rect) (style : Style) (c : ℕ) (g : Sheet) → IsProperSheet g → IsProperSheet (with_filling area style c g)
+pub proper_filling : (area : Rect) (style : Style) (c : ℕ) (g : Sheet) → IsProperSheet char_columns g → IsProperSheet char_columns (with_filling area style c g)
 proper_filling area style c g h =
     let room = room_of area g in
     let cells = text_cells char_columns style (replicate room (safe_char c)) in
     proper_cells area area.height (filling style room c) g (proper_cut char_columns room cells (proper_text char_columns style (replicate room (safe_char c)))) (length-cut room cells) h
 
-pub proper_fillings : (style : Style) (fs : List (Rect × ℕ)) (g : Sheet) → IsProperSheet g → IsProperSheet (with_fillings style fs g)
+pub proper_fillings : (style : Style) (fs : List (Rect × ℕ)) (g : Sheet) → IsProperSheet char_columns g → IsProperSheet char_columns (with_fillings style fs g)
 proper_fillings style [] g h = h
 proper_fillings style (f ∷ fs) g h = proper_fillings style fs (with_filling f.0 style f.1 g) (proper_filling f.0 style f.1 g h)

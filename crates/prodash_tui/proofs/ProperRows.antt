@@ -151,6 +151,6 @@ pub space_columns : char_columns 32 ≡ 1
 unfolding unicode_width
 space_columns = refl
 
-pub proper_blanks : (n : ℕ) → IsProper char_columns (blank_cells n)
-proper_blanks zero = tt
-proper_blanks (suc n) = proper_one char_columns 32 [] plain (blank_cells n) space_columns tt (proper_blanks n)
+pub proper_blanks : (columns : ℕ → ℕ) (n : ℕ) → columns 32 ≡ 1 → IsProper columns (blank_cells n)
+proper_blanks columns zero space = tt
+proper_blanks columns (suc n) space = proper_one columns 32 [] plain (blank_cells n) space tt (proper_blanks columns n space)

@@ -313,7 +313,7 @@ text_columns-last columns (d ∷ text) c = omega (arith, text_columns-last colum
 
 -- ---- texts with an ellipsis
 
-cut_all : (n : ℕ) (cells : List Cell) → length cells ≤ n → cut n cells ≡ cells
+pub cut_all : (n : ℕ) (cells : List Cell) → length cells ≤ n → cut n cells ≡ cells
 cut_all n cells fits = ap (λ (x : Cell). cond (is_half x) (take (n - 1) cells) (take n cells)) (get_or_past cells n blank_cell fits) ∙ take_all n cells fits
 
 -- one that fits

@@ -1,7 +1,12 @@
 -- The cells of a grid.
-use Rattle.std.specs.Prelude.{ℕ, Bool, true, false, List, [], ◌∷◌, ◌++◌, take, replicate, slice_index_or, None}
+use Rattle.std.specs.Prelude.{ℕ, Bool, true, false, ◌&&◌, nat_eq, List, [], ◌∷◌, ◌++◌, take, replicate, slice_index_or, None}
+use Rattle.std.specs.Cmp.Lexicographic.{pointwise}
+use Rattle.std.specs.Bool.{beq}
+use Rattle.std.specs.Option.{option_eq}
 use Rattle.prodash_tui.specs.declared.cell.Cell.{Cell}
 use Rattle.prodash_tui.specs.declared.cell.Cell.TheVariants.{Holds, Half}
+use Rattle.prodash_tui.specs.declared.style.Color.{Color}
+use Rattle.prodash_tui.specs.declared.style.Color.TheVariants.{Black, Red, Green, Yellow, White, LightRed}
 use Rattle.prodash_tui.specs.declared.style.Style.{Style}
 
 -- the style of a blank cell
@@ -37,3 +42,23 @@ held joined = take 4 joined
 abbrev pub joined_by : ℕ → Cell → Cell
 joined_by c (Holds d joined style) = Holds d (held (joined ++ c ∷ [])) style
 joined_by c Half = Half
+
+-- the test of equal colours; this one and those below are true exactly of equal values
+abbrev pub same_color : Color → Color → Bool
+same_color Black Black = true
+same_color Red Red = true
+same_color Green Green = true
+same_color Yellow Yellow = true
+same_color White White = true
+same_color LightRed LightRed = true
+same_color _ _ = false
+
+-- the test of equal styles
+abbrev pub same_style : Style → Style → Bool
+same_style s t = beq s.bold t.bold && (option_eq same_color s.foreground t.foreground && option_eq same_color s.background t.background)
+
+-- the test of equal cells: the same character, the same that have joined it, and the same style
+abbrev pub same_cell : Cell → Cell → Bool
+same_cell (Holds c joined style) (Holds d others look) = nat_eq c d && (pointwise nat_eq joined others && same_style style look)
+same_cell Half Half = true
+same_cell _ _ = false

@@ -1,5 +1,5 @@
 -- What has changed between two grids, and rows that are drawn anew by it.
-use Rattle.std.specs.Prelude.{◌≡◌, ℕ, ◌+◌, ◌≤◌, Bool, true, ◌||◌, List, [], ◌∷◌, if◌then◌else◌}
+use Rattle.std.specs.Prelude.{◌≡◌, ℕ, ◌+◌, ◌≤◌, Bool, true, ◌||◌, List, [], ◌∷◌, length, if◌then◌else◌}
 use Rattle.std.specs.List.{All, AllByRecursion}
 use Rattle.prodash_line.specs.CellRows.{char_columns}
 use Rattle.prodash_core.specs.declared.render.tui.event.Rect.{Rect}
@@ -36,15 +36,16 @@ abbrev pub redrawn : List (ℕ × List Cell) → List Cell → List Cell
 redrawn [] row = row
 redrawn (c ∷ changes) row = redrawn changes (splice c.0 c.1 row)
 
--- a grid of proper rows, by the columns that `unicode_width` gives
-pub record IsProperSheet (g : Sheet) : Type 0 where
+-- a grid of rows that are proper on a terminal that gives characters so many columns
+pub record IsProperSheet (columns : ℕ → ℕ) (g : Sheet) : Type 0 where
   pub sheet : IsSheet g
-  pub proper : All (IsProper char_columns) g.rows
+  pub proper : All (IsProper columns) g.rows
 
--- a way to draw in a rectangle that leaves proper rows
+-- a way to draw in a rectangle that leaves proper rows, by the columns that `unicode_width` gives
 abbrev pub KeepsProper : (Rect → Sheet → Sheet) → Type 0
-KeepsProper draw = (area : Rect) (g : Sheet) → IsProperSheet g → IsProperSheet (draw area g)
+KeepsProper draw = (area : Rect) (g : Sheet) → IsProperSheet char_columns g → IsProperSheet char_columns (draw area g)
 
--- a row with its changes written into it is the new row
-abbrev pub IsRedrawn : (Cell → Cell → Bool) → List Cell → List Cell → Type 0
-IsRedrawn same old new = redrawn (row_changes same 0 old new) old ≡ new
+-- proper rows into which the characters are written that differ in others of their length are those others, for any columns of characters
+abbrev pub AreRedrawn : (Cell → Cell → Bool) → Type 0
+AreRedrawn same =
+    (columns : ℕ → ℕ) (old new : List Cell) → IsProper columns old → IsProper columns new → length old ≡ length new → redrawn (row_changes same 0 old new) old ≡ new

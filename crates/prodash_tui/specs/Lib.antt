@@ -6,4 +6,6 @@ pub mod Grids
 pub mod Outside
 pub mod Differences
 pub mod Signs
+pub mod Displays
+pub mod Frames
 pub mod plumbing

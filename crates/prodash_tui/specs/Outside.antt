@@ -2,8 +2,10 @@
 use Rattle.std.specs.Prelude.{◌≡◌, ℕ, ◌+◌, ◌^◌, ◌<◌, ◌≤◌, false, List, [], length, take, drop, slice_index_or}
 use Rattle.prodash_core.specs.declared.render.tui.event.Rect.{Rect}
 use Rattle.prodash_tui.specs.declared.cell.Cell.{Cell}
+use Rattle.prodash_tui.specs.declared.style.Style.{Style}
 use Rattle.prodash_tui.specs.Cells.{cell_at, is_half}
-use Rattle.prodash_tui.specs.Grids.{IsSheet, Sheet, left_of, room_of}
+use Rattle.prodash_tui.specs.Texts.{filling, text_cut, text_shortened}
+use Rattle.prodash_tui.specs.Grids.{IsSheet, Sheet, left_of, room_of, with_filling, with_shortened, with_text}
 
 -- row y of a grid; it has no cells if there are fewer rows
 abbrev pub row_at : Sheet → ℕ → List Cell
@@ -51,3 +53,15 @@ ShowsFirst draw cells =
 abbrev pub ShowsInAll : (Rect → Sheet → Sheet) → (ℕ → List Cell) → Type 0
 ShowsInAll draw cells =
     (area : Rect) (g : Sheet) (y : ℕ) → IsSheet g → IsRowOf area y → y < g.height → Shows area (draw area g) y (cells (room_of area g))
+
+-- the first row of the rectangle shows each text, cut at its right edge
+abbrev pub ShowsTexts : Type 0
+ShowsTexts = (style : Style) (text : List ℕ) → ShowsFirst (λ area g. with_text area style text g) (λ n. text_cut style n text)
+
+-- the first row of the rectangle shows each text, with an ellipsis at its right edge if it is wider
+abbrev pub ShowsShortened : Type 0
+ShowsShortened = (style : Style) (text : List ℕ) → ShowsFirst (λ area g. with_shortened area style text g) (λ n. text_shortened style n text)
+
+-- each row of the rectangle shows each character as often as it fits
+abbrev pub ShowsFillings : Type 0
+ShowsFillings = (style : Style) (c : ℕ) → ShowsInAll (λ area g. with_filling area style c g) (λ n. filling style n c)

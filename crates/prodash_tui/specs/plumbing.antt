@@ -1,2 +1,4 @@
+pub mod Appended
+pub mod SameCells
 pub mod Writing
 pub mod GridInside

@@ -1,7 +1,10 @@
 //! The cells of a grid.
-ghost use Rattle.std.specs.Prelude.{◌≡◌, ◌∷◌, ◌++◌, [], nat_eq, take};
+ghost use Rattle.std.specs.Prelude.{◌≡◌, ◌↔◌, ◌∷◌, ◌++◌, [], IsTrue, nat_eq, take};
 ghost use Rattle.std.specs.Cmp.Lexicographic.{pointwise, nat_list_eq_equiv};
 ghost use Rattle.std.specs.Cmp.{partial_equiv_from_equiv};
+ghost use Rattle.prodash_tui.specs.Cells.{same_cell};
+ghost use Rattle.prodash_base.specs.plumbing.EqualityTests.{equivalence};
+ghost use Rattle.prodash_tui.specs.plumbing.SameCells as same;
 
 use crate::style::Style;
 use std::marker::Model;
@@ -71,10 +74,35 @@ impl Eq for Joined {
 }
 
 /// A cell of a grid.
-#[derive(Debug, PartialEq, Eq, Drop)]
+#[derive(Debug, Drop)]
 pub enum Cell {
     /// A character, with those that have joined it, in a style. A blank cell holds a space.
     Holds(char, Joined, Style),
     /// The second half of a character of two columns.
     Half,
+}
+
+impl PartialEq for Cell {
+    ghost eq = { same_cell };
+
+    ghost laws = { partial_equiv_from_equiv (equivalence same.cells) };
+
+    /// Returns whether both are the same character with the same joined ones and the same style, or
+    /// both are second halves.
+    fn eq(&self, other: &Cell) -> bool
+        ensures value { result ≡ same_cell self.now other.now }
+        ensures exact { IsTrue result ↔ (self.now ≡ other.now) }
+    {
+        match (self, other) {
+            (Cell::Holds(c, joined, style), Cell::Holds(d, others, look)) => {
+                c == d && joined == others && style == look
+            }
+            (Cell::Half, Cell::Half) => true,
+            _ => false,
+        }
+    }
+}
+
+impl Eq for Cell {
+    ghost laws = { equivalence same.cells };
 }

@@ -2,9 +2,9 @@
 ghost use Rattle.std.specs.Prelude.{◌≡◌, ◌+◌, ◌-◌, ◌<◌, ◌≤◌, ◌^◌, length, replicate, IfOk, IsOkUnless, MatchOption};
 ghost use Rattle.std.specs.List.{All};
 ghost use Rattle.prodash_tui.specs.Cells.{blank_cells};
-ghost use Rattle.prodash_tui.specs.Grids.{IsRow, blank_sheet, in_rows, left_of, room_of, with_border, with_filling, with_shortened, with_text};
-ghost use Rattle.prodash_tui.specs.Rows.{splice};
-ghost use Rattle.prodash_tui.specs.Texts.{filling};
+ghost use Rattle.prodash_tui.specs.Grids.{IsRow, blank_sheet, left_of, room_of, with_border, with_filling, with_shortened, with_text};
+ghost use Rattle.prodash_tui.specs.plumbing.Appended.{AreCounted};
+ghost use Rattle.prodash_tui.specs.plumbing.GridInside.{filled_rows};
 
 use crate::cell::Cell;
 use crate::rect::{bottom_of, left_side_of, right_side_of, top_of};
@@ -71,8 +71,7 @@ fn fill_rows(
     requires end { All (λ row. end ≤ length row) rows.old.items }
     requires rows { first ≤ last }
     requires last { last ≤ length rows.old.items }
-    ensures { rows.new.items
-        ≡ in_rows first (last - first) (splice x (filling style (end - x) c)) rows.old.items }
+    ensures { rows.new.items ≡ filled_rows first last x end style c rows.old.items }
 {
     for k in first..last {
         rows[k].fill(x, end, c, style);
@@ -119,6 +118,14 @@ impl Grid {
     {
         let row = self.rows.get(usize::from(y))?;
         Some(row.as_slice())
+    }
+
+    /// Returns the rows.
+    pub(crate) fn rows(&self) -> &[Row]
+        ensures rows { result.now ≡ self.now.rows }
+        ensures counted { AreCounted result.now }
+    {
+        self.rows.as_slice()
     }
 
     /// Blanks all cells.

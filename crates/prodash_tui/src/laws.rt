@@ -1,19 +1,19 @@
 //! What follows from the definitions that contracts cite, for all values.
 //!
 //! Each function states a law in its contract and does nothing. A proof has the law after a call.
-ghost use Rattle.std.specs.Prelude.{◌≡◌, ℕ, Bool, List, length};
+ghost use Rattle.std.specs.Prelude.{◌≡◌, ℕ, Bool, List};
+ghost use Rattle.prodash_line.specs.CellRows.{char_columns};
 ghost use Rattle.prodash_tui.specs.declared.cell.Cell.{Cell};
 ghost use Rattle.prodash_tui.specs.declared.style.Style.{Style};
-ghost use Rattle.prodash_tui.specs.Differences.{IsProper, IsProperSheet, IsRedrawn, KeepsProper, TellsApart};
+ghost use Rattle.prodash_tui.specs.Differences.{AreRedrawn, IsProperSheet, KeepsProper, TellsApart};
+ghost use Rattle.prodash_tui.specs.Frames.{DrawsFirst, DrawsNext};
 ghost use Rattle.prodash_tui.specs.Grids.{blank_sheet, with_border, with_filling, with_shortened, with_text};
-ghost use Rattle.prodash_tui.specs.Outside.{ShowsFirst, ShowsInAll, StaysInside};
-ghost use Rattle.prodash_tui.specs.Texts.{filling, text_cut, text_shortened};
+ghost use Rattle.prodash_tui.specs.Outside.{ShowsFillings, ShowsShortened, ShowsTexts, StaysInside};
 
 /// The first row of the rectangle shows the text from the left edge on, cut at the right one. No
 /// cell outside the rectangle changes, if its edges go through no character of two columns.
 pub fn text()
-    ensures shows { (s : Style) (t : List ℕ)
-        → ShowsFirst (λ area g. with_text area s t g) (λ n. text_cut s n t) }
+    ensures shows { ShowsTexts }
     ensures outside { (s : Style) (t : List ℕ) → StaysInside (λ area g. with_text area s t g) }
 {}
 
@@ -21,8 +21,7 @@ pub fn text()
 /// wider. No cell outside the rectangle changes, if its edges go through no character of two
 /// columns.
 pub fn shortened_text()
-    ensures shows { (s : Style) (t : List ℕ)
-        → ShowsFirst (λ area g. with_shortened area s t g) (λ n. text_shortened s n t) }
+    ensures shows { ShowsShortened }
     ensures outside { (s : Style) (t : List ℕ)
         → StaysInside (λ area g. with_shortened area s t g) }
 {}
@@ -30,8 +29,7 @@ pub fn shortened_text()
 /// Each row of the rectangle shows the character as often as it fits. No cell outside the rectangle
 /// changes, if its edges go through no character of two columns.
 pub fn filled()
-    ensures shows { (s : Style) (c : ℕ)
-        → ShowsInAll (λ area g. with_filling area s c g) (λ n. filling s n c) }
+    ensures shows { ShowsFillings }
     ensures outside { (s : Style) (c : ℕ) → StaysInside (λ area g. with_filling area s c g) }
 {}
 
@@ -42,7 +40,7 @@ pub fn bordered()
 
 /// A blank grid has proper rows, and so has each grid that is drawn on one that has.
 pub fn proper()
-    ensures blank { (width height : ℕ) → IsProperSheet (blank_sheet width height) }
+    ensures blank { (width height : ℕ) → IsProperSheet char_columns (blank_sheet width height) }
     ensures text { (s : Style) (t : List ℕ) → KeepsProper (λ area g. with_text area s t g) }
     ensures shortened { (s : Style) (t : List ℕ)
         → KeepsProper (λ area g. with_shortened area s t g) }
@@ -53,7 +51,13 @@ pub fn proper()
 /// A proper row into which the characters are written that differ in another proper row of its
 /// length is that row.
 pub fn redrawn()
-    ensures { (columns : ℕ → ℕ) (same : Cell → Cell → Bool) (old new : List Cell)
-        → TellsApart same → IsProper columns old → IsProper columns new → length old ≡ length new
-        → IsRedrawn same old new }
+    ensures { (same : Cell → Cell → Bool) → TellsApart same → AreRedrawn same }
+{}
+
+/// On a display that shows a proper grid, the difference to another proper one of its size leaves
+/// that one. On any display of its size the first frame of a proper grid leaves that grid, whatever
+/// was shown. This holds of any function from characters to columns that gives a space one.
+pub fn frames()
+    ensures next { (columns : ℕ → ℕ) → DrawsNext columns }
+    ensures first { (columns : ℕ → ℕ) → columns 32 ≡ 1 → DrawsFirst columns }
 {}

@@ -2,6 +2,8 @@
 #![tactic(auto)]
 
 mod cell;
+mod cursor;
+mod frame;
 mod grid;
 pub mod laws;
 pub mod rect;
@@ -11,6 +13,7 @@ mod style;
 mod text;
 
 pub use cell::{Cell, Joined};
+pub use frame::{push_difference, push_first};
 pub use grid::Grid;
 pub use sign::{Sign, spell};
 pub use style::{Color, Style};

@@ -1,6 +1,10 @@
 //! Signs for a terminal, and the bytes that spell them.
+//!
+//! A call named `push_..` that runs out of memory may have appended a part of its bytes, and leaves
+//! what the buffer held before.
 ghost use Rattle.std.specs.Prelude.{◌≡◌, ◌+◌, ◌++◌, IfOk, IsOkUnless, OnOk};
 ghost use Rattle.std.specs.Fmt.{decimal};
+ghost use Rattle.prodash_base.specs.Appending.{IsPrefix};
 ghost use Rattle.prodash_tui.specs.Signs.{code_parameter, color_number, move_parameters, spelling, spelling_of, style_parameters};
 
 use crate::style::{Color, Style};
@@ -51,7 +55,8 @@ fn background_code(color: Color) -> u8
 
 /// Appends a number in decimal. Fails if out of memory.
 fn push_number(out: &mut Vec<u8>, number: u32) -> Result<(), AllocError>
-    ensures { OnOk result (out.new.items ≡ out.old.items ++ decimal number) }
+    ensures ok { OnOk result (out.new.items ≡ out.old.items ++ decimal number) }
+    ensures kept { IsPrefix out.old.items out.new.items }
 {
     let mut digits = Buffer::new();
     out.extend_from_slice(digits.format(number).as_bytes())?;
@@ -60,7 +65,8 @@ fn push_number(out: &mut Vec<u8>, number: u32) -> Result<(), AllocError>
 
 /// Appends a code behind a `;`, if there is one. Fails if out of memory.
 fn push_code(out: &mut Vec<u8>, code: Option<u8>) -> Result<(), AllocError>
-    ensures { OnOk result (out.new.items ≡ out.old.items ++ code_parameter code) }
+    ensures ok { OnOk result (out.new.items ≡ out.old.items ++ code_parameter code) }
+    ensures kept { IsPrefix out.old.items out.new.items }
 {
     let Some(code) = code else {
         return Ok(());
@@ -71,7 +77,8 @@ fn push_code(out: &mut Vec<u8>, code: Option<u8>) -> Result<(), AllocError>
 
 /// Appends the parameters that set a style. Fails if out of memory.
 fn push_style_parameters(out: &mut Vec<u8>, style: Style) -> Result<(), AllocError>
-    ensures { OnOk result (out.new.items ≡ out.old.items ++ style_parameters style) }
+    ensures ok { OnOk result (out.new.items ≡ out.old.items ++ style_parameters style) }
+    ensures kept { IsPrefix out.old.items out.new.items }
 {
     out.push(b'0')?;
     push_code(out, style.bold.then_some(1))?;
@@ -81,7 +88,8 @@ fn push_style_parameters(out: &mut Vec<u8>, style: Style) -> Result<(), AllocErr
 
 /// Appends the parameters of a motion. Fails if out of memory.
 fn push_move_parameters(out: &mut Vec<u8>, row: u16, column: u16) -> Result<(), AllocError>
-    ensures { OnOk result (out.new.items ≡ out.old.items ++ move_parameters row column) }
+    ensures ok { OnOk result (out.new.items ≡ out.old.items ++ move_parameters row column) }
+    ensures kept { IsPrefix out.old.items out.new.items }
 {
     push_number(out, u32::from(row) + 1)?;
     out.push(b';')?;
@@ -89,8 +97,9 @@ fn push_move_parameters(out: &mut Vec<u8>, row: u16, column: u16) -> Result<(), 
 }
 
 /// Appends the bytes of a sign. Fails if out of memory.
-fn push_sign(out: &mut Vec<u8>, sign: Sign) -> Result<(), AllocError>
-    ensures { OnOk result (out.new.items ≡ out.old.items ++ spelling_of sign) }
+pub(crate) fn push_sign(out: &mut Vec<u8>, sign: Sign) -> Result<(), AllocError>
+    ensures ok { OnOk result (out.new.items ≡ out.old.items ++ spelling_of sign) }
+    ensures kept { IsPrefix out.old.items out.new.items }
 {
     match sign {
         Sign::Char(c) => {

@@ -1,5 +1,6 @@
 //! How the character of a cell looks.
 ghost use Rattle.std.specs.Prelude.{◌≡◌, true, false};
+ghost use Rattle.prodash_tui.specs.Cells.{same_style};
 
 /// A colour.
 #[derive(Clone, Copy, Debug, PartialEq, Eq)]
@@ -67,4 +68,11 @@ impl Style {
             ..self
         }
     }
+}
+
+/// Returns whether two styles are the same.
+pub(crate) fn same_style(a: Style, b: Style) -> bool
+    ensures { result ≡ same_style a b }
+{
+    a == b
 }

@@ -4,12 +4,12 @@ use Rattle.prodash_tui.specs.Grids.{room_of}
 use Rattle.prodash_tui.specs.Rects.{border}
 use Rattle.prodash_tui.specs.Texts.{drawn_text, text_cells, text_cut, text_shortened}
 use Rattle.prodash_tui.proofs.ProperGrids.{proper_blank, proper_cells, proper_filling, proper_fillings}
-use Rattle.prodash_tui.proofs.ProperRows.{proper_cut, proper_shortened, proper_text}
+use Rattle.prodash_tui.proofs.ProperRows.{proper_cut, proper_shortened, proper_text, space_columns}
 use Rattle.prodash_tui.proofs.WrittenTexts.{ellipsis_columns, length-cut, length-shortened}
 use Rattle.prodash_tui.proofs.laws.proper.Goals as goal
 
 pub returns-clause-blank : goal.returns-clause-blank
-returns-clause-blank c = proper_blank
+returns-clause-blank c = proper_blank char_columns space_columns
 
 pub returns-clause-text : goal.returns-clause-text
 returns-clause-text c = λ style text area g h.

@@ -1,0 +1,120 @@
+-- The bytes of lists of signs, and the signs of what is left of a grid.
+use Rattle.std.proofs.Common.{◌≡◌, ℕ, zero, suc, ◌+◌, ◌<◌, ◌≤◌, Bool, true, false, cond, ◌||◌, Option, List, [], ◌∷◌, ◌++◌, length, get_or, map, take, drop, inl, inr, refl, sym, ap, ◌∙◌, append_assoc, arith}
+use Rattle.std.specs.Prelude.{min}
+use Rattle.std.proofs.lemmas.Bool.{cases_lt}
+use Rattle.std.proofs.lemmas.List.{drop_all, drop_more, map_more}
+use Rattle.prodash_tui.specs.declared.cell.Cell.{Cell}
+use Rattle.prodash_tui.specs.declared.cell.Cell.TheVariants.{Holds, Half}
+use Rattle.prodash_tui.specs.declared.cursor.Cursor.{Cursor}
+use Rattle.prodash_tui.specs.declared.sign.Sign.{Sign}
+use Rattle.prodash_tui.specs.Cells.{blank_cell, cell_at, is_half, same_cell}
+use Rattle.prodash_tui.specs.Signs.{spelling, spelling_of}
+use Rattle.prodash_tui.specs.Differences.{half_of, row_changes}
+use Rattle.prodash_tui.specs.Frames.{change_signs, changes_of, cursor_behind, row_cursor, row_signs, rows_signs}
+use Rattle.prodash_tui.specs.plumbing.Appended.{cursor_past, signs_at}
+
+pub spelling-append : (a b : List Sign) → spelling (a ++ b) ≡ spelling a ++ spelling b
+spelling-append [] b = refl
+spelling-append (s ∷ a) b = ap (λ (bytes : List ℕ). spelling_of s ++ bytes) (spelling-append a b) ∙ sym (append_assoc (spelling_of s) (spelling a) (spelling b))
+
+-- bytes behind which those of some signs and of others are
+pub spelled_more : (out : List ℕ) (a b : List Sign) → (out ++ spelling a) ++ spelling b ≡ out ++ spelling (a ++ b)
+spelled_more out a b = append_assoc out (spelling a) (spelling b) ∙ ap (λ (bytes : List ℕ). out ++ bytes) (sym (spelling-append a b))
+
+-- ---- what is left of a row
+
+-- the changes from column k on
+abbrev pub left : ℕ → List Cell → List Cell → List (ℕ × List Cell)
+left k old new = row_changes same_cell k (drop k old) (drop k new)
+
+signs_either : (row k : ℕ) (half : List Cell) (rest : List (ℕ × List Cell)) (cursor : Option Cursor) (t : Bool) (b : Cell)
+    → row_signs row (cond (t || is_half b) rest ((k, b ∷ half) ∷ rest)) cursor
+    ≡ cond t [] (change_signs row k (b ∷ half) cursor) ++ row_signs row rest (cond t cursor (cursor_behind row k (b ∷ half) cursor))
+signs_either row k half rest cursor true b = refl
+signs_either row k half rest cursor false (Holds c js style) = refl
+signs_either row k half rest cursor false Half = refl
+
+cursor_either : (row k : ℕ) (half : List Cell) (rest : List (ℕ × List Cell)) (cursor : Option Cursor) (t : Bool) (b : Cell)
+    → row_cursor row (cond (t || is_half b) rest ((k, b ∷ half) ∷ rest)) cursor ≡ row_cursor row rest (cond t cursor (cursor_behind row k (b ∷ half) cursor))
+cursor_either row k half rest cursor true b = refl
+cursor_either row k half rest cursor false (Holds c js style) = refl
+cursor_either row k half rest cursor false Half = refl
+
+-- the signs of one cell, and then those of the rest
+signs_left : (row k : ℕ) (old new : List Cell) (cursor : Option Cursor) → k < length old → k < length new
+    → row_signs row (left k old new) cursor
+    ≡ signs_at row k (cell_at old k) (drop k new) cursor ++ row_signs row (left (k + 1) old new) (cursor_past row k (cell_at old k) (drop k new) cursor)
+signs_left row k old new cursor inside within =
+    let a = drop_more old k blank_cell inside in
+    let b = drop_more new k blank_cell within in
+    let rest = left (k + 1) old new in
+    (λ i. row_signs row (row_changes same_cell k (a i) (b i)) cursor)
+    ∙ signs_either row k (half_of (drop (k + 1) new)) rest cursor (same_cell (cell_at old k) (cell_at new k)) (cell_at new k)
+    ∙ ap (λ (cells : List Cell). signs_at row k (cell_at old k) cells cursor ++ row_signs row rest (cursor_past row k (cell_at old k) cells cursor)) (sym b)
+
+cursor_left : (row k : ℕ) (old new : List Cell) (cursor : Option Cursor) → k < length old → k < length new
+    → row_cursor row (left k old new) cursor ≡ row_cursor row (left (k + 1) old new) (cursor_past row k (cell_at old k) (drop k new) cursor)
+cursor_left row k old new cursor inside within =
+    let a = drop_more old k blank_cell inside in
+    let b = drop_more new k blank_cell within in
+    let rest = left (k + 1) old new in
+    (λ i. row_cursor row (row_changes same_cell k (a i) (b i)) cursor)
+    ∙ cursor_either row k (half_of (drop (k + 1) new)) rest cursor (same_cell (cell_at old k) (cell_at new k)) (cell_at new k)
+    ∙ ap (λ (cells : List Cell). row_cursor row rest (cursor_past row k (cell_at old k) cells cursor)) (sym b)
+
+-- the bytes after one more cell
+pub row_more : (row k : ℕ) (a : Cell) (cells old new : List Cell) (before after all : List ℕ) (cursor next : Option Cursor) → k < length old → k < length new
+    → cell_at old k ≡ a → drop k new ≡ cells
+    → after ≡ before ++ spelling (signs_at row k a cells cursor) → next ≡ cursor_past row k a cells cursor
+    → before ++ spelling (row_signs row (left k old new) cursor) ≡ all
+    → after ++ spelling (row_signs row (left (k + 1) old new) next) ≡ all
+row_more row k a cells old new before after all cursor next inside within first rest bytes moves so_far =
+    let rest_signs = row_signs row (left (k + 1) old new) (cursor_past row k a cells cursor) in
+    ap (λ (c : Option Cursor). after ++ spelling (row_signs row (left (k + 1) old new) c)) moves
+    ∙ ap (λ (bs : List ℕ). bs ++ spelling rest_signs) bytes
+    ∙ spelled_more before (signs_at row k a cells cursor) rest_signs
+    ∙ (λ i. before ++ spelling (signs_at row k (sym first i) (sym rest i) cursor ++ row_signs row (left (k + 1) old new) (cursor_past row k (sym first i) (sym rest i) cursor)))
+    ∙ ap (λ (signs : List Sign). before ++ spelling signs) (sym (signs_left row k old new cursor inside within))
+    ∙ so_far
+
+-- the cursor then
+pub cursor_more : (row k : ℕ) (a : Cell) (cells old new : List Cell) (all cursor next : Option Cursor) → k < length old → k < length new
+    → cell_at old k ≡ a → drop k new ≡ cells → next ≡ cursor_past row k a cells cursor → row_cursor row (left k old new) cursor ≡ all
+    → row_cursor row (left (k + 1) old new) next ≡ all
+cursor_more row k a cells old new all cursor next inside within first rest moves so_far =
+    ap (row_cursor row (left (k + 1) old new)) moves
+    ∙ (λ i. row_cursor row (left (k + 1) old new) (cursor_past row k (sym first i) (sym rest i) cursor))
+    ∙ sym (cursor_left row k old new cursor inside within)
+    ∙ so_far
+
+none_of : (k : ℕ) (old : List Cell) → row_changes same_cell k old [] ≡ []
+none_of k [] = refl
+none_of k (a ∷ old) = refl
+
+-- behind the end nothing is left
+pub none_left : (k : ℕ) (old new : List Cell) → k ≡ min (length old) (length new) → left k old new ≡ []
+none_left k old new end = elim (cases_lt (length old) (length new)) [
+  | inl shorter ↦ ap (λ (cells : List Cell). row_changes same_cell k cells (drop k new)) (drop_all k old (omega arith))
+  | inr longer ↦ ap (λ (cells : List Cell). row_changes same_cell k (drop k old) cells) (drop_all k new (omega arith)) ∙ none_of k (drop k old)
+]
+
+-- ---- what is left of a grid
+
+pub rows_left : (y : ℕ) (old new : List (List Cell)) (cursor : Option Cursor) → y < length old → y < length new
+    → rows_signs y (drop y old) (drop y new) cursor
+    ≡ row_signs y (changes_of (get_or old y []) (get_or new y [])) cursor
+    ++ rows_signs (y + 1) (drop (y + 1) old) (drop (y + 1) new) (row_cursor y (changes_of (get_or old y []) (get_or new y [])) cursor)
+rows_left y old new cursor inside within =
+    let a = drop_more old y [] inside in
+    let b = drop_more new y [] within in
+    λ i. rows_signs y (a i) (b i) cursor
+
+no_rows_of : (y : ℕ) (old : List (List Cell)) (cursor : Option Cursor) → rows_signs y old [] cursor ≡ []
+no_rows_of y [] cursor = refl
+no_rows_of y (a ∷ old) cursor = refl
+
+pub no_rows_left : (y : ℕ) (old new : List (List Cell)) (cursor : Option Cursor) → y ≡ min (length old) (length new) → rows_signs y (drop y old) (drop y new) cursor ≡ []
+no_rows_left y old new cursor end = elim (cases_lt (length old) (length new)) [
+  | inl shorter ↦ ap (λ (rows : List (List Cell)). rows_signs y rows (drop y new) cursor) (drop_all y old (omega arith))
+  | inr longer ↦ ap (λ (rows : List (List Cell)). rows_signs y (drop y old) rows cursor) (drop_all y new (omega arith)) ∙ no_rows_of y (drop y old) cursor
+]

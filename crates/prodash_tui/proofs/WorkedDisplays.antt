@@ -1,0 +1,110 @@
+-- What signs leave of a display, and the signs of frames, computed.
+use Rattle.std.proofs.Common.{◌≡◌, ℕ, cond, List, [], ◌∷◌, ◌++◌, map, refl, eqb}
+use Rattle.std.specs.Prelude.{None, Some, true, codes}
+use Rattle.prodash_tui.specs.declared.cell.Cell.{Cell}
+use Rattle.prodash_tui.specs.declared.cell.Cell.TheVariants.{Holds, Half}
+use Rattle.prodash_tui.specs.declared.cursor.Cursor.{Cursor}
+use Rattle.prodash_tui.specs.declared.sign.Sign.{Sign}
+use Rattle.prodash_tui.specs.declared.sign.Sign.TheVariants.{Char, EraseScreen, MoveTo, SetStyle}
+use Rattle.prodash_tui.specs.declared.style.Color.TheVariants.{Red}
+use Rattle.prodash_tui.specs.declared.style.Style.{Style}
+use Rattle.prodash_tui.specs.Cells.{blank_cell, cell_of, plain}
+use Rattle.prodash_tui.specs.Grids.{Sheet, blank_sheet}
+use Rattle.prodash_tui.specs.Displays.{Display, after_signs}
+use Rattle.prodash_tui.specs.Frames.{difference, first_frame}
+
+-- U+0301 joins the character before it, U+65E5 is wide, and others have one column
+abbrev some_columns : ℕ → ℕ
+some_columns c = cond (eqb c 0x301) 0 (cond (eqb c 0x65E5) 2 1)
+
+abbrev bold : Style
+bold = record plain { bold = true }
+
+abbrev on_red : Style
+on_red = record plain { background = Some Red }
+
+-- a row of the characters of a text, each in a cell, in the plain style
+abbrev row : List ℕ → List Cell
+row text = map (cell_of plain) text
+
+-- a grid of rows of four columns
+abbrev grid : ℕ → List (List Cell) → Sheet
+grid height rows = record { width = 4; height = height; rows = rows }
+
+-- a display of one row, with its cursor in this column
+abbrev display : ℕ → List Cell → Display
+display column cells = record { grid = grid 1 (cells ∷ []); cursor = record { row = 0; column = column; style = plain } }
+
+abbrev after : List Sign → Display → Display
+after signs d = after_signs some_columns signs d
+
+-- ---- signs
+
+-- a character, and one of no column that joins it
+pub one : after (Char 97 ∷ Char 0x301 ∷ []) (display 1 (row (codes "wxyz"))) ≡ display 2 (cell_of plain 119 ∷ Holds 97 (0x301 ∷ []) plain ∷ row (codes "yz"))
+one = refl
+
+-- a wide character over a first half and a second half, whose other halves are blank then, and what joins it
+pub two : after (Char 0x65E5 ∷ Char 0x301 ∷ []) (display 1 (cell_of plain 0x65E5 ∷ Half ∷ cell_of plain 0x65E5 ∷ Half ∷ []))
+    ≡ display 3 (blank_cell ∷ Holds 0x65E5 (0x301 ∷ []) plain ∷ Half ∷ blank_cell ∷ [])
+two = refl
+
+-- at the first column nothing is joined, and a wide character that only one column is left for goes into the last two
+pub nothing_before : after (Char 0x301 ∷ []) (display 0 (row (codes "wxyz"))) ≡ display 0 (row (codes "wxyz"))
+nothing_before = refl
+
+pub at_edge : after (Char 0x65E5 ∷ []) (display 3 (row (codes "wxyz"))) ≡ display 4 (row (codes "wx") ++ cell_of plain 0x65E5 ∷ Half ∷ [])
+at_edge = refl
+
+-- the last column takes the next character, too
+pub past_edge : after (Char 97 ∷ Char 98 ∷ []) (display 3 (row (codes "wxyz"))) ≡ display 4 (row (codes "wxyb"))
+past_edge = refl
+
+-- a motion goes no further than the last row and column
+pub moved : (after (MoveTo 7 2 ∷ MoveTo 0 9 ∷ []) (display 0 (row (codes "wxyz")))).cursor ≡ record { row = 0; column = 3; style = plain }
+moved = refl
+
+-- a style is that of the characters behind it, and its background that of what is erased
+pub styled : (after (SetStyle bold ∷ Char 97 ∷ []) (display 0 (row (codes "wxyz")))).grid ≡ grid 1 ((cell_of bold 97 ∷ row (codes "xyz")) ∷ [])
+styled = refl
+
+pub erased : (after (SetStyle on_red ∷ EraseScreen ∷ []) (display 0 (row (codes "wxyz")))).grid
+    ≡ grid 1 ((cell_of on_red 32 ∷ cell_of on_red 32 ∷ cell_of on_red 32 ∷ cell_of on_red 32 ∷ []) ∷ [])
+erased = refl
+
+-- ---- frames
+
+abbrev before : Sheet
+before = grid 2 (row (codes "abcd") ∷ row (codes "efgh") ∷ [])
+
+-- nothing is written if nothing differs
+pub same : difference before before ≡ []
+same = refl
+
+-- two neighbours and a third: one motion for the neighbours, one style for all
+pub neighbours : difference before (grid 2 (row (codes "aXYd") ∷ row (codes "efgZ") ∷ []))
+    ≡ MoveTo 0 1 ∷ SetStyle plain ∷ Char 88 ∷ Char 89 ∷ MoveTo 1 3 ∷ Char 90 ∷ []
+neighbours = refl
+
+-- a style for one character, and the plain one for the next
+pub changed_style : difference before (grid 2 ((cell_of bold 97 ∷ row (codes "Xcd")) ∷ row (codes "efgh") ∷ []))
+    ≡ MoveTo 0 0 ∷ SetStyle bold ∷ Char 97 ∷ SetStyle plain ∷ Char 88 ∷ []
+changed_style = refl
+
+-- a wide character, whose second half isn't written, and what joins it; behind it the cursor is there already
+pub wide_change : difference before (grid 2 ((Holds 0x65E5 (0x301 ∷ []) plain ∷ Half ∷ row (codes "Xd")) ∷ row (codes "efgh") ∷ []))
+    ≡ MoveTo 0 0 ∷ SetStyle plain ∷ Char 0x65E5 ∷ Char 0x301 ∷ Char 88 ∷ []
+wide_change = refl
+
+-- a narrow character over a wide one: the blank behind it is written
+pub narrow_change : difference (grid 1 ((cell_of plain 0x65E5 ∷ Half ∷ row (codes "cd")) ∷ [])) (grid 1 (row (codes "a cd") ∷ []))
+    ≡ MoveTo 0 0 ∷ SetStyle plain ∷ Char 97 ∷ Char 32 ∷ []
+narrow_change = refl
+
+-- the first frame of a grid with one character
+pub first : first_frame (grid 2 (row (codes "    ") ∷ row (codes " x  ") ∷ [])) ≡ SetStyle plain ∷ EraseScreen ∷ MoveTo 1 1 ∷ SetStyle plain ∷ Char 120 ∷ []
+first = refl
+
+-- it erases what was shown
+pub first_shown : (after (first_frame (grid 1 (row (codes " x  ") ∷ []))) (display 2 (row (codes "wxyz")))).grid ≡ grid 1 (row (codes " x  ") ∷ [])
+first_shown = refl

@@ -1,0 +1,11 @@
+use Rattle.std.proofs.Common.{◌≡◌, ◌++◌, drop, None}
+use Rattle.prodash_base.specs.Appending.{IsPrefix}
+use Rattle.prodash_tui.specs.Frames.{rows_signs}
+use Rattle.prodash_tui.specs.Signs.{spelling}
+use Rattle.prodash_tui.proofs.frame.push_rows.Given as goal
+
+abbrev pub invariant-loop-y : goal.invariant-loop-y
+invariant-loop-y l = record {
+  ok : l.out.items ++ spelling (rows_signs l.y (drop l.y l.old) (drop l.y l.new) l.cursor) ≡ l.fn.out.items ++ spelling (rows_signs 0 l.old l.new None);
+  kept : IsPrefix l.fn.out.items l.out.items;
+}

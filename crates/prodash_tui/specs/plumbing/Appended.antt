@@ -1,0 +1,42 @@
+-- What is appended for a part of a grid.
+use Rattle.std.specs.Prelude.{◌≡◌, ℕ, ◌^◌, ◌<◌, List, [], ◌∷◌, ◌++◌, length, Option, None, Result, OnOk, if◌then◌else◌}
+use Rattle.std.specs.List.{All}
+use Rattle.prodash_tui.specs.declared.cell.Cell.{Cell}
+use Rattle.prodash_tui.specs.declared.cursor.Cursor.{Cursor}
+use Rattle.prodash_tui.specs.declared.sign.Sign.{Sign}
+use Rattle.prodash_tui.specs.declared.sign.Sign.TheVariants.{EraseScreen, SetStyle}
+use Rattle.prodash_tui.specs.Cells.{plain, same_cell}
+use Rattle.prodash_tui.specs.Differences.{half_of}
+use Rattle.prodash_tui.specs.Frames.{change_signs, changes_of, cursor_behind, row_cursor, row_signs, rows_signs}
+use Rattle.prodash_tui.specs.Signs.{spelling}
+
+-- the signs of the character that cells begin with, if the cell before was another
+abbrev pub signs_at : ℕ → ℕ → Cell → List Cell → Option Cursor → List Sign
+signs_at row column old [] cursor = []
+signs_at row column old (a ∷ cells) cursor = if same_cell old a then [] else change_signs row column (a ∷ half_of cells) cursor
+
+-- the cursor behind them
+abbrev pub cursor_past : ℕ → ℕ → Cell → List Cell → Option Cursor → Option Cursor
+cursor_past row column old [] cursor = cursor
+cursor_past row column old (a ∷ cells) cursor = if same_cell old a then cursor else cursor_behind row column (a ∷ half_of cells) cursor
+
+-- the signs of what is new in a row
+abbrev pub signs_of_row : ℕ → List Cell → List Cell → Option Cursor → List Sign
+signs_of_row row old new cursor = row_signs row (changes_of old new) cursor
+
+-- the cursor behind them
+abbrev pub cursor_past_row : ℕ → List Cell → List Cell → Option Cursor → Option Cursor
+cursor_past_row row old new cursor = row_cursor row (changes_of old new) cursor
+
+-- what erases a display, and then the signs of what is new in rows
+abbrev pub first_signs : List (List Cell) → List (List Cell) → List Sign
+first_signs blank new = SetStyle plain ∷ EraseScreen ∷ rows_signs 0 blank new None
+
+-- the bytes of these signs are appended, unless the call was refused
+abbrev pub Spells : {V E : Type 0} → Result V E → List ℕ → List Sign → List ℕ → Type 0
+Spells result before signs after = OnOk result (after ≡ before ++ spelling signs)
+
+-- rows that a `u16` counts the columns of, and the rows of which it counts
+pub record AreCounted (rows : List (List Cell)) : Type 0 where
+  pub low : length rows < 2 ^ 16
+  pub narrow : All (λ row. length row < 2 ^ 16) rows

@@ -1,0 +1,197 @@
+//! The bytes that turn what a display shows into a grid.
+//!
+//! A private call that runs out of memory may have appended a part of its bytes, and leaves what
+//! the buffer held before.
+ghost use Rattle.std.specs.Prelude.{◌≡◌, ◌+◌, ◌^◌, ◌<◌, ◌∷◌, length, map, take, None, IsOkUnless, OnErr, OnOk};
+ghost use Rattle.prodash_base.specs.Appending.{IsPrefix};
+ghost use Rattle.prodash_tui.specs.Cells.{plain};
+ghost use Rattle.prodash_tui.specs.Frames.{difference, first_frame, motion, rows_signs, style_change};
+ghost use Rattle.prodash_tui.specs.declared.sign.Sign.TheVariants.{Char};
+ghost use Rattle.prodash_tui.specs.plumbing.Appended.{AreCounted, Spells, cursor_past, cursor_past_row, first_signs, signs_at, signs_of_row};
+
+use crate::cell::Cell;
+use crate::cursor::Cursor;
+use crate::grid::Grid;
+use crate::row::Row;
+use crate::sign::{Sign, push_sign};
+use crate::style::{Style, same_style};
+use prodash_base::Refusal;
+use std::alloc::{AllocError, Global};
+
+/// Appends a motion to a row and column, unless the cursor is known to be there.
+fn push_motion(
+    out: &mut Vec<u8>,
+    row: u16,
+    column: u16,
+    cursor: Option<Cursor>,
+) -> Result<(), AllocError>
+    ensures ok { Spells result out.old.items (motion row column cursor) out.new.items }
+    ensures kept { IsPrefix out.old.items out.new.items }
+{
+    if let Some(cursor) = cursor {
+        if cursor.row == row && cursor.column == column {
+            return Ok(());
+        }
+    }
+    push_sign(out, Sign::MoveTo(row, column))
+}
+
+/// Appends a style, unless it is known to be the present one.
+fn push_style(out: &mut Vec<u8>, style: Style, cursor: Option<Cursor>) -> Result<(), AllocError>
+    ensures ok { Spells result out.old.items (style_change style cursor) out.new.items }
+    ensures kept { IsPrefix out.old.items out.new.items }
+{
+    if let Some(cursor) = cursor {
+        if same_style(cursor.style, style) {
+            return Ok(());
+        }
+    }
+    push_sign(out, Sign::SetStyle(style))
+}
+
+/// Appends characters.
+fn push_chars(out: &mut Vec<u8>, chars: &[char]) -> Result<(), AllocError>
+    ensures ok { Spells result out.old.items (map Char chars.now) out.new.items }
+    ensures kept { IsPrefix out.old.items out.new.items }
+{
+    for c in chars {
+        push_sign(out, Sign::Char(*c))?;
+    }
+    Ok(())
+}
+
+/// Appends the character that the cells begin with, unless the cell before was the same. It is in
+/// row `y` and column `x`. Moves the cursor behind it.
+fn push_changed(
+    out: &mut Vec<u8>,
+    y: u16,
+    x: u16,
+    old: &Cell,
+    cells: &[Cell],
+    cursor: &mut Option<Cursor>,
+) -> Result<(), AllocError>
+    requires { x + length cells.now < 2 ^ 16 }
+    ensures ok { Spells result out.old.items (signs_at y x old.now cells.now cursor.old)
+        out.new.items }
+    ensures cursor { OnOk result
+        (cursor.new ≡ cursor_past y x old.now cells.now cursor.old) }
+    ensures kept { IsPrefix out.old.items out.new.items }
+{
+    let Some(new) = cells.first() else {
+        return Ok(());
+    };
+    if old == new {
+        return Ok(());
+    }
+    let Cell::Holds(c, joined, style) = new else {
+        return Ok(());
+    };
+    push_motion(out, y, x, *cursor)?;
+    push_style(out, *style, *cursor)?;
+    push_sign(out, Sign::Char(*c))?;
+    push_chars(out, joined.as_slice())?;
+    let wide = matches!(cells.get(1), Some(Cell::Half));
+    *cursor = Some(Cursor {
+        row: y,
+        column: x + 1 + u16::from(wide),
+        style: *style,
+    });
+    Ok(())
+}
+
+/// Appends the characters of row `y` that aren't those of the row before.
+fn push_row(
+    out: &mut Vec<u8>,
+    y: u16,
+    old: &[Cell],
+    new: &[Cell],
+    cursor: &mut Option<Cursor>,
+) -> Result<(), AllocError>
+    requires { length new.now < 2 ^ 16 }
+    ensures ok { Spells result out.old.items (signs_of_row y old.now new.now cursor.old)
+        out.new.items }
+    ensures cursor { OnOk result (cursor.new ≡ cursor_past_row y old.now new.now cursor.old) }
+    ensures kept { IsPrefix out.old.items out.new.items }
+{
+    for k in 0..old.len().min(new.len()) {
+        push_changed(out, y, k as u16, &old[k], &new[k..], cursor)?;
+    }
+    Ok(())
+}
+
+/// Appends the characters of rows that aren't those of the rows before.
+fn push_rows(out: &mut Vec<u8>, old: &[Row], new: &[Row]) -> Result<(), AllocError>
+    requires { AreCounted new.now }
+    ensures ok { Spells result out.old.items (rows_signs 0 old.now new.now None) out.new.items }
+    ensures kept { IsPrefix out.old.items out.new.items }
+{
+    let mut cursor = None;
+    for y in 0..old.len().min(new.len()) {
+        push_row(
+            out,
+            y as u16,
+            old[y].as_slice(),
+            new[y].as_slice(),
+            &mut cursor,
+        )?;
+    }
+    Ok(())
+}
+
+/// Appends what erases a display, and then the characters of rows that aren't those of blank ones.
+fn push_first_rows(out: &mut Vec<u8>, blank: &[Row], new: &[Row]) -> Result<(), AllocError>
+    requires { AreCounted new.now }
+    ensures ok { Spells result out.old.items (first_signs blank.now new.now) out.new.items }
+    ensures kept { IsPrefix out.old.items out.new.items }
+{
+    push_sign(out, Sign::SetStyle(Style::new()))?;
+    push_sign(out, Sign::EraseScreen)?;
+    push_rows(out, blank, new)
+}
+
+/// Truncates the buffer to the length that it had before a call that appended to it, if that call
+/// was refused. Returns what the call returned.
+fn undo_if_refused(
+    out: &mut Vec<u8>,
+    length: usize,
+    appended: Result<(), AllocError>,
+) -> Result<(), AllocError>
+    ensures same { result ≡ appended }
+    ensures ok { OnOk result (out.new.items ≡ out.old.items) }
+    ensures err { OnErr result (out.new.items ≡ take length out.old.items) }
+{
+    if appended.is_err() {
+        out.truncate(length);
+    }
+    appended
+}
+
+/// Appends the bytes that turn a display that shows the grid `before` into one that shows `after`,
+/// wherever its cursor is. Only characters that differ are written. Both grids have one size.
+///
+/// `Memory`: out of memory. The buffer is then as it was.
+pub fn push_difference(before: &Grid, after: &Grid, out: &mut Vec<u8>) -> Result<(), Refusal>
+    ensures ok { Spells result out.old.items (difference before.now after.now) out.new.items }
+    ensures err { OnErr result (out.new.items ≡ out.old.items) }
+    ensures reason { IsOkUnless result Refusal.Memory }
+{
+    let length = out.len();
+    let appended = push_rows(out, before.rows(), after.rows());
+    undo_if_refused(out, length, appended)?;
+    Ok(())
+}
+
+/// Appends the bytes that erase a display of the grid's size, whatever it shows, and draw the grid.
+///
+/// `Memory`: out of memory. The buffer is then as it was.
+pub fn push_first(alloc: Global, after: &Grid, out: &mut Vec<u8>) -> Result<(), Refusal>
+    ensures ok { Spells result out.old.items (first_frame after.now) out.new.items }
+    ensures err { OnErr result (out.new.items ≡ out.old.items) }
+    ensures reason { IsOkUnless result Refusal.Memory }
+{
+    let blank = Grid::new(alloc, after.width(), after.height())?;
+    let length = out.len();
+    let appended = push_first_rows(out, blank.rows(), after.rows());
+    undo_if_refused(out, length, appended)?;
+    Ok(())
+}
