@@ -1,3 +1,4 @@
+pub mod CountedTurns
 pub mod LockedCalls
 pub mod EngineFrames
 pub mod Histories

@@ -4,6 +4,8 @@ pub mod item;
 mod locked;
 pub mod recorded;
 pub mod root;
+mod shared_task;
+mod shared_tree;
 mod steps;
 mod traits;
 pub(crate) mod turns;

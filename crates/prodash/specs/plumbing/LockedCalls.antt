@@ -37,6 +37,14 @@ pub record ChangesNothing (old new : LockedTree) : Type 0 where
   pub slots : SameSlots old.slots new.slots
   pub rest : KeepsRest old new old.next_child
 
+-- A copy of a tree has one owner, the same tasks and messages, and the same free slots.
+pub record IsCopy (copy tree : LockedTree) : Type 0 where
+  pub owners : copy.owners ≡ 1
+  pub number : copy.next_child ≡ tree.next_child
+  pub table : copy.table ≡ tree.table
+  pub slots : SameFreeSlots tree.slots copy.slots
+  pub ring : copy.ring ≡ tree.ring
+
 -- as many messages were sent as can be
 abbrev pub IsAtMessageLimit : LockedTree → Type 0
 IsAtMessageLimit locked = IsTrue (is_push_limit_reached locked.ring)

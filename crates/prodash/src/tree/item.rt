@@ -7,17 +7,17 @@ ghost use Rattle.prodash.specs.Items.{new_place, next_path, with_child};
 ghost use Rattle.prodash.specs.Turns.{Finds, Changes, HasName, HasId, HasBound, HasUnit, Stays, Begins, SetsName, SetsBound, SetsPhase, Sends, AddsBelow};
 
 use crate::messages::MessageLevel;
-use crate::progress::{Id, Key, State, Step, StepShared, UNKNOWN, key};
+use crate::progress::{Id, Key, State, Step, StepShared, UNKNOWN};
 use crate::time::Moment;
-use crate::tree::locked::LockedTree;
+use crate::tree::shared_task::SharedTask;
 use crate::tree::steps::Steps;
-use crate::tree::turns::TakesTurns;
+use crate::tree::turns::{TakesTurns, Turns};
 use crate::unit::Unit;
 use prodash_base::Refusal;
 use std::alloc::Global;
 use std::fmt;
 use std::marker::Model;
-use std::sync::{Arc, Mutex, Wait};
+use std::sync::Wait;
 
 /// An item of the tree. Dropping it removes its task, but not the tasks below it. Its drop and all
 /// calls except those on its step may wait for the lock of the tree. Contracts see its path and the
@@ -33,11 +33,7 @@ use std::sync::{Arc, Mutex, Wait};
 /// ```
 pub struct Item<R: Wait + Clone + Drop> {
     rt: R,
-    shared: Arc<Mutex<LockedTree>>,
-    key: Key,
-    next_child: u32,
-    slot: usize,
-    steps: Steps,
+    task: SharedTask,
 }
 
 impl<R: Wait + Clone + Drop> Model for Item<R> {
@@ -45,35 +41,22 @@ impl<R: Wait + Clone + Drop> Model for Item<R> {
 
     ghost Value = { Place };
 
-    ghost view = { λ item. record { path = item.key; next_child = item.next_child } };
+    ghost view = { λ item. item.task };
 }
 
 impl<R: TakesTurns> Item<R> {
-    /// Returns the item at a key, with its slot and its steps.
-    pub(crate) fn new(
-        rt: R,
-        shared: Arc<Mutex<LockedTree>>,
-        key: Key,
-        slot: usize,
-        steps: Steps,
-    ) -> Item<R>
-        ensures { result ≡ new_place key }
+    /// Returns the item of a task.
+    pub(crate) fn new(rt: R, task: SharedTask) -> Item<R>
+        ensures { result ≡ task }
     {
-        Item {
-            rt,
-            shared,
-            key,
-            next_child: 0,
-            slot,
-            steps,
-        }
+        Item { rt, task }
     }
 
     /// Returns the key of the item.
     pub fn key(&self) -> Key
         ensures { result ≡ self.now.path }
     {
-        self.key
+        self.task.key()
     }
 
     /// Begins the progress of the item, and sets its step to 0. Without a bound and a unit the item
@@ -81,11 +64,7 @@ impl<R: TakesTurns> Item<R> {
     pub fn init(&self, max: Option<Step>, unit: Option<Unit>)
         ensures { Changes R.found R.left (Begins self.now.path max unit) }
     {
-        let (mut tree, turn) = self.rt.begin_turn(&self.shared);
-        if tree.init(self.key, self.slot, max, unit) {
-            self.steps.set(0);
-        }
-        self.rt.end_turn(tree, turn);
+        self.task.init(&mut Turns::new(&self.rt), max, unit);
     }
 
     /// Sets the name of the item. Nothing happens if the item's task is gone.
@@ -98,10 +77,7 @@ impl<R: TakesTurns> Item<R> {
         ensures err { OnErr result (Changes R.found R.left Stays) }
         ensures reason { IsOkUnless result Refusal.Memory }
     {
-        let (mut tree, turn) = self.rt.begin_turn(&self.shared);
-        let named = tree.table.set_name(alloc, self.key, name);
-        self.rt.end_turn(tree, turn);
-        named
+        self.task.set_name(&mut Turns::new(&self.rt), alloc, name)
     }
 
     /// Returns a copy of the item's name, or `None` if the item's task is gone.
@@ -114,42 +90,35 @@ impl<R: TakesTurns> Item<R> {
             Finds R.found (HasName self.now.path (option_map string_bytes n))) }
         ensures reason { IsOkUnless result Refusal.Memory }
     {
-        let (tree, _turn) = self.rt.begin_turn(&self.shared);
-        tree.name(alloc, self.key)
+        self.task.name(&mut Turns::new(&self.rt), alloc)
     }
 
     /// Returns the identifier of the item, or `UNKNOWN` if the item's task is gone.
     pub fn id(&self) -> Id
         ensures { Finds R.found (HasId self.now.path result) }
     {
-        let (tree, _turn) = self.rt.begin_turn(&self.shared);
-        tree.table.id(self.key)
+        self.task.id(&mut Turns::new(&self.rt))
     }
 
     /// Returns the bound of the item's progress, if it has progress and a bound.
     pub fn max(&self) -> Option<Step>
         ensures { Finds R.found (HasBound self.now.path result) }
     {
-        let (tree, _turn) = self.rt.begin_turn(&self.shared);
-        tree.table.max(self.key)
+        self.task.max(&mut Turns::new(&self.rt))
     }
 
     /// Returns the unit of the item's progress, if it has progress and a unit.
     pub fn unit(&self) -> Option<Unit>
         ensures { Finds R.found (HasUnit self.now.path result) }
     {
-        let (tree, _turn) = self.rt.begin_turn(&self.shared);
-        tree.table.unit(self.key)
+        self.task.unit(&mut Turns::new(&self.rt))
     }
 
     /// Sets the bound of the item's progress, if it has progress, and returns the previous one.
     pub fn set_max(&self, max: Option<Step>) -> Option<Step>
         ensures { Changes R.found R.left (SetsBound self.now.path max result) }
     {
-        let (mut tree, turn) = self.rt.begin_turn(&self.shared);
-        let before = tree.table.set_max(self.key, max);
-        self.rt.end_turn(tree, turn);
-        before
+        self.task.set_max(&mut Turns::new(&self.rt), max)
     }
 
     /// Marks the item's progress, if it has any, as blocked: it can't continue and can't be
@@ -178,36 +147,34 @@ impl<R: TakesTurns> Item<R> {
     fn set_state(&self, state: State)
         ensures { Changes R.found R.left (SetsPhase self.now.path (phase_of state)) }
     {
-        let (mut tree, turn) = self.rt.begin_turn(&self.shared);
-        tree.table.set_state(self.key, state);
-        self.rt.end_turn(tree, turn);
+        self.task.set_state(&mut Turns::new(&self.rt), state);
     }
 
     /// Sets the step of the item without taking the lock, even before `init`.
     pub fn set(&self, step: Step) {
-        self.steps.set(step);
+        self.task.steps().set(step);
     }
 
     /// Adds `step` to the item's counter without taking the lock. The sum wraps around at 2^64.
     pub fn inc_by(&self, step: Step) {
-        self.steps.inc_by(step);
+        self.task.steps().inc_by(step);
     }
 
     /// Adds 1 to the item's counter without taking the lock. The sum wraps around at 2^64.
     pub fn inc(&self) {
-        self.steps.inc();
+        self.task.steps().inc();
     }
 
     /// Returns the step of the item without taking the lock. Always `Some`.
     pub fn step(&self) -> Option<Step>
         ensures { is_some result ≡ true }
     {
-        Some(self.steps.step())
+        Some(self.task.steps().step())
     }
 
     /// Returns the item's counter, whose calls never wait.
     pub fn steps(&self) -> &Steps {
-        &self.steps
+        self.task.steps()
     }
 
     /// Returns another owner of the item's counter.
@@ -218,7 +185,7 @@ impl<R: TakesTurns> Item<R> {
     pub fn counter(&self) -> Result<StepShared, Refusal>
         ensures { IsOkUnless result Refusal.Memory }
     {
-        self.steps.counter()
+        self.task.steps().counter()
     }
 
     /// Adds an item below this one. A child of an item at the sixth level gets that item's path
@@ -257,14 +224,9 @@ impl<R: TakesTurns> Item<R> {
         ensures reason { IsOkUnless result Refusal.Memory }
     {
         let rt = self.rt.clone()?;
-        let shared = Arc::try_clone(&self.shared)?;
-        let key = self.key.add_child(self.next_child);
-        let (mut tree, turn) = self.rt.begin_turn(&self.shared);
-        let added = tree.insert_task(alloc, key, name, id);
-        self.rt.end_turn(tree, turn);
-        let (slot, steps) = added?;
-        self.next_child = key::next_id(self.next_child);
-        Ok(Item::new(rt, shared, key, slot, steps))
+        let turns = &mut Turns::new(&self.rt);
+        let task = self.task.add_child(turns, alloc, name, id)?;
+        Ok(Item::new(rt, task))
     }
 
     /// Sends a message from the item. Its origin is the item's name, or empty if the item's task is
@@ -286,10 +248,8 @@ impl<R: TakesTurns> Item<R> {
         ensures err { OnErr result (Changes R.found R.left Stays) }
         ensures reason { IfErr result RefusesMessage }
     {
-        let (mut tree, turn) = self.rt.begin_turn(&self.shared);
-        let sent = tree.message(alloc, self.key, at, level, message);
-        self.rt.end_turn(tree, turn);
-        sent
+        let turns = &mut Turns::new(&self.rt);
+        self.task.message(turns, alloc, at, level, message)
     }
 
     /// Sends a message of severity `Success`: the task is done.
@@ -339,8 +299,8 @@ impl<R: Wait + Clone + Drop> fmt::Debug for Item<R> {
     /// Writes the key and the step.
     fn fmt<W: fmt::Write>(&self, f: &mut fmt::Formatter<W>) -> fmt::Result {
         f.debug_struct("Item")
-            .field("key", &self.key)
-            .field("step", &self.steps.step())
+            .field("key", &self.task.key())
+            .field("step", &self.task.steps().step())
             .finish_non_exhaustive()
     }
 }
@@ -348,14 +308,7 @@ impl<R: Wait + Clone + Drop> fmt::Debug for Item<R> {
 impl<R: Wait + Clone + Drop> Drop for Item<R> {
     /// Removes the item's task.
     fn drop(self) {
-        self.shared.lock(&self.rt).remove_task(self.key, self.slot);
-        let Item {
-            rt: _,
-            shared: _,
-            key: _,
-            next_child: _,
-            slot: _,
-            steps: _,
-        } = self;
+        self.task.remove(&mut Turns::new(&self.rt));
+        let Item { rt: _, task: _ } = self;
     }
 }

@@ -1,22 +1,22 @@
 //! Owners of the tree.
-ghost use Rattle.std.specs.Prelude.{◌≡◌, ◌<◌, ◌↔◌, ℕ, [], Err, is_some, IfOk, IfErr, OnOk, OnErr, IsOkUnless};
+ghost use Rattle.std.specs.Prelude.{◌≡◌, ◌<◌, ℕ, [], is_some, IfOk, IfErr, OnOk, OnErr, IsOkUnless};
 ghost use Rattle.std.specs.Map.{keys_of};
 ghost use Rattle.prodash_base.specs.Refusals.{RefusesHandle};
 ghost use Rattle.prodash_base.specs.Adjacency.{IsAscending, paths_of};
 ghost use Rattle.prodash_base.specs.Path.{child, child_limit};
 ghost use Rattle.prodash.specs.Items.{new_place};
 ghost use Rattle.prodash_base.specs.Rows.{rows_of, unknown_id};
-ghost use Rattle.prodash.specs.Locks.{with_owner};
 ghost use Rattle.prodash.specs.Turns.{Finds, Changes, HasTasks, KeepsAtMost, HasRows, HasMessages, HasNews, HasRowsAndNews, CopiesRowsAndNews, AddsChild, GetsOwner, Upgrades};
 
 use crate::messages::{Message, MessageCopyState, Messages};
 use crate::progress::{Id, Row, Rows, UNKNOWN};
 use crate::tree::item::Item;
 use crate::tree::locked::LockedTree;
-use crate::tree::turns::TakesTurns;
+use crate::tree::shared_tree::SharedTree;
+use crate::tree::turns::{TakesTurns, Turns};
 use prodash_base::Refusal;
 use std::alloc::Global;
-use std::sync::{Arc, Mutex, Wait};
+use std::sync::Wait;
 
 /// Options for a tree.
 #[derive(Clone, Copy, Debug)]
@@ -49,8 +49,10 @@ impl Options {
         ensures { IsOkUnless result Refusal.Memory }
     {
         let locked = LockedTree::new(alloc, self.message_buffer_capacity)?;
-        let shared = Arc::new(alloc, Mutex::new(locked))?;
-        Ok(Root { rt, shared })
+        Ok(Root {
+            rt,
+            tree: SharedTree::new(alloc, locked)?,
+        })
     }
 }
 
@@ -68,7 +70,7 @@ impl Options {
 /// ```
 pub struct Root<R: Wait + Clone + Drop> {
     rt: R,
-    shared: Arc<Mutex<LockedTree>>,
+    tree: SharedTree,
 }
 
 impl<R: TakesTurns> Root<R> {
@@ -111,28 +113,23 @@ impl<R: TakesTurns> Root<R> {
         ensures reason { IsOkUnless result Refusal.Memory }
     {
         let rt = self.rt.clone()?;
-        let shared = Arc::try_clone(&self.shared)?;
-        let (mut tree, turn) = self.rt.begin_turn(&self.shared);
-        let added = tree.add_child(alloc, name, id);
-        self.rt.end_turn(tree, turn);
-        let (key, slot, steps) = added?;
-        Ok(Item::new(rt, shared, key, slot, steps))
+        let turns = &mut Turns::new(&self.rt);
+        let task = self.tree.add_child(turns, alloc, name, id)?;
+        Ok(Item::new(rt, task))
     }
 
     /// Returns the number of tasks. Another thread may change it at any time.
     pub fn num_tasks(&self) -> usize
         ensures { Finds R.found (HasTasks result) }
     {
-        let (tree, _turn) = self.rt.begin_turn(&self.shared);
-        tree.table.len()
+        self.tree.num_tasks(&mut Turns::new(&self.rt))
     }
 
     /// Returns the greatest number of messages that the tree keeps.
     pub fn messages_capacity(&self) -> usize
         ensures { Finds R.found (KeepsAtMost result) }
     {
-        let (tree, _turn) = self.rt.begin_turn(&self.shared);
-        tree.ring.capacity()
+        self.tree.messages_capacity(&mut Turns::new(&self.rt))
     }
 
     /// Replaces the contents of `out` with the rows, in ascending order of their keys, each key
@@ -148,8 +145,8 @@ impl<R: TakesTurns> Root<R> {
         ensures err { OnErr result (out.new.items ≡ out.old.items) }
         ensures reason { IsOkUnless result Refusal.Memory }
     {
-        let (tree, _turn) = self.rt.begin_turn(&self.shared);
-        tree.copy_rows(alloc, out)
+        self.tree
+            .sorted_snapshot(&mut Turns::new(&self.rt), alloc, out)
     }
 
     /// Replaces the contents of `out` with the kept messages, the oldest first.
@@ -162,8 +159,8 @@ impl<R: TakesTurns> Root<R> {
         ensures err { OnErr result (out.new.items ≡ out.old.items) }
         ensures reason { IsOkUnless result Refusal.Memory }
     {
-        let (tree, _turn) = self.rt.begin_turn(&self.shared);
-        tree.ring.copy_all(alloc, out)
+        self.tree
+            .copy_messages(&mut Turns::new(&self.rt), alloc, out)
     }
 
     /// Replaces the contents of `out` with the kept messages that were sent since the copy that
@@ -184,8 +181,8 @@ impl<R: TakesTurns> Root<R> {
         ensures err { OnErr result (out.new.items ≡ out.old.items) }
         ensures reason { IsOkUnless result Refusal.Memory }
     {
-        let (tree, _turn) = self.rt.begin_turn(&self.shared);
-        tree.ring.copy_new(alloc, out, previous)
+        self.tree
+            .copy_new_messages(&mut Turns::new(&self.rt), alloc, out, previous)
     }
 
     /// Does what `sorted_snapshot` and `copy_new_messages` do, and takes the lock once for both.
@@ -208,27 +205,9 @@ impl<R: TakesTurns> Root<R> {
         ensures err_messages { OnErr result (messages.new.items ≡ messages.old.items) }
         ensures reason { IsOkUnless result Refusal.Memory }
     {
-        let (news, state) = self.copy_rows_and_new_messages(alloc, rows, previous)?;
-        *messages = news.into_vec();
-        Ok(state)
-    }
-
-    /// Replaces the contents of `rows` with the rows, and returns the new messages and the state
-    /// for the next copy.
-    fn copy_rows_and_new_messages(
-        &self,
-        alloc: Global,
-        rows: &mut Vec<Row>,
-        previous: Option<MessageCopyState>,
-    ) -> Result<(Messages, MessageCopyState), Refusal>
-        ensures ok { IfOk result (λ news.
-            CopiesRowsAndNews R.found previous rows.new.items news.0 news.1) }
-        ensures ascending { OnOk result (IsAscending (paths_of rows.new.items)) }
-        ensures err { OnErr result (rows.new.items ≡ rows.old.items) }
-        ensures reason { IsOkUnless result Refusal.Memory }
-    {
-        let (tree, _turn) = self.rt.begin_turn(&self.shared);
-        tree.copy_rows_and_new_messages(alloc, rows, previous)
+        let turns = &mut Turns::new(&self.rt);
+        self.tree
+            .snapshot_and_new_messages(turns, alloc, rows, messages, previous)
     }
 
     /// Returns the rows, the new messages and the state that `snapshot_and_new_messages` gives. It
@@ -250,8 +229,7 @@ impl<R: TakesTurns> Root<R> {
         ensures ascending { IfOk result (λ seen. IsAscending (keys_of seen.0)) }
         ensures reason { IsOkUnless result Refusal.Memory }
     {
-        let (tree, _turn) = self.rt.begin_turn(&self.shared);
-        tree.look(spare, previous)
+        self.tree.look(&mut Turns::new(&self.rt), spare, previous)
     }
 
     /// Returns an owner of a copy of the tree, with the same tasks, messages and capacity. Its
@@ -264,9 +242,11 @@ impl<R: TakesTurns> Root<R> {
         ensures { IsOkUnless result Refusal.Memory }
     {
         let rt = self.rt.clone()?;
-        let copy = self.shared.lock(&self.rt).deep_clone(alloc)?;
-        let shared = Arc::new(alloc, Mutex::new(copy))?;
-        Ok(Root { rt, shared })
+        let copy = self.tree.copy_tree(&mut Turns::new(&self.rt), alloc)?;
+        Ok(Root {
+            rt,
+            tree: SharedTree::new(alloc, copy)?,
+        })
     }
 
     /// Returns a weak handle, which upgrades while the tree has an owner.
@@ -279,7 +259,7 @@ impl<R: TakesTurns> Root<R> {
     {
         Ok(WeakHandle {
             rt: self.rt.clone()?,
-            shared: Arc::try_clone(&self.shared)?,
+            tree: self.tree.try_clone()?,
         })
     }
 
@@ -293,10 +273,8 @@ impl<R: TakesTurns> Root<R> {
         ensures ok { OnOk result (Changes R.found R.left GetsOwner) }
         ensures reason { IfErr result RefusesHandle }
     {
-        let (mut tree, turn) = self.rt.begin_turn(&self.shared);
-        let root = add_owner(&self.rt, &self.shared, &mut tree);
-        self.rt.end_turn(tree, turn);
-        root
+        let (rt, tree) = self.tree.add_owner(&mut Turns::new(&self.rt), &self.rt)?;
+        Ok(Root { rt, tree })
     }
 }
 
@@ -305,7 +283,7 @@ impl<R: TakesTurns> Root<R> {
 #[derive(Drop)]
 pub struct WeakHandle<R: Wait + Clone + Drop> {
     rt: R,
-    shared: Arc<Mutex<LockedTree>>,
+    tree: SharedTree,
 }
 
 impl<R: TakesTurns> WeakHandle<R> {
@@ -319,54 +297,17 @@ impl<R: TakesTurns> WeakHandle<R> {
         ensures ok { IfOk result (λ root. Changes R.found R.left (Upgrades (is_some root))) }
         ensures reason { IfErr result RefusesHandle }
     {
-        let (mut tree, turn) = self.rt.begin_turn(&self.shared);
-        let root = upgrade_owner(&self.rt, &self.shared, &mut tree);
-        self.rt.end_turn(tree, turn);
-        root
+        match self.tree.upgrade(&mut Turns::new(&self.rt), &self.rt)? {
+            Some((rt, tree)) => Ok(Some(Root { rt, tree })),
+            None => Ok(None),
+        }
     }
-}
-
-/// Adds an owner to a tree, and returns it.
-fn add_owner<R: Wait + Clone + Drop>(
-    rt: &R,
-    shared: &Arc<Mutex<LockedTree>>,
-    locked: &mut LockedTree,
-) -> Result<Root<R>, Refusal>
-    ensures ok { OnOk result (locked.new ≡ with_owner locked.old) }
-    ensures err { OnErr result (locked.new ≡ locked.old) }
-    ensures full { (result ≡ Err Refusal.TooManyHandles) ↔ (locked.old.owners ≡ u64.MAX) }
-    ensures reason { IfErr result RefusesHandle }
-{
-    if locked.owners == u64::MAX {
-        return Err(Refusal::TooManyHandles);
-    }
-    let rt = rt.clone()?;
-    let shared = Arc::try_clone(shared)?;
-    locked.owners += 1;
-    Ok(Root { rt, shared })
-}
-
-/// Adds an owner to a tree that has one, and returns it. Returns `None` if the tree has none left.
-fn upgrade_owner<R: Wait + Clone + Drop>(
-    rt: &R,
-    shared: &Arc<Mutex<LockedTree>>,
-    locked: &mut LockedTree,
-) -> Result<Option<Root<R>>, Refusal>
-    ensures ok { IfOk result (λ root. Upgrades (is_some root) locked.old locked.new) }
-    ensures err { OnErr result (locked.new ≡ locked.old) }
-    ensures full { (result ≡ Err Refusal.TooManyHandles) ↔ (locked.old.owners ≡ u64.MAX) }
-    ensures reason { IfErr result RefusesHandle }
-{
-    if locked.owners == 0 {
-        return Ok(None);
-    }
-    Ok(Some(add_owner(rt, shared, locked)?))
 }
 
 impl<R: Wait + Clone + Drop> Drop for Root<R> {
     /// Removes an owner of the tree.
     fn drop(self) {
-        self.shared.lock(&self.rt).remove_owner();
-        let Root { rt: _, shared: _ } = self;
+        self.tree.remove_owner(&mut Turns::new(&self.rt));
+        let Root { rt: _, tree: _ } = self;
     }
 }

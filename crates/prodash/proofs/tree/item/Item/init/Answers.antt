@@ -1,8 +1,5 @@
-use Rattle.std.proofs.Common.{rules}
 use Rattle.prodash.proofs.TurnLaws.{changes}
 use Rattle.prodash.proofs.tree.item.Item.init.Goals as goal
 
 pub returns : goal.returns
-returns g c =
-    let begun = c.begin_turn-tree in
-    changes _ _ _ begun.result _ begun.ensures c.end_turn.ensures (c.self.inside.slot, search rules)
+returns g c = rw (← c.self.view_is) (changes _ _ _ _ _ c.init.ensures)

@@ -1,8 +1,6 @@
-use Rattle.std.proofs.Common.{rules}
-use Rattle.prodash.proofs.TurnLaws.{changes_if_ok}
+use Rattle.prodash.proofs.TurnLaws.{changes, takes_less}
 use Rattle.prodash.proofs.tree.root.Root.clone.Goals as goal
 
 pub returns-clause-ok : goal.returns-clause-ok
 returns-clause-ok g c =
-    let begun = c.begin_turn-tree in
-    changes_if_ok _ _ _ _ begun.result _ begun.ensures c.end_turn.ensures (search rules)
+    changes _ _ _ _ _ (takes_less _ _ _ _ _ (λ old new h. h.0) c.in_ok-rt.ensures.turn)

@@ -1,8 +1,5 @@
-use Rattle.std.proofs.Common.{rules}
 use Rattle.prodash.proofs.TurnLaws.{finds_if_ok}
 use Rattle.prodash.proofs.tree.root.Root.look.Goals as goal
 
 pub returns-clause-ok : goal.returns-clause-ok
-returns-clause-ok g c =
-    let begun = c.begin_turn-tree in
-    finds_if_ok _ _ _ begun.result begun.ensures (search rules)
+returns-clause-ok g c = finds_if_ok _ _ _ _ _ _ c.look.ensures.turn

@@ -1,8 +1,5 @@
-use Rattle.std.proofs.Common.{rules}
 use Rattle.prodash.proofs.TurnLaws.{finds}
 use Rattle.prodash.proofs.tree.root.Root.messages_capacity.Goals as goal
 
 pub returns : goal.returns
-returns g c =
-    let begun = c.begin_turn-tree in
-    finds _ _ begun.result begun.ensures (search rules)
+returns g c = finds _ _ _ _ _ c.messages_capacity.ensures

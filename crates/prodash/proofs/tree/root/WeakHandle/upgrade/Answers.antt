@@ -1,8 +1,9 @@
 use Rattle.std.proofs.Common.{rules}
-use Rattle.prodash.proofs.TurnLaws.{changes_if_ok}
+use Rattle.prodash.proofs.TurnLaws.{upgrades}
 use Rattle.prodash.proofs.tree.root.WeakHandle.upgrade.Goals as goal
 
-pub returns-clause-ok : goal.returns-clause-ok
-returns-clause-ok g c =
-    let begun = c.begin_turn-tree in
-    changes_if_ok _ _ _ _ begun.result _ begun.ensures c.end_turn.ensures (search rules)
+pub returns-in-Some-clause-ok : goal.returns-in-Some-clause-ok
+returns-in-Some-clause-ok g c = upgrades _ _ _ _ _ _ c.in_ok-rt.ensures.turn (search rules)
+
+pub returns-in-None-clause-ok : goal.returns-in-None-clause-ok
+returns-in-None-clause-ok g c = upgrades _ _ _ _ _ _ c.in_ok-rt.ensures.turn (search rules)
