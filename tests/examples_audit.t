@@ -1,4 +1,4 @@
-prodash-examples: audit and batch
+prodash-examples: audit
 =================================
 
 The receipts of all calls agree with the journal, which has a line for each call.
@@ -93,36 +93,3 @@ An output that can't be written.
   [1]
   $ tail -n 1 shown
   output is broken
-
-The batch runner sends a message for each job, and one at the end. Each job has a call for each of
-its files, and four more. The row above all has three, and the row of each thread two.
-
-  $ prodash-examples batch 3 2>messages
-  83 receipts agree
-  $ sed 's/^ *//' messages | sort
-  batch all jobs are done
-  job 1 is done
-  job 2 is done
-  job 3 is done
-  $ prodash-examples batch
-  usage: prodash-examples batch JOBS
-  [2]
-  $ prodash-examples batch many
-  usage: prodash-examples batch JOBS
-  [2]
-
-  $ prodash-examples batch 1 2>messages >/dev/full
-  [1]
-  $ tail -n 1 messages
-  output is broken
-
-On a terminal the jobs have rows below those of their threads.
-
-  $ on-terminal 40 30 <<'END' >window
-  > run env COLUMNS=40 LINES=30 NO_COLOR=1 prodash-examples batch 12
-  > until first
-  > until job 1
-  > ended
-  > END
-  $ cat window
-  status 0
