@@ -1,11 +1,10 @@
 -- The widths of lines, and of printable ASCII characters.
-use Rattle.std.proofs.Common.{◌≡◌, ℕ, zero, suc, ◌^◌, ◌+◌, ◌%◌, ◌<◌, ◌≤◌, Bool, true, false, cond, not, ◌&&◌, List, [], ◌∷◌, ◌++◌, length, take, replicate, chars, refl, sym, ap, ◌∙◌, arith}
+use Rattle.std.proofs.Common.{◌≡◌, ℕ, zero, suc, ◌+◌, ◌/◌, ◌%◌, ◌==◌, ◌<◌, ◌≤◌, Bool, true, false, cond, not, ◌&&◌, List, [], ◌∷◌, ◌++◌, length, take, replicate, chars, refl, sym, ap, ◌∙◌, arith}
 use Rattle.std.specs.Int.{is_in_range}
-use Rattle.std.specs.Fmt.{decimal}
+use Rattle.std.specs.Fmt.{decimal, digits, digits_onto, digit_glyph}
 use Rattle.std.specs.Str.{IsUtf8, IsAscii}
 use Rattle.std.proofs.lemmas.Bool.{and_parts}
 use Rattle.std.proofs.lemmas.Bool.Decides.{nat_tests}
-use Rattle.std.proofs.lemmas.Fmt.{decimal_by_steps}
 use Rattle.std.proofs.lemmas.List.{length-replicate}
 use Rattle.std.proofs.lemmas.List.Sums.{sum_by-append, sum_by-cons}
 use Rattle.std.proofs.lemmas.Str.{chars-IsAscii, IsUtf8-from_ascii}
@@ -14,6 +13,7 @@ use Rattle.unicode_width.proofs.Computing.{unicode_width}
 use Rattle.unicode_width.specs.declared.state.State.{State}
 use Rattle.unicode_width.specs.Width.{plain, step, read_before, str_width}
 use Rattle.unicode_width.proofs.Rules.{str_width-printable}
+use Rattle.prodash_base.specs.Numerals.{last_digits}
 use Rattle.prodash_line.specs.Lines.{Piece, Line, capped, width_of, columns_of}
 use Rattle.prodash_line.specs.plumbing.Writing.{is_printable}
 
@@ -52,10 +52,29 @@ pub printable-spaces : (n : ℕ) → is_printable (replicate n 32) ≡ true
 printable-spaces n = printable-repeated n 32 (omega arith) (omega arith)
 
 -- digits are printable
-pub printable-decimal : (n : ℕ) → n < 2 ^ 64 → is_printable (decimal n) ≡ true
-printable-decimal n small =
-    decimal_by_steps (λ n ds. is_printable ds ≡ true) (λ n h. printable-one (48 + n) (omega arith) (omega arith))
-    (λ n ds h e. printable-append ds ((48 + n % 10) ∷ []) e (printable-one (48 + n % 10) (omega arith) (omega arith))) n small
+printable-digit : (d : ℕ) → d < 10 → is_printable (digit_glyph false d ∷ []) ≡ true
+printable-digit d h = grind (arith, nat_tests)
+
+pub printable-either : (b : Bool) (xs ys : List ℕ) → is_printable xs ≡ true → is_printable ys ≡ true → is_printable (cond b xs ys) ≡ true
+printable-either true xs ys h i = h
+printable-either false xs ys h i = i
+
+printable-digits : (k n : ℕ) (text : List ℕ) → is_printable text ≡ true → is_printable (digits_onto k 10 false n text) ≡ true
+printable-digits zero n text h = h
+printable-digits (suc k) n text h =
+    let more = digit_glyph false (n % 10) ∷ text in
+    let digit : is_printable more ≡ true = printable-append (digit_glyph false (n % 10) ∷ []) text (printable-digit (n % 10) (omega arith)) h in
+    printable-either (n / 10 == 0) more (digits_onto k 10 false (n / 10) more) digit (printable-digits k (n / 10) more digit)
+
+pub printable-decimal : (n : ℕ) → is_printable (decimal n) ≡ true
+unfolding digits
+printable-decimal n = printable-digits 64 n [] refl
+
+pub printable-last_digits : (places n : ℕ) → is_printable (last_digits places n) ≡ true
+unfolding last_digits
+printable-last_digits zero n = refl
+printable-last_digits (suc places) n =
+    printable-append (last_digits places (n / 10)) ((48 + n % 10) ∷ []) (printable-last_digits places (n / 10)) (printable-one (48 + n % 10) (omega arith) (omega arith))
 
 pub printable-take : (k : ℕ) (text : List ℕ) → is_printable text ≡ true → is_printable (take k text) ≡ true
 printable-take zero text h = refl

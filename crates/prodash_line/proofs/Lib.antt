@@ -45,6 +45,7 @@ pub mod SignPrefixes
 pub mod StyleCodes
 pub mod StyleParameters
 pub mod TerminalRows
+pub mod TimeTexts
 pub mod UnseenSigns
 pub mod WholeTexts
 pub mod SafeFrames

@@ -35,7 +35,7 @@ use Rattle.prodash_line.specs.Renderings.{Rendering, RendersEach, renderer_after
 use Rattle.prodash_line.specs.plumbing.RenderedInputs.{RendersAll}
 use Rattle.prodash_line.specs.Screens.{ScreenState}
 use Rattle.prodash_line.specs.plumbing.Writing.{is_printable}
-use Rattle.prodash_line.proofs.Columns.{printable-append, printable-one, chars-printable}
+use Rattle.prodash_line.proofs.Columns.{printable-append, printable-last_digits, chars-printable}
 use Rattle.prodash_line.proofs.Lists.{AllByRecursion-append, AllByRecursion-replicate, AllByRecursion-take}
 use Rattle.prodash_line.proofs.Renderings.{each}
 
@@ -74,12 +74,6 @@ printable_char c e = grind (arith, nat_tests, e)
 pub printable_clean : (text : List ℕ) → is_printable text ≡ true → Clean text
 printable_clean [] e = tt
 printable_clean (c ∷ text) e = let parts = and_parts (is_in_range 0x20 0x7E c) (is_printable text) e in (printable_char c parts.0, printable_clean text parts.1)
-
-printable-last_digits : (places n : ℕ) → is_printable (last_digits places n) ≡ true
-unfolding last_digits
-printable-last_digits zero n = refl
-printable-last_digits (suc places) n =
-    printable-append (last_digits places (n / 10)) ((48 + n % 10) ∷ []) (printable-last_digits places (n / 10)) (printable-one (48 + n % 10) (omega arith) (omega arith))
 
 printable-time : (at : ℕ) → is_printable (time_text at) ≡ true
 unfolding last_digits

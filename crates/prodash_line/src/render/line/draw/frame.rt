@@ -444,6 +444,7 @@ fn write_chosen(
 }
 
 /// Writes the line of a row over no line, and adds its width to those that are drawn.
+#[inline(never)]
 fn write_row(
     alloc: Global,
     out: &mut LineWriter,

@@ -79,6 +79,7 @@ pub(crate) struct DrawnProgress<'a> {
 /// values are padded so that they end at this midpoint, with a throughput if there is one, and its
 /// time follows if there is a timer. Returns the row's own midpoint: the column at which its values
 /// end without padding, 0 if it has no progress. Fails if out of memory.
+#[inline(always)]
 pub(crate) fn push_row(
     alloc: Global,
     out: &mut LineWriter,
@@ -149,6 +150,7 @@ fn push_progress(
 /// Does what `push_progress` does without styles and a time, at once, if the progress has a bound,
 /// its texts are printable ASCII characters, and the line has room for all of it. Otherwise it appends
 /// nothing and returns `None`. `text` is memory for the values and the unit.
+#[inline(always)]
 fn push_plain(
     alloc: Global,
     out: &mut LineWriter,
@@ -171,6 +173,7 @@ fn push_plain(
 }
 
 /// Does what `push_plain` does for a progress with this bound and without a unit.
+#[inline(always)]
 fn push_plain_fraction(
     out: &mut LineWriter,
     drawn: &DrawnProgress<'_>,
@@ -194,6 +197,7 @@ fn push_plain_fraction(
 }
 
 /// Does what `push_plain` does for a progress with this bound and this unit.
+#[inline(always)]
 fn push_plain_unit(
     alloc: Global,
     out: &mut LineWriter,
@@ -380,6 +384,7 @@ fn format_bound(digits: &mut Buffer, done_at: Option<Step>) -> (&'static str, &s
 
 /// Appends the name of a row. If it is drawn with other characters, those are written to
 /// `replaced`.
+#[inline(always)]
 fn push_name(
     out: &mut LineWriter,
     replaced: &mut String,

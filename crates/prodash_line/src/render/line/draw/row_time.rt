@@ -5,7 +5,6 @@ ghost use Rattle.prodash_base.specs.Timers.{row_time};
 ghost use Rattle.prodash_line.specs.ProgressRows as rows;
 ghost use Rattle.prodash_line.specs.plumbing.RowWriting.{ShowsTime, TriesTime};
 
-use crate::render::line::draw::drawn_text::drawn_text;
 use crate::render::line::draw::input::Options;
 use crate::render::line::draw::line_writer::LineWriter;
 use prodash_base::progress::Row;
@@ -17,8 +16,6 @@ use std::alloc::{AllocError, Global};
 #[derive(Drop)]
 pub(crate) struct TimeTexts {
     time: String,
-    /// What is drawn of it, if that is another text.
-    replaced: String,
     /// The index at which the task of the next row is looked for first.
     likely: usize,
 }
@@ -28,7 +25,6 @@ impl TimeTexts {
     pub(crate) fn new(alloc: Global) -> TimeTexts {
         TimeTexts {
             time: String::new(alloc),
-            replaced: String::new(alloc),
             likely: 0,
         }
     }
@@ -88,8 +84,8 @@ fn push_task_time(
     let (width, _) = options.terminal_dimensions;
     let left = width.saturating_sub(out.width());
     write_fitting_time(&mut texts.time, usize::from(left), time)?;
-    let time = drawn_text(options.defensive, texts.time.as_str(), &mut texts.replaced)?;
-    out.push_drawn(None, &time)
+    out.push_printable(texts.time.as_str().as_bytes())?;
+    Ok(())
 }
 
 /// Writes a space and a time, as they fit on so many columns: all of the time, or else without what
@@ -97,6 +93,9 @@ fn push_task_time(
 fn write_fitting_time(out: &mut String, columns: usize, time: &TaskTime) -> Result<(), AllocError>
     ensures { OnOk result (string_bytes out.new ≡ rows.fitting_time columns time.now) }
 {
+    if write_time(out, columns, time)? {
+        return Ok(());
+    }
     let without_remaining = TaskTime {
         remaining: None,
         ..*time
@@ -105,10 +104,7 @@ fn write_fitting_time(out: &mut String, columns: usize, time: &TaskTime) -> Resu
         stalled: None,
         ..without_remaining
     };
-    if !write_time(out, columns, time)?
-        && !write_time(out, columns, &without_remaining)?
-        && !write_time(out, columns, &alone)?
-    {
+    if !write_time(out, columns, &without_remaining)? && !write_time(out, columns, &alone)? {
         out.clear();
     }
     Ok(())

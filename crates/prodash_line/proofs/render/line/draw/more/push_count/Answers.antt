@@ -6,7 +6,7 @@ use Rattle.prodash_line.proofs.LineWriting.{appends_as, begun_then, begun_to}
 use Rattle.prodash_line.proofs.render.line.draw.more.push_count.Goals as goal
 
 pub push_printable-requires-clause-printable : goal.push_printable-requires-clause-printable
-push_printable-requires-clause-printable c = ap is_printable (c.as_bytes.ensures.value ∙ c.format.ensures.text) ∙ printable-decimal c.args.count (omega arith)
+push_printable-requires-clause-printable c = ap is_printable (c.as_bytes.ensures.value ∙ c.format.ensures.text) ∙ printable-decimal c.args.count
 
 pub returns : goal.returns
 returns c =

@@ -9,6 +9,6 @@ pub returns-in-Some : goal.returns-in-Some
 returns-in-Some c = record {
   text = λ step. ap (fraction_of step) c.in-Some.is ∙ ap (λ t. decimal step ++ 47 ∷ t) (sym c.format.ensures.text);
   slash = refl;
-  bound = ap is_printable c.format.ensures.text ∙ printable-decimal c.in-Some.bound (omega arith);
+  bound = ap is_printable c.format.ensures.text ∙ printable-decimal c.in-Some.bound;
   short = omega arith;
 }

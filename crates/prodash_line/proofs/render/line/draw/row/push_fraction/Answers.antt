@@ -10,7 +10,7 @@ use Rattle.prodash_line.proofs.RowLines.{length-parts, fraction_end, padded_appe
 use Rattle.prodash_line.proofs.render.line.draw.row.push_fraction.Goals as goal
 
 step_printable : (c : goal.In_ok-reset_style) → is_printable c.as_bytes.result.now ≡ true
-step_printable c = ap is_printable (c.as_bytes.ensures.value ∙ c.format-step.ensures.text) ∙ printable-decimal c.args.step (omega arith)
+step_printable c = ap is_printable (c.as_bytes.ensures.value ∙ c.format-step.ensures.text) ∙ printable-decimal c.args.step
 
 slash_printable : (c : goal.In_ok-reset_style) → is_printable c.as_bytes-2.result.now ≡ true
 slash_printable c = ap is_printable c.as_bytes-2.ensures.value ∙ c.format_bound.ensures.slash

@@ -1,4 +1,4 @@
-use Rattle.std.proofs.Common.{◌≡◌, ◌<◌, ◌^◌, ℕ, List, true, ◌++◌, codes, refl, ap, sym, ◌∙◌, arith}
+use Rattle.std.proofs.Common.{◌≡◌, ℕ, List, true, ◌++◌, codes, refl, ap, sym, ◌∙◌}
 use Rattle.std.specs.Fmt.{decimal}
 use Rattle.prodash_base.specs.Rows.{progress_of}
 use Rattle.prodash_line.specs.plumbing.RowWriting.{AppendsText, DrawsFraction}
@@ -9,19 +9,19 @@ use Rattle.prodash_line.proofs.PlainProgress.{drawn_as, appends_fraction}
 use Rattle.prodash_line.proofs.render.line.draw.row.push_plain_fraction.Goals as goal
 
 -- the digits of a number
-printable_digits : (text : List ℕ) (n : ℕ) → text ≡ decimal n → n < 2 ^ 64 → is_printable text ≡ true
-printable_digits text n is small = ap is_printable is ∙ printable-decimal n small
+printable_digits : (text : List ℕ) (n : ℕ) → text ≡ decimal n → is_printable text ≡ true
+printable_digits text n is = ap is_printable is ∙ printable-decimal n
 
 -- those of a step and of a bound, with a slash between them
-printable_fraction : (first third : List ℕ) (step bound : ℕ) → first ≡ decimal step → step < 2 ^ 64 → third ≡ decimal bound → bound < 2 ^ 64
+printable_fraction : (first third : List ℕ) (step bound : ℕ) → first ≡ decimal step → third ≡ decimal bound
     → is_printable (first ++ (codes "/" ++ third)) ≡ true
-printable_fraction first third step bound one low two high =
-    printable-append first (codes "/" ++ third) (printable_digits first step one low) (printable-append (codes "/") third refl (printable_digits third bound two high))
+printable_fraction first third step bound one two =
+    printable-append first (codes "/" ++ third) (printable_digits first step one) (printable-append (codes "/") third refl (printable_digits third bound two))
 
 pub push_plain_text-requires-clause-printable : goal.push_plain_text-requires-clause-printable
 push_plain_text-requires-clause-printable c =
-    printable_fraction c.as_bytes.result.now c.as_bytes-2.result.now c.args.drawn.now.value.now.step c.args.done_at (c.as_bytes.ensures.value ∙ c.format-step.ensures.text) (omega arith)
-    (c.as_bytes-2.ensures.value ∙ c.format-bound.ensures.text) (omega arith)
+    printable_fraction c.as_bytes.result.now c.as_bytes-2.result.now c.args.drawn.now.value.now.step c.args.done_at (c.as_bytes.ensures.value ∙ c.format-step.ensures.text)
+    (c.as_bytes-2.ensures.value ∙ c.format-bound.ensures.text)
 
 pub returns : goal.returns
 returns c =
@@ -34,7 +34,7 @@ returns c =
     let text = step ++ (codes "/" ++ bound) in
     let one : step ≡ decimal drawn.value.now.step = c.as_bytes.ensures.value ∙ c.format-step.ensures.text in
     let two : bound ≡ decimal c.args.done_at = c.as_bytes-2.ensures.value ∙ c.format-bound.ensures.text in
-    let printable : is_printable text ≡ true = printable_fraction step bound drawn.value.now.step c.args.done_at one (omega arith) two (omega arith) in
+    let printable : is_printable text ≡ true = printable_fraction step bound drawn.value.now.step c.args.done_at one two in
     let is : text ≡ fraction_of drawn.value.now.step drawn.value.now.done_at =
     ap (λ t. t ++ (codes "/" ++ bound)) one ∙ ap (λ t. decimal drawn.value.now.step ++ (codes "/" ++ t)) two
     ∙ ap (fraction_of drawn.value.now.step) (sym c.requires) in
