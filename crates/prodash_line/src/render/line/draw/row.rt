@@ -125,13 +125,28 @@ fn push_progress(
     ensures drawn { IfOk result (λ own. DrawsProgress drawn.now own out.old out.new) }
     ensures reason { IsOkUnless result Refusal.Memory }
 {
-    let (width, _) = drawn.options.terminal_dimensions;
     if !drawn.options.colored && drawn.timer.is_none() {
         let plain = push_plain(alloc, out, &mut texts.values, drawn)?;
         if let Some(own) = plain {
             return Ok(own);
         }
     }
+    let own = push_in_parts(alloc, out, texts, drawn)?;
+    Ok(own)
+}
+
+/// Does what `push_progress` does, part by part.
+#[inline(never)]
+fn push_in_parts(
+    alloc: Global,
+    out: &mut LineWriter,
+    texts: &mut RowTexts,
+    drawn: &DrawnProgress<'_>,
+) -> Result<u16, Refusal>
+    ensures drawn { IfOk result (λ own. DrawsProgress drawn.now own out.old out.new) }
+    ensures reason { IsOkUnless result Refusal.Memory }
+{
+    let (width, _) = drawn.options.terminal_dimensions;
     let own = push_values(alloc, out, texts, drawn)?;
     push_time(
         out,
