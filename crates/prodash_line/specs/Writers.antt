@@ -41,6 +41,11 @@ put_result bytes (Some n) = if took_nothing bytes n then Err refusals.Broken els
 abbrev pub WritesOnce : List ℕ → Result ℕ Refusal → List WriterCall → List WriterCall → Type 0
 WritesOnce bytes result old new = (taken : Option ℕ) × (new ≡ Write bytes taken ∷ old) × (result ≡ put_result bytes taken)
 
+-- These calls, the latest first, lead from a writer to another; given where one call leads.
+abbrev pub Leads : {W : Type 0} → (W → WriterCall → W → Type 0) → W → List WriterCall → W → Type 0
+Leads leads first [] now = now ≡ first
+Leads {W} leads first (call ∷ calls) now = (before : W) × Leads leads first calls before × leads before call now
+
 -- a screen that wraps a writer
 pub record OverWriteState (W : Type 0) : Type 0 where
   pub writer : W

@@ -34,7 +34,7 @@ pub use drawn_text::safe_char;
 use frame::{compose_closing, compose_resized, compose_tick};
 pub use input::{Answer, Input, Options};
 pub use memory_screen::MemoryScreen;
-pub use over_write::OverWrite;
+pub use over_write::{OverWrite, TracedWrite};
 use prodash_base::Refusal;
 use prodash_base::messages::{MessageCopyState, Messages};
 use prodash_base::progress::Rows;

@@ -4,14 +4,15 @@ ghost use Rattle.prodash_line.specs.Screens.{Takes, TakesPrefix, StaysBroken, Is
 ghost use Rattle.prodash_line.specs.Writers.{Flush, WritesOnce, screen_of};
 
 mod calls;
+mod traced_write;
 mod writer;
 
 use crate::render::line::draw::screen::Screen;
 use prodash_base::Refusal;
-use std::io;
+pub use traced_write::TracedWrite;
 pub use writer::OverWrite;
 
-impl<W: io::Write> Screen for OverWrite<W> {
+impl<W: TracedWrite> Screen for OverWrite<W> {
     ghost state = { screen_of W.contents };
 
     fn put(&mut self, bytes: &[u8]) -> Result<usize, Refusal>

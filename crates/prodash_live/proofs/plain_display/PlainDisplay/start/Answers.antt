@@ -18,9 +18,11 @@ use Rattle.prodash.proofs.tree.root.WeakHandle.TheSendSync as weak
 use Rattle.prodash_line.proofs.render.line.draw.state.State.TheSendSync as state
 use Rattle.prodash_line.proofs.render.line.draw.over_write.calls.Calls.TheSendSync as calls
 use Rattle.prodash_line.specs.contracts.render.line.draw.over_write.calls.Calls
+use Rattle.prodash_line.specs.contracts.render.line.draw.over_write.traced_write.AnyTracedWrite.TheImpl as traced
 use Rattle.prodash_line.specs.contracts.render.line.draw.over_write.writer.OverWrite
 use Rattle.prodash_line.specs.contracts.render.line.draw.over_write.writer.OverWrite.TheInside as Inside
 use Rattle.prodash_line.specs.contracts.render.line.draw.state.State
+use Rattle.prodash_line.specs.declared.render.line.draw.over_write.traced_write.TracedWrite
 use Rattle.prodash_live.specs.contracts.output.Watched
 use Rattle.prodash_live.specs.contracts.output.WatchedWrite.TheImpl
 use Rattle.prodash_live.proofs.output.Watched.TheSendSync as watched
@@ -45,12 +47,16 @@ made_send W = search (crosses) depth 20
 calls_send : IsSend (as_row Calls.the_field)
 calls_send = search (calls.the_send) depth 20
 
-inside_send : (O : RattleType) (g : Write.Ghosts O.Denot) → IsSend (Watched.the_row O) → IsSend (Inside.the_row (Watched.the_row O) (TheImpl.ghosts O g TheImpl.no_dict TheImpl.no_dict))
+-- what contracts see of the calls of a watched writer
+abbrev calls_of : (O : RattleType) → Write.Ghosts O.Denot → TracedWrite.Ghosts (Watched.the_row O).Denot
+calls_of O g = traced.ghosts (Watched.the_row O) (TheImpl.ghosts O g TheImpl.no_dict TheImpl.no_dict) traced.no_dict
+
+inside_send : (O : RattleType) (g : Write.Ghosts O.Denot) → IsSend (Watched.the_row O) → IsSend (Inside.the_row (Watched.the_row O) (calls_of O g))
 inside_send O g s =
     let writer = as_row_send (field.row_field (Watched.the_row O)) s in
-    declared_send (Inside.the_type (Watched.the_row O) (TheImpl.ghosts O g TheImpl.no_dict TheImpl.no_dict)) (writer, (made_send (Watched.the_row O), (calls_send, (closed_send, tt))))
+    declared_send (Inside.the_type (Watched.the_row O) (calls_of O g)) (writer, (made_send (Watched.the_row O), (calls_send, (closed_send, tt))))
 
-out_send : (O : RattleType) (g : Write.Ghosts O.Denot) → IsSend (Watched.the_row O) → IsSend (as_row (OverWrite.the_field (Watched.the_row O) (TheImpl.ghosts O g TheImpl.no_dict TheImpl.no_dict)))
+out_send : (O : RattleType) (g : Write.Ghosts O.Denot) → IsSend (Watched.the_row O) → IsSend (as_row (OverWrite.the_field (Watched.the_row O) (calls_of O g)))
 out_send O g s =
     let inside = inside_send O g s in
     record { owned = λ d vs x. (inside.owned x.0 vs, tt); leaving = λ k d w. tt }

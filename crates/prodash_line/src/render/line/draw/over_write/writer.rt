@@ -1,11 +1,11 @@
-//! A writer with the list of the calls made on it. Code outside this file reaches the writer only
-//! through methods that add their call to the list.
+//! A writer with the list of the calls made on it.
 ghost use Rattle.std.specs.Prelude.{◌≡◌, [], ◌∷◌, is_ok};
 ghost use Rattle.std.specs.Result.{result_ok};
 ghost use Rattle.std.specs.Io.{WritesAtMost};
 ghost use Rattle.prodash_line.specs.Writers.{Write, Flush, HoldsTaken, screen_of};
 
 use super::calls::{Call, Calls};
+use super::traced_write::TracedWrite;
 use std::fmt::{self, Debug, Formatter};
 use std::io;
 use std::marker::Model;
@@ -24,7 +24,7 @@ use std::snapshot::Snapshot;
 /// let bytes = screen.into_inner();
 /// ```
 #[derive(Drop)]
-pub struct OverWrite<W: io::Write> {
+pub struct OverWrite<W: TracedWrite> {
     writer: W,
     /// The writer as it was when the screen was made.
     made_with: Snapshot<W>,
@@ -34,9 +34,9 @@ pub struct OverWrite<W: io::Write> {
     failed: bool,
 }
 
-impl<W: io::Write> Model for OverWrite<W> {
+impl<W: TracedWrite> Model for OverWrite<W> {
     ghost use Rattle.std.specs.Prelude.{◌≡◌};
-    ghost use Rattle.prodash_line.specs.Writers.{OverWriteState, Holds, screen_after};
+    ghost use Rattle.prodash_line.specs.Writers.{OverWriteState, Holds, Leads, screen_after};
 
     ghost Value = { OverWriteState W };
 
@@ -47,12 +47,13 @@ impl<W: io::Write> Model for OverWrite<W> {
     } };
 
     ghost invariant = { λ s.
-        (s.failed ≡ (screen_after (W.contents s.made_with.value) s.calls.made).broken)
+        Leads W.leads s.made_with.value s.calls.made s.writer
+        × (s.failed ≡ (screen_after (W.contents s.made_with.value) s.calls.made).broken)
         × Holds (W.contents s.made_with.value) (W.contents s.writer)
         (screen_after (W.contents s.made_with.value) s.calls.made).bytes };
 }
 
-impl<W: io::Write> OverWrite<W> {
+impl<W: TracedWrite> OverWrite<W> {
     /// Returns a screen over the writer. If the bytes that the writer holds are known, as those of
     /// a list are, the screen counts them as taken.
     pub fn new(writer: W) -> OverWrite<W>
@@ -83,7 +84,7 @@ impl<W: io::Write> OverWrite<W> {
         ensures call { self.new.calls ≡ Write bytes.now (result_ok result) ∷ self.old.calls }
         ensures made_with { self.new.made_with ≡ self.old.made_with }
     {
-        let written = self.writer.write(bytes);
+        let written = self.writer.traced_write(bytes);
         let taken = match &written {
             Ok(count) => Some(*count),
             Err(_) => None,
@@ -101,7 +102,7 @@ impl<W: io::Write> OverWrite<W> {
         ensures call { self.new.calls ≡ Flush (is_ok result) ∷ self.old.calls }
         ensures made_with { self.new.made_with ≡ self.old.made_with }
     {
-        let flushed = self.writer.flush();
+        let flushed = self.writer.traced_flush();
         self.calls = self.calls.with_call(&Call::Flush(flushed.is_ok()));
         if flushed.is_err() {
             self.failed = true;
@@ -118,7 +119,7 @@ impl<W: io::Write> OverWrite<W> {
     }
 }
 
-impl<W: io::Write + Debug> Debug for OverWrite<W> {
+impl<W: TracedWrite + Debug> Debug for OverWrite<W> {
     fn fmt<F: fmt::Write>(&self, f: &mut Formatter<F>) -> fmt::Result {
         f.debug_struct("OverWrite")
             .field("writer", &self.writer)
