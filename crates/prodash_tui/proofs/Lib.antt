@@ -8,7 +8,9 @@ pub mod ProperRows
 pub mod ProperGrids
 pub mod PlayedChanges
 pub mod PlayedFrames
+pub mod ShownScreens
 pub mod SpelledSigns
 pub mod WorkedSigns
 pub mod WorkedDisplays
+pub mod WorkedScreens
 pub mod BorderCells

@@ -1,21 +1,22 @@
 -- What a display shows after the signs of changes.
-use Rattle.std.proofs.Common.{◌≡◌, ℕ, zero, suc, ◌+◌, ◌-◌, ◌<◌, ◌≤◌, Bool, true, false, cond, ◌&&◌, nat_eq, Option, Some, None, List, [], ◌∷◌, ◌++◌, length, map, set, get_or, take, drop, refl, sym, ap, subst, ◌∙◌, append_assoc, append-nil, arith}
+use Rattle.std.proofs.Common.{◌≡◌, ℕ, zero, suc, ◌+◌, ◌-◌, ◌<◌, ◌≤◌, Bool, true, false, cond, ◌&&◌, nat_eq, nat_lt, Option, Some, None, List, [], ◌∷◌, ◌++◌, length, map, set, get_or, drop, refl, sym, ap, subst, ◌∙◌, append_assoc, append-nil, arith}
 use Rattle.std.specs.Prelude.{min, ⊤}
 use Rattle.std.specs.List.{AllByRecursion}
 use Rattle.std.proofs.lemmas.Bool.{and_parts}
+use Rattle.std.proofs.lemmas.Bool.Decides.{nat_tests}
 use Rattle.std.proofs.lemmas.List.{get_or_at, get_or-append-add, get_or-set_same, length-set, set-get_or, set-set, set_at}
 use Rattle.prodash_tui.specs.declared.cell.Cell.{Cell}
 use Rattle.prodash_tui.specs.declared.cell.Cell.TheVariants.{Holds, Half}
 use Rattle.prodash_tui.specs.declared.cursor.Cursor.{Cursor}
 use Rattle.prodash_tui.specs.declared.sign.Sign.{Sign}
-use Rattle.prodash_tui.specs.declared.sign.Sign.TheVariants.{Char, MoveTo, SetStyle, EraseScreen}
+use Rattle.prodash_tui.specs.declared.sign.Sign.TheVariants.{Char, MoveTo, SetStyle}
 use Rattle.prodash_tui.specs.declared.style.Style.{Style}
 use Rattle.prodash_tui.specs.Cells.{blank_cell, cell_at, is_half, same_style}
 use Rattle.prodash_tui.specs.Rows.{front, healed, splice}
 use Rattle.prodash_tui.specs.Texts.{cells_with, cut}
 use Rattle.prodash_tui.specs.Grids.{Sheet}
 use Rattle.prodash_tui.specs.Differences.{redrawn}
-use Rattle.prodash_tui.specs.Displays.{Display, after_char, after_sign, after_signs, first_half, in_cursor_row, join_before, more_joined, with_written}
+use Rattle.prodash_tui.specs.Displays.{Display, after_char, after_sign, after_signs, at_next_row, goes_on, in_cursor_row, join_before, more_joined, with_wrapped, with_written}
 use Rattle.prodash_tui.specs.Frames.{change_signs, cursor_behind, is_at, motion, row_cursor, row_signs, style_change}
 use Rattle.prodash_base.specs.plumbing.EqualityTests.{numbers, sound}
 use Rattle.prodash_tui.specs.plumbing.SameCells.{styles}
@@ -107,19 +108,32 @@ char_cells style false (suc zero) c is = refl
 char_cells style false (suc (suc n)) c is = absurd (omega arith)
 
 -- a display with these cells in a row, and the cursor behind them
-abbrev written_at : ℕ → ℕ → ℕ → List Cell → Style → Sheet → Display
-written_at row column n cells style g = record { grid = record g { rows = set g.rows row cells }; cursor = record { row = row; column = column + n; style = style } }
+abbrev written_at : ℕ → ℕ → ℕ → List Cell → Style → Display → Display
+written_at row column n cells style d =
+    record d { grid = record d.grid { rows = set d.grid.rows row cells }; cursor = record { row = row; column = column + n; style = style } }
+
+and_false : (b : Bool) → (b && false) ≡ false
+and_false true = refl
+and_false false = refl
+
+-- cells that have room at the cursor are written there
+stays_in_row : (new : List Cell) (d : Display) → d.cursor.column + length new ≤ d.grid.width → with_wrapped new d ≡ with_written new d
+stays_in_row new d fits =
+    let room : nat_lt d.grid.width (d.cursor.column + length new) ≡ false = grind (arith, nat_tests) in
+    let stays : goes_on new d ≡ false = ap (λ (b : Bool). d.wraps && b) room ∙ and_false d.wraps in
+    ap (λ (b : Bool). with_written new (cond b (at_next_row d) d)) stays
 
 char_written : (w : Bool) (n c : ℕ) (d : Display) → IsWide w n → d.cursor.column + (suc (length (half w))) ≤ d.grid.width
     → after_char n c d
-    ≡ written_at d.cursor.row d.cursor.column (suc (length (half w))) (splice d.cursor.column (Holds c [] d.cursor.style ∷ half w) (get_or d.grid.rows d.cursor.row [])) d.cursor.style d.grid
+    ≡ written_at d.cursor.row d.cursor.column (suc (length (half w))) (splice d.cursor.column (Holds c [] d.cursor.style ∷ half w) (get_or d.grid.rows d.cursor.row [])) d.cursor.style d
 char_written true zero c d is fits = absurd (omega arith)
 char_written false zero c d is fits = absurd (omega arith)
 char_written w (suc n) c d is fits =
     let new = Holds c [] d.cursor.style ∷ half w in
     let x : min d.cursor.column (d.grid.width - length new) ≡ d.cursor.column = omega arith in
-    ap (λ (cells : List Cell). with_written (cut d.grid.width cells) d) (char_cells d.cursor.style w (suc n) c is)
-    ∙ ap (λ (cells : List Cell). with_written cells d) (cut_all d.grid.width new (omega arith))
+    ap (λ (cells : List Cell). with_wrapped (cut d.grid.width cells) d) (char_cells d.cursor.style w (suc n) c is)
+    ∙ ap (λ (cells : List Cell). with_wrapped cells d) (cut_all d.grid.width new (omega arith))
+    ∙ stays_in_row new d fits
     ∙ ap (λ (m : ℕ). record (in_cursor_row (splice m new) d) { cursor = record d.cursor { column = m + length new } }) x
 
 -- a character joins one behind others
@@ -144,37 +158,37 @@ joined_row true p rest c done style j n at =
     ∙ ap (λ (h : Cell). set row n (more_joined j h)) cell
     ∙ set_at p a (Half ∷ rest) (Holds c (done ++ j ∷ []) style) n at
 
-abbrev with_joined : Bool → ℕ → List ℕ → Style → ℕ → ℕ → List Cell → Sheet → Display
-with_joined w c js style row column cells g = written_at row column (suc (length (half w))) (splice column (Holds c js style ∷ half w) cells) style g
+abbrev with_joined : Bool → ℕ → List ℕ → Style → ℕ → ℕ → List Cell → Display → Display
+with_joined w c js style row column cells d = written_at row column (suc (length (half w))) (splice column (Holds c js style ∷ half w) cells) style d
 
 -- a display with these rows
-abbrev written_at_rows : ℕ → ℕ → List (List Cell) → Style → Sheet → Display
-written_at_rows row column rows style g = record { grid = record g { rows = rows }; cursor = record { row = row; column = column; style = style } }
+abbrev written_at_rows : ℕ → ℕ → List (List Cell) → Style → Display → Display
+written_at_rows row column rows style d = record d { grid = record d.grid { rows = rows }; cursor = record { row = row; column = column; style = style } }
 
 -- one character of no column behind the one that was written
-join_one : (columns : ℕ → ℕ) (w : Bool) (c : ℕ) (style : Style) (row column : ℕ) (cells : List Cell) (g : Sheet) (done : List ℕ) (j : ℕ)
-    → columns j ≡ 0 → column ≤ length cells → row < length g.rows
-    → after_sign columns (Char j) (with_joined w c done style row column cells g) ≡ with_joined w c (done ++ j ∷ []) style row column cells g
-join_one columns w c style row column cells g done j none fits inside =
-    let d = with_joined w c done style row column cells g in
+join_one : (columns : ℕ → ℕ) (w : Bool) (c : ℕ) (style : Style) (row column : ℕ) (cells : List Cell) (e : Display) (done : List ℕ) (j : ℕ)
+    → columns j ≡ 0 → column ≤ length cells → row < length e.grid.rows
+    → after_sign columns (Char j) (with_joined w c done style row column cells e) ≡ with_joined w c (done ++ j ∷ []) style row column cells e
+join_one columns w c style row column cells e done j none fits inside =
+    let d = with_joined w c done style row column cells e in
     let new = splice column (Holds c done style ∷ half w) cells in
     let rest = healed (drop (column + length (Holds c done style ∷ half w)) cells) in
     let at = column + (suc (length (half w))) in
     ap (λ (n : ℕ). after_char n j d) none
-    ∙ ap (λ (r : List Cell). written_at_rows row at (set (set g.rows row new) row (join_before at j r)) style g) (get_or-set_same g.rows row new [] inside)
-    ∙ ap (λ (r : List Cell). written_at_rows row at (set (set g.rows row new) row r) style g)
+    ∙ ap (λ (r : List Cell). written_at_rows row at (set (set e.grid.rows row new) row (join_before at j r)) style e) (get_or-set_same e.grid.rows row new [] inside)
+    ∙ ap (λ (r : List Cell). written_at_rows row at (set (set e.grid.rows row new) row r) style e)
     (joined_row w (front column cells) rest c done style j column (length-front column cells fits))
-    ∙ ap (λ (rs : List (List Cell)). written_at_rows row at rs style g) (set-set g.rows row new (splice column (Holds c (done ++ j ∷ []) style ∷ half w) cells))
+    ∙ ap (λ (rs : List (List Cell)). written_at_rows row at rs style e) (set-set e.grid.rows row new (splice column (Holds c (done ++ j ∷ []) style ∷ half w) cells))
 
 -- all of them
-join_all : (columns : ℕ → ℕ) (w : Bool) (c : ℕ) (style : Style) (row column : ℕ) (cells : List Cell) (g : Sheet) (js done : List ℕ)
-    → Join columns js → column ≤ length cells → row < length g.rows
-    → after_signs columns (map Char js) (with_joined w c done style row column cells g) ≡ with_joined w c (done ++ js) style row column cells g
-join_all columns w c style row column cells g [] done join fits inside = ap (λ (ks : List ℕ). with_joined w c ks style row column cells g) (sym (append-nil done))
-join_all columns w c style row column cells g (j ∷ js) done join fits inside =
-    ap (after_signs columns (map Char js)) (join_one columns w c style row column cells g done j join.0 fits inside)
-    ∙ join_all columns w c style row column cells g js (done ++ j ∷ []) join.1 fits inside
-    ∙ ap (λ (ks : List ℕ). with_joined w c ks style row column cells g) (append_assoc done (j ∷ []) js)
+join_all : (columns : ℕ → ℕ) (w : Bool) (c : ℕ) (style : Style) (row column : ℕ) (cells : List Cell) (e : Display) (js done : List ℕ)
+    → Join columns js → column ≤ length cells → row < length e.grid.rows
+    → after_signs columns (map Char js) (with_joined w c done style row column cells e) ≡ with_joined w c (done ++ js) style row column cells e
+join_all columns w c style row column cells e [] done join fits inside = ap (λ (ks : List ℕ). with_joined w c ks style row column cells e) (sym (append-nil done))
+join_all columns w c style row column cells e (j ∷ js) done join fits inside =
+    ap (after_signs columns (map Char js)) (join_one columns w c style row column cells e done j join.0 fits inside)
+    ∙ join_all columns w c style row column cells e js (done ++ j ∷ []) join.1 fits inside
+    ∙ ap (λ (ks : List ℕ). with_joined w c ks style row column cells e) (append_assoc done (j ∷ []) js)
 
 -- ---- changes
 
@@ -193,7 +207,7 @@ pub record IsReady (row : ℕ) (k : Option Cursor) (d : Display) : Type 0 where
 
 change_played : (columns : ℕ → ℕ) (w : Bool) (c : ℕ) (js : List ℕ) (style : Style) (row column : ℕ) (k : Option Cursor) (d : Display)
     → IsWide w (columns c) → Join columns js → IsReady row k d → column + (suc (length (half w))) ≤ d.grid.width
-    → after_signs columns (change_signs row column (Holds c js style ∷ half w) k) d ≡ with_joined w c js style row column (get_or d.grid.rows row []) d.grid
+    → after_signs columns (change_signs row column (Holds c js style ∷ half w) k) d ≡ with_joined w c js style row column (get_or d.grid.rows row []) d
 change_played columns w c js style row column k d is join ready fits =
     let styling = style_change style k in
     let text = Char c ∷ map Char js in
@@ -204,7 +218,7 @@ change_played columns w c js style row column k d is join ready fits =
     ∙ after_append columns styling text there
     ∙ ap (after_signs columns text) (styled columns style k there (knows_style k d row column ready.knows))
     ∙ ap (after_signs columns (map Char js)) (char_written w (columns c) c (styled_by style there) is fits)
-    ∙ join_all columns w c style row column (get_or d.grid.rows row []) d.grid js [] join (omega arith) ready.inside
+    ∙ join_all columns w c style row column (get_or d.grid.rows row []) d js [] join (omega arith) ready.inside
 
 -- what a change leaves
 pub record IsDrawn (row : ℕ) (cells : List Cell) (k : Option Cursor) (g : Sheet) (d : Display) : Type 0 where

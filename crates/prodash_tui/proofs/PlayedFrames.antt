@@ -1,6 +1,6 @@
 -- What a display shows after a frame.
-use Rattle.std.proofs.Common.{◌≡◌, ℕ, zero, suc, ◌+◌, ◌<◌, ◌≤◌, Bool, true, false, cond, ◌||◌, Option, None, List, [], ◌∷◌, ◌++◌, length, set, get_or, replicate, refl, sym, ap, subst, ◌∙◌, append_assoc, arith}
-use Rattle.std.specs.List.{All, AllByRecursion}
+use Rattle.std.proofs.Common.{◌≡◌, ℕ, ◌+◌, ◌≤◌, Bool, true, false, cond, ◌||◌, Option, None, List, [], ◌∷◌, ◌++◌, length, set, get_or, refl, sym, ap, subst, ◌∙◌, append_assoc, arith}
+use Rattle.std.specs.List.{AllByRecursion}
 use Rattle.std.proofs.lemmas.List.{get_or_at, length-append, length_push, set_at}
 use Rattle.std.proofs.lemmas.List.Elements.{recursion_from_All}
 use Rattle.prodash_tui.specs.declared.cell.Cell.{Cell}
@@ -8,12 +8,11 @@ use Rattle.prodash_tui.specs.declared.cell.Cell.TheVariants.{Holds, Half}
 use Rattle.prodash_tui.specs.declared.cursor.Cursor.{Cursor}
 use Rattle.prodash_tui.specs.declared.sign.Sign.{Sign}
 use Rattle.prodash_tui.specs.declared.sign.Sign.TheVariants.{SetStyle, EraseScreen}
-use Rattle.prodash_tui.specs.declared.style.Style.{Style}
-use Rattle.prodash_tui.specs.Cells.{blank_cell, blank_cells, plain, same_cell}
-use Rattle.prodash_tui.specs.Grids.{Sheet, IsSheet, blank_sheet}
+use Rattle.prodash_tui.specs.Cells.{plain, same_cell}
+use Rattle.prodash_tui.specs.Grids.{Sheet, blank_sheet}
 use Rattle.prodash_tui.specs.Differences.{IsProper, IsProperSheet, half_of, redrawn, row_changes}
-use Rattle.prodash_tui.specs.Displays.{Display, after_signs, erased}
-use Rattle.prodash_tui.specs.Frames.{DrawsFirst, DrawsNext, HaveOneSize, changes_of, difference, first_frame, row_cursor, row_signs, rows_signs}
+use Rattle.prodash_tui.specs.Displays.{Display, after_signs}
+use Rattle.prodash_tui.specs.Frames.{DrawsFirst, DrawsNext, changes_of, difference, row_cursor, row_signs, rows_signs}
 use Rattle.prodash_base.specs.plumbing.EqualityTests.{sound}
 use Rattle.prodash_tui.specs.plumbing.SameCells as same
 use Rattle.prodash_tui.proofs.PlayedChanges.{Fit, IsCharacter, Knows, after_append, drawn_row}

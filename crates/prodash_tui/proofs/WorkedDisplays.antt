@@ -1,15 +1,14 @@
 -- What signs leave of a display, and the signs of frames, computed.
 use Rattle.std.proofs.Common.{◌≡◌, ℕ, cond, List, [], ◌∷◌, ◌++◌, map, refl, eqb}
-use Rattle.std.specs.Prelude.{None, Some, true, codes}
+use Rattle.std.specs.Prelude.{None, Some, true, false, codes}
 use Rattle.prodash_tui.specs.declared.cell.Cell.{Cell}
 use Rattle.prodash_tui.specs.declared.cell.Cell.TheVariants.{Holds, Half}
-use Rattle.prodash_tui.specs.declared.cursor.Cursor.{Cursor}
 use Rattle.prodash_tui.specs.declared.sign.Sign.{Sign}
-use Rattle.prodash_tui.specs.declared.sign.Sign.TheVariants.{Char, EraseScreen, MoveTo, SetStyle}
+use Rattle.prodash_tui.specs.declared.sign.Sign.TheVariants.{Char, EnterAlternate, EraseScreen, HideCursor, LeaveAlternate, MoveTo, NoWrap, SetStyle, ShowCursor, Wrap}
 use Rattle.prodash_tui.specs.declared.style.Color.TheVariants.{Red}
 use Rattle.prodash_tui.specs.declared.style.Style.{Style}
 use Rattle.prodash_tui.specs.Cells.{blank_cell, cell_of, plain}
-use Rattle.prodash_tui.specs.Grids.{Sheet, blank_sheet}
+use Rattle.prodash_tui.specs.Grids.{Sheet}
 use Rattle.prodash_tui.specs.Displays.{Display, after_signs}
 use Rattle.prodash_tui.specs.Frames.{difference, first_frame}
 
@@ -31,9 +30,19 @@ row text = map (cell_of plain) text
 abbrev grid : ℕ → List (List Cell) → Sheet
 grid height rows = record { width = 4; height = height; rows = rows }
 
--- a display of one row, with its cursor in this column
+-- a display of one row, with its cursor in this column, where characters don't wrap
 abbrev display : ℕ → List Cell → Display
-display column cells = record { grid = grid 1 (cells ∷ []); cursor = record { row = 0; column = column; style = plain } }
+display column cells = record {
+  grid = grid 1 (cells ∷ []);
+  cursor = record { row = 0; column = column; style = plain };
+  main = None;
+  shows_cursor = true;
+  wraps = false;
+}
+
+-- one of two rows, with its cursor in the last column of this row, where they wrap
+abbrev wrapping : ℕ → List (List Cell) → Display
+wrapping y rows = record (display 4 []) { grid = grid 2 rows; cursor = record { row = y; column = 3; style = plain }; wraps = true }
 
 abbrev after : List Sign → Display → Display
 after signs d = after_signs some_columns signs d
@@ -59,6 +68,41 @@ at_edge = refl
 -- the last column takes the next character, too
 pub past_edge : after (Char 97 ∷ Char 98 ∷ []) (display 3 (row (codes "wxyz"))) ≡ display 4 (row (codes "wxyb"))
 past_edge = refl
+
+-- where characters wrap, the next one goes to the next row, and so does a wide one that only one column is left for
+pub wrapped : after (Char 97 ∷ Char 98 ∷ []) (wrapping 0 (row (codes "wxyz") ∷ row (codes "qrst") ∷ []))
+    ≡ record (wrapping 1 (row (codes "wxya") ∷ row (codes "brst") ∷ [])) { cursor = record { row = 1; column = 1; style = plain } }
+wrapped = refl
+
+-- below the last row the rows move up
+pub wrapped_wide : after (Char 0x65E5 ∷ []) (wrapping 1 (row (codes "wxyz") ∷ row (codes "qrst") ∷ []))
+    ≡ record (wrapping 1 (row (codes "qrst") ∷ (cell_of plain 0x65E5 ∷ Half ∷ row (codes "  ")) ∷ [])) { cursor = record { row = 1; column = 2; style = plain } }
+wrapped_wide = refl
+
+-- the modes of the cursor and of wrapping
+pub modes : after (HideCursor ∷ Wrap ∷ []) (display 0 (row (codes "wxyz"))) ≡ record (display 0 (row (codes "wxyz"))) { shows_cursor = false; wraps = true }
+modes = refl
+
+pub modes_back : after (HideCursor ∷ Wrap ∷ ShowCursor ∷ NoWrap ∷ []) (display 0 (row (codes "wxyz"))) ≡ display 0 (row (codes "wxyz"))
+modes_back = refl
+
+-- the alternate screen begins blank, with the cursor where it was
+pub entered : after (EnterAlternate ∷ Char 97 ∷ []) (display 1 (row (codes "wxyz")))
+    ≡ record (display 2 (row (codes " a  "))) { main = Some (grid 1 (row (codes "wxyz") ∷ []), record { row = 0; column = 1; style = plain }) }
+entered = refl
+
+-- entered once more it is blank again, and the main screen is kept
+pub entered_twice : after (EnterAlternate ∷ Char 97 ∷ EnterAlternate ∷ []) (display 1 (row (codes "wxyz")))
+    ≡ record (display 2 (row (codes "    "))) { main = Some (grid 1 (row (codes "wxyz") ∷ []), record { row = 0; column = 1; style = plain }) }
+entered_twice = refl
+
+-- behind it the main screen is as it was, with its cursor and style
+pub left : after (EnterAlternate ∷ SetStyle bold ∷ Char 97 ∷ LeaveAlternate ∷ []) (display 1 (row (codes "wxyz"))) ≡ display 1 (row (codes "wxyz"))
+left = refl
+
+-- on the main screen there is nothing to leave
+pub not_left : after (LeaveAlternate ∷ []) (display 1 (row (codes "wxyz"))) ≡ display 1 (row (codes "wxyz"))
+not_left = refl
 
 -- a motion goes no further than the last row and column
 pub moved : (after (MoveTo 7 2 ∷ MoveTo 0 9 ∷ []) (display 0 (row (codes "wxyz")))).cursor ≡ record { row = 0; column = 3; style = plain }

@@ -1,7 +1,7 @@
 -- The signs of what has changed between two grids, and what a display shows after them.
-use Rattle.std.specs.Prelude.{◌≡◌, ℕ, ◌+◌, Bool, ◌&&◌, nat_eq, List, [], ◌∷◌, ◌++◌, length, map, Option, Some, None, ⊤, if◌then◌else◌}
+use Rattle.std.specs.Prelude.{◌≡◌, ℕ, ◌+◌, Bool, ◌&&◌, nat_eq, List, [], ◌∷◌, ◌++◌, length, map, Option, Some, None, if◌then◌else◌}
 use Rattle.prodash_tui.specs.declared.cell.Cell.{Cell}
-use Rattle.prodash_tui.specs.declared.cell.Cell.TheVariants.{Holds, Half}
+use Rattle.prodash_tui.specs.declared.cell.Cell.TheVariants.{Holds}
 use Rattle.prodash_tui.specs.declared.cursor.Cursor.{Cursor}
 use Rattle.prodash_tui.specs.declared.sign.Sign.{Sign}
 use Rattle.prodash_tui.specs.declared.sign.Sign.TheVariants.{Char, MoveTo, SetStyle, EraseScreen}

@@ -8,4 +8,5 @@ pub mod Differences
 pub mod Signs
 pub mod Displays
 pub mod Frames
+pub mod Screens
 pub mod plumbing

@@ -1,4 +1,4 @@
--- The bytes that spell signs: characters in UTF-8, control functions as in ECMA-48.
+-- The bytes that spell signs: characters in UTF-8, control functions as in ECMA-48, and the private modes of xterm.
 use Rattle.std.specs.Prelude.{ℕ, ◌+◌, List, [], ◌∷◌, ◌++◌, Option, Some, None, option_map}
 use Rattle.std.specs.Bool.{then_some}
 use Rattle.std.specs.List.{flat_map}
@@ -6,7 +6,7 @@ use Rattle.std.specs.Char.{encode_utf8}
 use Rattle.std.specs.Fmt.{decimal}
 use Rattle.prodash_line.specs.Signs.{sequence}
 use Rattle.prodash_tui.specs.declared.sign.Sign.{Sign}
-use Rattle.prodash_tui.specs.declared.sign.Sign.TheVariants.{Char, MoveTo, SetStyle, EraseScreen}
+use Rattle.prodash_tui.specs.declared.sign.Sign.TheVariants.{Char, MoveTo, SetStyle, EraseScreen, EnterAlternate, LeaveAlternate, HideCursor, ShowCursor, NoWrap, Wrap}
 use Rattle.prodash_tui.specs.declared.style.Color.{Color}
 use Rattle.prodash_tui.specs.declared.style.Color.TheVariants.{Black, Red, Green, Yellow, White, LightRed}
 use Rattle.prodash_tui.specs.declared.style.Style.{Style}
@@ -42,6 +42,12 @@ spelling_of (Char c) = encode_utf8 c
 spelling_of (MoveTo row column) = sequence (move_parameters row column) 72
 spelling_of (SetStyle style) = sequence (style_parameters style) 109
 spelling_of EraseScreen = sequence (50 ∷ []) 74
+spelling_of EnterAlternate = sequence (63 ∷ 49 ∷ 48 ∷ 52 ∷ 57 ∷ []) 104
+spelling_of LeaveAlternate = sequence (63 ∷ 49 ∷ 48 ∷ 52 ∷ 57 ∷ []) 108
+spelling_of HideCursor = sequence (63 ∷ 50 ∷ 53 ∷ []) 108
+spelling_of ShowCursor = sequence (63 ∷ 50 ∷ 53 ∷ []) 104
+spelling_of NoWrap = sequence (63 ∷ 55 ∷ []) 108
+spelling_of Wrap = sequence (63 ∷ 55 ∷ []) 104
 
 -- the bytes of a list of signs
 abbrev pub spelling : List Sign → List ℕ

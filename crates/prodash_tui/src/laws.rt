@@ -8,6 +8,7 @@ ghost use Rattle.prodash_tui.specs.declared.style.Style.{Style};
 ghost use Rattle.prodash_tui.specs.Differences.{AreRedrawn, IsProperSheet, KeepsProper, TellsApart};
 ghost use Rattle.prodash_tui.specs.Frames.{DrawsFirst, DrawsNext};
 ghost use Rattle.prodash_tui.specs.Grids.{blank_sheet, with_border, with_filling, with_shortened, with_text};
+ghost use Rattle.prodash_tui.specs.Screens.{DrawsEntered, DrawsFrames, Restores, RestoresFrames};
 ghost use Rattle.prodash_tui.specs.Outside.{ShowsFillings, ShowsShortened, ShowsTexts, StaysInside};
 
 /// The first row of the rectangle shows the text from the left edge on, cut at the right one. No
@@ -60,4 +61,21 @@ pub fn redrawn()
 pub fn frames()
     ensures next { (columns : ℕ → ℕ) → DrawsNext columns }
     ensures first { (columns : ℕ → ℕ) → columns 32 ≡ 1 → DrawsFirst columns }
+{}
+
+/// After each frame of a screen, a display of its size shows exactly the grid of that frame: if it
+/// showed the one before, and whatever it showed if the frame is written whole. It does so after it
+/// has entered the alternate screen, whatever it showed before. The grids are proper ones, and this
+/// holds of any function from characters to columns that gives a space one.
+pub fn drawn()
+    ensures frames { (columns : ℕ → ℕ) → columns 32 ≡ 1 → DrawsFrames columns }
+    ensures entered { (columns : ℕ → ℕ) → columns 32 ≡ 1 → DrawsEntered columns }
+{}
+
+/// A display that has entered the alternate screen and left it is as it was before, with its cursor
+/// shown and wrapping on: after any frames, and after any signs that neither enter nor leave a
+/// screen.
+pub fn restored()
+    ensures signs { (columns : ℕ → ℕ) → Restores columns }
+    ensures frames { (columns : ℕ → ℕ) → RestoresFrames columns }
 {}

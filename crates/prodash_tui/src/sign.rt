@@ -23,6 +23,18 @@ pub enum Sign {
     SetStyle(Style),
     /// ED, `CSI 2 J`: blanks all cells.
     EraseScreen,
+    /// `CSI ? 1049 h`: shows the alternate screen, blank. The main one is kept with its cursor.
+    EnterAlternate,
+    /// `CSI ? 1049 l`: shows the main screen with the cursor that it had.
+    LeaveAlternate,
+    /// `CSI ? 25 l`: hides the cursor.
+    HideCursor,
+    /// `CSI ? 25 h`: shows the cursor.
+    ShowCursor,
+    /// DECAWM reset, `CSI ? 7 l`: a character past the last column goes into the last columns.
+    NoWrap,
+    /// DECAWM, `CSI ? 7 h`: a character past the last column goes to the next row.
+    Wrap,
 }
 
 /// Returns the number of a colour among the codes of SGR.
@@ -117,6 +129,23 @@ pub(crate) fn push_sign(out: &mut Vec<u8>, sign: Sign) -> Result<(), AllocError>
             out.push(b'm')?;
         }
         Sign::EraseScreen => out.extend_from_slice(b"\x1b[2J")?,
+        Sign::EnterAlternate => out.extend_from_slice(b"\x1b[?1049h")?,
+        Sign::LeaveAlternate => out.extend_from_slice(b"\x1b[?1049l")?,
+        Sign::HideCursor => out.extend_from_slice(b"\x1b[?25l")?,
+        Sign::ShowCursor => out.extend_from_slice(b"\x1b[?25h")?,
+        Sign::NoWrap => out.extend_from_slice(b"\x1b[?7l")?,
+        Sign::Wrap => out.extend_from_slice(b"\x1b[?7h")?,
+    }
+    Ok(())
+}
+
+/// Appends the bytes of signs. Fails if out of memory.
+pub(crate) fn push_signs(out: &mut Vec<u8>, signs: &[Sign]) -> Result<(), AllocError>
+    ensures ok { OnOk result (out.new.items ≡ out.old.items ++ spelling signs.now) }
+    ensures kept { IsPrefix out.old.items out.new.items }
+{
+    for sign in signs {
+        push_sign(out, *sign)?;
     }
     Ok(())
 }
@@ -129,8 +158,6 @@ pub fn spell(alloc: Global, signs: &[Sign]) -> Result<Vec<u8>, Refusal>
     ensures reason { IsOkUnless result Refusal.Memory }
 {
     let mut out = Vec::new(alloc);
-    for sign in signs {
-        push_sign(&mut out, *sign)?;
-    }
+    push_signs(&mut out, signs)?;
     Ok(out)
 }
