@@ -1,17 +1,21 @@
 -- The bytes of lists of signs, and the signs of what is left of a grid.
-use Rattle.std.proofs.Common.{◌≡◌, ℕ, zero, suc, ◌+◌, ◌<◌, ◌≤◌, Bool, true, false, cond, ◌||◌, Option, List, [], ◌∷◌, ◌++◌, length, get_or, map, take, drop, inl, inr, refl, sym, ap, ◌∙◌, append_assoc, arith}
-use Rattle.std.specs.Prelude.{min}
+use Rattle.std.proofs.Common.{◌≡◌, ℕ, ◌+◌, ◌<◌, Bool, true, false, cond, ◌||◌, Option, None, List, [], ◌∷◌, ◌++◌, length, get_or, map, drop, inl, inr, refl, sym, ap, ◌∙◌, append_assoc, arith}
+use Rattle.std.specs.Prelude.{min, replicate}
+use Rattle.std.specs.List.{AllByRecursion}
 use Rattle.std.proofs.lemmas.Bool.{cases_lt}
-use Rattle.std.proofs.lemmas.List.{drop_all, drop_more, map_more}
+use Rattle.std.proofs.lemmas.List.{drop_all, drop_more, get_or-map, get_or-replicate, length-map, length-replicate}
+use Rattle.std.proofs.lemmas.List.Elements.{recursion_from_All}
 use Rattle.prodash_tui.specs.declared.cell.Cell.{Cell}
 use Rattle.prodash_tui.specs.declared.cell.Cell.TheVariants.{Holds, Half}
 use Rattle.prodash_tui.specs.declared.cursor.Cursor.{Cursor}
 use Rattle.prodash_tui.specs.declared.sign.Sign.{Sign}
-use Rattle.prodash_tui.specs.Cells.{blank_cell, cell_at, is_half, same_cell}
+use Rattle.prodash_tui.specs.declared.sign.Sign.TheVariants.{EraseScreen, SetStyle}
+use Rattle.prodash_tui.specs.Cells.{blank_cell, blank_cells, cell_at, is_half, plain, same_cell}
+use Rattle.prodash_tui.specs.Grids.{IsSheet, Sheet}
 use Rattle.prodash_tui.specs.Signs.{spelling, spelling_of}
 use Rattle.prodash_tui.specs.Differences.{half_of, row_changes}
-use Rattle.prodash_tui.specs.Frames.{change_signs, changes_of, cursor_behind, row_cursor, row_signs, rows_signs}
-use Rattle.prodash_tui.specs.plumbing.Appended.{cursor_past, signs_at}
+use Rattle.prodash_tui.specs.Frames.{change_signs, changes_of, cursor_behind, first_frame, row_cursor, row_signs, rows_signs}
+use Rattle.prodash_tui.specs.plumbing.Appended.{blank_like, cursor_past, first_signs, signs_at}
 
 pub spelling-append : (a b : List Sign) → spelling (a ++ b) ≡ spelling a ++ spelling b
 spelling-append [] b = refl
@@ -118,3 +122,57 @@ no_rows_left y old new cursor end = elim (cases_lt (length old) (length new)) [
   | inl shorter ↦ ap (λ (rows : List (List Cell)). rows_signs y rows (drop y new) cursor) (drop_all y old (omega arith))
   | inr longer ↦ ap (λ (rows : List (List Cell)). rows_signs y (drop y old) rows cursor) (drop_all y new (omega arith)) ∙ no_rows_of y (drop y old) cursor
 ]
+
+-- ---- what is left of a grid over blank cells
+
+-- a cell of a blank row
+pub blank_at : (new : List Cell) (k : ℕ) → k < length new → cell_at (blank_like new) k ≡ blank_cell
+blank_at new k inside = get_or-replicate (length new) k blank_cell blank_cell inside
+
+pub length-blank_like : (new : List Cell) → length (blank_like new) ≡ length new
+length-blank_like new = length-replicate (length new) blank_cell
+
+pub none_over_blank : (k : ℕ) (new : List Cell) → k ≡ length new → left k (blank_like new) new ≡ []
+none_over_blank k new end = none_left k (blank_like new) new (let e : k ≡ min (length (blank_like new)) (length new) = omega (arith, length-blank_like new) in e)
+
+pub rows_over_blank : (y : ℕ) (new : List (List Cell)) (cursor : Option Cursor) → y < length new
+    → rows_signs y (drop y (map blank_like new)) (drop y new) cursor
+    ≡ row_signs y (changes_of (blank_like (get_or new y [])) (get_or new y [])) cursor
+    ++ rows_signs (y + 1) (drop (y + 1) (map blank_like new)) (drop (y + 1) new) (row_cursor y (changes_of (blank_like (get_or new y [])) (get_or new y [])) cursor)
+rows_over_blank y new cursor inside =
+    let row = get_or new y [] in
+    let rest = drop (y + 1) (map blank_like new) in
+    let blank : get_or (map blank_like new) y [] ≡ blank_like row = get_or-map blank_like new y [] [] inside in
+    rows_left y (map blank_like new) new cursor (omega (arith, length-map new blank_like)) inside
+    ∙ ap (λ (cells : List Cell). row_signs y (changes_of cells row) cursor ++ rows_signs (y + 1) rest (drop (y + 1) new) (row_cursor y (changes_of cells row) cursor)) blank
+
+-- the bytes after one more row
+pub rows_more_over_blank : (y : ℕ) (row : List Cell) (new : List (List Cell)) (before after all : List ℕ) (cursor next : Option Cursor) → y < length new → get_or new y [] ≡ row
+    → after ≡ before ++ spelling (row_signs y (changes_of (blank_like row) row) cursor) → next ≡ row_cursor y (changes_of (blank_like row) row) cursor
+    → before ++ spelling (rows_signs y (drop y (map blank_like new)) (drop y new) cursor) ≡ all
+    → after ++ spelling (rows_signs (y + 1) (drop (y + 1) (map blank_like new)) (drop (y + 1) new) next) ≡ all
+rows_more_over_blank y row new before after all cursor next inside is bytes moves so_far =
+    let signs = λ (r : List Cell). row_signs y (changes_of (blank_like r) r) cursor in
+    let rest = λ (k : Option Cursor). rows_signs (y + 1) (drop (y + 1) (map blank_like new)) (drop (y + 1) new) k in
+    let behind = λ (r : List Cell). row_cursor y (changes_of (blank_like r) r) cursor in
+    ap (λ (k : Option Cursor). after ++ spelling (rest k)) moves
+    ∙ ap (λ (bs : List ℕ). bs ++ spelling (rest (behind row))) bytes
+    ∙ spelled_more before (signs row) (rest (behind row))
+    ∙ ap (λ (r : List Cell). before ++ spelling (signs r ++ rest (behind r))) (sym is)
+    ∙ ap (λ (all_signs : List Sign). before ++ spelling all_signs) (sym (rows_over_blank y new cursor inside))
+    ∙ so_far
+
+pub no_rows_over_blank : (y : ℕ) (new : List (List Cell)) (cursor : Option Cursor) → y ≡ length new → rows_signs y (drop y (map blank_like new)) (drop y new) cursor ≡ []
+no_rows_over_blank y new cursor end =
+    no_rows_left y (map blank_like new) new cursor (let e : y ≡ min (length (map blank_like new)) (length new) = omega (arith, length-map new blank_like) in e)
+
+-- blank rows as wide as those of a grid are those of a blank grid
+blank_rows : (width : ℕ) (rows : List (List Cell)) → AllByRecursion (λ row. length row ≡ width) rows → map blank_like rows ≡ replicate (length rows) (blank_cells width)
+blank_rows width [] wide = refl
+blank_rows width (row ∷ rows) wide = λ i. blank_cells (wide.0 i) ∷ blank_rows width rows wide.1 i
+
+pub over_blank_grid : (g : Sheet) → IsSheet g → first_signs g.rows ≡ first_frame g
+over_blank_grid g is =
+    let rows = blank_rows g.width g.rows (recursion_from_All (λ (row : List Cell). length row ≡ g.width) g.rows is.each) in
+    ap (λ (blank : List (List Cell)). SetStyle plain ∷ EraseScreen ∷ rows_signs 0 blank g.rows None)
+    (rows ∙ ap (λ (n : ℕ). replicate n (blank_cells g.width)) is.high)

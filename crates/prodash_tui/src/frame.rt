@@ -7,16 +7,16 @@ ghost use Rattle.prodash_base.specs.Appending.{IsPrefix};
 ghost use Rattle.prodash_tui.specs.Cells.{plain};
 ghost use Rattle.prodash_tui.specs.Frames.{difference, first_frame, motion, rows_signs, style_change};
 ghost use Rattle.prodash_tui.specs.declared.sign.Sign.TheVariants.{Char};
-ghost use Rattle.prodash_tui.specs.plumbing.Appended.{AreCounted, Spells, cursor_past, cursor_past_row, first_signs, signs_at, signs_of_row};
+ghost use Rattle.prodash_tui.specs.plumbing.Appended.{AreCounted, Spells, blank_like, cursor_past, cursor_past_row, first_signs, signs_at, signs_of_row};
 
 use crate::cell::Cell;
 use crate::cursor::Cursor;
 use crate::grid::Grid;
-use crate::row::Row;
+use crate::row::{Row, blank_cell};
 use crate::sign::{Sign, push_sign};
 use crate::style::{Style, same_style};
 use prodash_base::Refusal;
-use std::alloc::{AllocError, Global};
+use std::alloc::AllocError;
 
 /// Appends a motion to a row and column, unless the cursor is known to be there.
 fn push_motion(
@@ -138,20 +138,55 @@ fn push_rows(out: &mut Vec<u8>, old: &[Row], new: &[Row]) -> Result<(), AllocErr
     Ok(())
 }
 
-/// Appends what erases a display, and then the characters of rows that aren't those of blank ones.
-fn push_first_rows(out: &mut Vec<u8>, blank: &[Row], new: &[Row]) -> Result<(), AllocError>
+/// Appends the characters of row `y` that aren't blank cells.
+fn push_row_over_blank(
+    out: &mut Vec<u8>,
+    y: u16,
+    new: &[Cell],
+    cursor: &mut Option<Cursor>,
+) -> Result<(), AllocError>
+    requires { length new.now < 2 ^ 16 }
+    ensures ok { Spells result out.old.items
+        (signs_of_row y (blank_like new.now) new.now cursor.old) out.new.items }
+    ensures cursor { OnOk result
+        (cursor.new ≡ cursor_past_row y (blank_like new.now) new.now cursor.old) }
+    ensures kept { IsPrefix out.old.items out.new.items }
+{
+    let blank = blank_cell();
+    for k in 0..new.len() {
+        push_changed(out, y, k as u16, &blank, &new[k..], cursor)?;
+    }
+    Ok(())
+}
+
+/// Appends the characters of rows that aren't blank cells.
+fn push_rows_over_blank(out: &mut Vec<u8>, new: &[Row]) -> Result<(), AllocError>
     requires { AreCounted new.now }
-    ensures ok { Spells result out.old.items (first_signs blank.now new.now) out.new.items }
+    ensures ok { Spells result out.old.items (rows_signs 0 (map blank_like new.now) new.now None)
+        out.new.items }
+    ensures kept { IsPrefix out.old.items out.new.items }
+{
+    let mut cursor = None;
+    for y in 0..new.len() {
+        push_row_over_blank(out, y as u16, new[y].as_slice(), &mut cursor)?;
+    }
+    Ok(())
+}
+
+/// Appends what erases a display, and then the characters of rows that aren't blank cells.
+fn push_first_rows(out: &mut Vec<u8>, new: &[Row]) -> Result<(), AllocError>
+    requires { AreCounted new.now }
+    ensures ok { Spells result out.old.items (first_signs new.now) out.new.items }
     ensures kept { IsPrefix out.old.items out.new.items }
 {
     push_sign(out, Sign::SetStyle(Style::new()))?;
     push_sign(out, Sign::EraseScreen)?;
-    push_rows(out, blank, new)
+    push_rows_over_blank(out, new)
 }
 
 /// Truncates the buffer to the length that it had before a call that appended to it, if that call
 /// was refused. Returns what the call returned.
-fn undo_if_refused(
+pub(crate) fn undo_if_refused(
     out: &mut Vec<u8>,
     length: usize,
     appended: Result<(), AllocError>,
@@ -184,14 +219,13 @@ pub fn push_difference(before: &Grid, after: &Grid, out: &mut Vec<u8>) -> Result
 /// Appends the bytes that erase a display of the grid's size, whatever it shows, and draw the grid.
 ///
 /// `Memory`: out of memory. The buffer is then as it was.
-pub fn push_first(alloc: Global, after: &Grid, out: &mut Vec<u8>) -> Result<(), Refusal>
+pub fn push_first(after: &Grid, out: &mut Vec<u8>) -> Result<(), Refusal>
     ensures ok { Spells result out.old.items (first_frame after.now) out.new.items }
     ensures err { OnErr result (out.new.items ≡ out.old.items) }
     ensures reason { IsOkUnless result Refusal.Memory }
 {
-    let blank = Grid::new(alloc, after.width(), after.height())?;
     let length = out.len();
-    let appended = push_first_rows(out, blank.rows(), after.rows());
+    let appended = push_first_rows(out, after.rows());
     undo_if_refused(out, length, appended)?;
     Ok(())
 }

@@ -2,7 +2,7 @@
 ghost use Rattle.std.specs.Prelude.{◌≡◌, ◌+◌, ◌-◌, ◌<◌, ◌≤◌, ◌^◌, length, replicate, IfOk, IsOkUnless, MatchOption};
 ghost use Rattle.std.specs.List.{All};
 ghost use Rattle.prodash_tui.specs.Cells.{blank_cells};
-ghost use Rattle.prodash_tui.specs.Grids.{IsRow, blank_sheet, left_of, room_of, with_border, with_filling, with_shortened, with_text};
+ghost use Rattle.prodash_tui.specs.Grids.{IsRow, IsSheet, blank_sheet, left_of, room_of, with_border, with_filling, with_shortened, with_text};
 ghost use Rattle.prodash_tui.specs.plumbing.Appended.{AreCounted};
 ghost use Rattle.prodash_tui.specs.plumbing.GridInside.{filled_rows};
 
@@ -124,6 +124,7 @@ impl Grid {
     pub(crate) fn rows(&self) -> &[Row]
         ensures rows { result.now ≡ self.now.rows }
         ensures counted { AreCounted result.now }
+        ensures sheet { IsSheet self.now }
     {
         self.rows.as_slice()
     }

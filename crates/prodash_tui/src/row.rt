@@ -47,7 +47,7 @@ fn cell_of(c: char, style: Style) -> Cell
 }
 
 /// Returns a blank cell.
-fn blank_cell() -> Cell
+pub(crate) fn blank_cell() -> Cell
     ensures { result ≡ blank_cell }
 {
     cell_of(' ', Style::new())

@@ -1,11 +1,11 @@
 -- What is appended for a part of a grid.
-use Rattle.std.specs.Prelude.{◌≡◌, ℕ, ◌^◌, ◌<◌, List, [], ◌∷◌, ◌++◌, length, Option, None, Result, OnOk, if◌then◌else◌}
+use Rattle.std.specs.Prelude.{◌≡◌, ℕ, ◌^◌, ◌<◌, List, [], ◌∷◌, ◌++◌, length, map, Option, None, Result, OnOk, if◌then◌else◌}
 use Rattle.std.specs.List.{All}
 use Rattle.prodash_tui.specs.declared.cell.Cell.{Cell}
 use Rattle.prodash_tui.specs.declared.cursor.Cursor.{Cursor}
 use Rattle.prodash_tui.specs.declared.sign.Sign.{Sign}
 use Rattle.prodash_tui.specs.declared.sign.Sign.TheVariants.{EraseScreen, SetStyle}
-use Rattle.prodash_tui.specs.Cells.{plain, same_cell}
+use Rattle.prodash_tui.specs.Cells.{blank_cells, plain, same_cell}
 use Rattle.prodash_tui.specs.Differences.{half_of}
 use Rattle.prodash_tui.specs.Frames.{change_signs, changes_of, cursor_behind, row_cursor, row_signs, rows_signs}
 use Rattle.prodash_tui.specs.Signs.{spelling}
@@ -28,9 +28,13 @@ signs_of_row row old new cursor = row_signs row (changes_of old new) cursor
 abbrev pub cursor_past_row : ℕ → List Cell → List Cell → Option Cursor → Option Cursor
 cursor_past_row row old new cursor = row_cursor row (changes_of old new) cursor
 
--- what erases a display, and then the signs of what is new in rows
-abbrev pub first_signs : List (List Cell) → List (List Cell) → List Sign
-first_signs blank new = SetStyle plain ∷ EraseScreen ∷ rows_signs 0 blank new None
+-- as many blank cells as these
+abbrev pub blank_like : List Cell → List Cell
+blank_like cells = blank_cells (length cells)
+
+-- what erases a display, and then the signs of what isn't blank in rows
+abbrev pub first_signs : List (List Cell) → List Sign
+first_signs new = SetStyle plain ∷ EraseScreen ∷ rows_signs 0 (map blank_like new) new None
 
 -- the bytes of these signs are appended, unless the call was refused
 abbrev pub Spells : {V E : Type 0} → Result V E → List ℕ → List Sign → List ℕ → Type 0

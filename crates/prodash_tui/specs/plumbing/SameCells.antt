@@ -7,7 +7,6 @@ use Rattle.prodash_tui.specs.declared.cell.Cell.{Cell}
 use Rattle.prodash_tui.specs.declared.cell.Cell.TheVariants.{Holds, Half}
 use Rattle.prodash_tui.specs.declared.style.Color.{Color}
 use Rattle.prodash_tui.specs.declared.style.Color.TheVariants.{Black, Red, Green, Yellow, White, LightRed}
-use Rattle.prodash_tui.specs.declared.style.Style.{Style}
 use Rattle.prodash_tui.specs.Cells.{same_cell, same_color, same_style}
 use Rattle.prodash_base.specs.plumbing.EqualityTests.{IsEqualityTest, same_pair, sound, itself, by_cases, numbers, texts, options, pairs, by_parts}
 

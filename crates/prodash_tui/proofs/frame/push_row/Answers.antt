@@ -1,7 +1,6 @@
-use Rattle.std.proofs.Common.{rules, ◌≡◌, ◌<◌, ◌++◌, List, ◌-◌, length, take, drop, sym, ap, ◌∙◌, append-nil, arith}
+use Rattle.std.proofs.Common.{rules, ◌≡◌, ◌<◌, ◌++◌, ◌-◌, length, take, drop, sym, ap, ◌∙◌, append-nil, arith}
 use Rattle.std.proofs.lemmas.List.{get_or_read, length-drop, take_all}
 use Rattle.prodash_base.proofs.Prefixes.{IsPrefix-trans}
-use Rattle.prodash_tui.specs.declared.cell.Cell.{Cell}
 use Rattle.prodash_tui.specs.Cells.{blank_cell, cell_at}
 use Rattle.prodash_tui.specs.Frames.{row_cursor, row_signs}
 use Rattle.prodash_tui.specs.Signs.{spelling}
