@@ -9,4 +9,5 @@ pub mod Signs
 pub mod Displays
 pub mod Frames
 pub mod Screens
+pub mod Lends
 pub mod plumbing
