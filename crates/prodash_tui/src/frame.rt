@@ -7,7 +7,7 @@ ghost use Rattle.prodash_base.specs.Appending.{IsPrefix};
 ghost use Rattle.prodash_tui.specs.Cells.{plain};
 ghost use Rattle.prodash_tui.specs.Frames.{difference, first_frame, motion, rows_signs, style_change};
 ghost use Rattle.prodash_tui.specs.declared.sign.Sign.TheVariants.{Char};
-ghost use Rattle.prodash_tui.specs.plumbing.Appended.{AreCounted, Spells, blank_like, cursor_past, cursor_past_row, first_signs, signs_at, signs_of_row};
+ghost use Rattle.prodash_tui.specs.plumbing.Appended.{AreCounted, Spells, all_over_blank, cursor_over_blank, cursor_past, cursor_past_row, first_signs, signs_at, signs_of_row, signs_over_blank};
 
 use crate::cell::Cell;
 use crate::cursor::Cursor;
@@ -146,10 +146,9 @@ fn push_row_over_blank(
     cursor: &mut Option<Cursor>,
 ) -> Result<(), AllocError>
     requires { length new.now < 2 ^ 16 }
-    ensures ok { Spells result out.old.items
-        (signs_of_row y (blank_like new.now) new.now cursor.old) out.new.items }
-    ensures cursor { OnOk result
-        (cursor.new ≡ cursor_past_row y (blank_like new.now) new.now cursor.old) }
+    ensures ok { Spells result out.old.items (signs_over_blank y new.now cursor.old)
+        out.new.items }
+    ensures cursor { OnOk result (cursor.new ≡ cursor_over_blank y new.now cursor.old) }
     ensures kept { IsPrefix out.old.items out.new.items }
 {
     let blank = blank_cell();
@@ -162,8 +161,7 @@ fn push_row_over_blank(
 /// Appends the characters of rows that aren't blank cells.
 fn push_rows_over_blank(out: &mut Vec<u8>, new: &[Row]) -> Result<(), AllocError>
     requires { AreCounted new.now }
-    ensures ok { Spells result out.old.items (rows_signs 0 (map blank_like new.now) new.now None)
-        out.new.items }
+    ensures ok { Spells result out.old.items (all_over_blank new.now) out.new.items }
     ensures kept { IsPrefix out.old.items out.new.items }
 {
     let mut cursor = None;

@@ -32,9 +32,21 @@ cursor_past_row row old new cursor = row_cursor row (changes_of old new) cursor
 abbrev pub blank_like : List Cell → List Cell
 blank_like cells = blank_cells (length cells)
 
--- what erases a display, and then the signs of what isn't blank in rows
+-- the signs of what isn't blank in a row
+abbrev pub signs_over_blank : ℕ → List Cell → Option Cursor → List Sign
+signs_over_blank row new cursor = signs_of_row row (blank_like new) new cursor
+
+-- the cursor behind them
+abbrev pub cursor_over_blank : ℕ → List Cell → Option Cursor → Option Cursor
+cursor_over_blank row new cursor = cursor_past_row row (blank_like new) new cursor
+
+-- the signs of what isn't blank in rows
+abbrev pub all_over_blank : List (List Cell) → List Sign
+all_over_blank new = rows_signs 0 (map blank_like new) new None
+
+-- what erases a display, and then these signs
 abbrev pub first_signs : List (List Cell) → List Sign
-first_signs new = SetStyle plain ∷ EraseScreen ∷ rows_signs 0 (map blank_like new) new None
+first_signs new = SetStyle plain ∷ EraseScreen ∷ all_over_blank new
 
 -- the bytes of these signs are appended, unless the call was refused
 abbrev pub Spells : {V E : Type 0} → Result V E → List ℕ → List Sign → List ℕ → Type 0
