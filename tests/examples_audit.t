@@ -1,4 +1,4 @@
-prodash-examples: audit
+prodash-examples: audit and batch
 =================================
 
 The receipts of all calls agree with the journal, which has a line for each call.
@@ -93,3 +93,53 @@ An output that can't be written.
   [1]
   $ tail -n 1 shown
   output is broken
+
+The batch runner sends a message for each job, and one at the end. Each job has a call for each of
+its files, and four more. The row above all has three, and the row of each thread two.
+
+  $ prodash-examples batch 3 2>messages
+  83 receipts agree
+  $ sed 's/^ *//' messages | sort
+  batch all jobs are done
+  job 1 is done
+  job 2 is done
+  job 3 is done
+  $ prodash-examples batch
+  usage: prodash-examples batch JOBS
+  [2]
+  $ prodash-examples batch many
+  usage: prodash-examples batch JOBS
+  [2]
+
+  $ prodash-examples batch 1 2>messages >/dev/full
+  [1]
+  $ tail -n 1 messages
+  output is broken
+
+On a terminal the jobs have rows below those of their threads. At the end the messages are left and
+no row, also where the terminal is narrower than the renderer is told.
+
+  $ on-terminal 40 30 <<'END' >window
+  > run env -u COLUMNS -u LINES NO_COLOR=1 prodash-examples batch 12
+  > until first
+  > until job 1
+  > ended
+  > screen
+  > END
+  $ head -n 1 window
+  status 0
+  $ sed 's/^ *//' window | sed '1d; /^$/d' | LC_ALL=C sort
+  359 receipts agree
+  batch all jobs are done
+  job 1 is done
+  job 10 is done
+  job 11 is done
+  job 12 is done
+  job 2 is done
+  job 3 is done
+  job 4 is done
+  job 5 is done
+  job 6 is done
+  job 7 is done
+  job 8 is done
+  job 9 is done

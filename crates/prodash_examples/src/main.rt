@@ -2,6 +2,7 @@
 #![tactic(auto)]
 
 mod audit;
+mod batch;
 mod colors;
 mod primes;
 mod threads;
@@ -13,8 +14,8 @@ use std::rt::Env;
 
 /// The fault of a first argument that names no example.
 const USAGE: Fault = Fault::Usage(
-    "prodash-examples threads | primes | workers SECONDS [messages] | audit [check] \
-     | colors colored|plain",
+    "prodash-examples threads | primes | workers SECONDS [messages] | batch JOBS \
+     | audit [check] | colors colored|plain",
 );
 
 /// The bytes of the longest name.
@@ -25,6 +26,7 @@ fn main(rt: HostRuntime) -> anyhow::Result<ExitCode> {
         Some("threads") => Ok(threads::run(rt, rt.stderr())?),
         Some("primes") => Ok(primes::run(rt, rt.stderr())?),
         Some("workers") => workers::run(&rt, rt.stderr()),
+        Some("batch") => batch::run(rt, rt.stderr()),
         Some("audit") => audit::run(rt, rt.stderr(), &mut rt.stdout()),
         Some("colors") => colors::run(&rt, &mut rt.stdout()),
         _ => Err(USAGE),
