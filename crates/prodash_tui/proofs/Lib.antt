@@ -14,3 +14,4 @@ pub mod WorkedSigns
 pub mod WorkedDisplays
 pub mod WorkedScreens
 pub mod BorderCells
+pub mod WorkedRects

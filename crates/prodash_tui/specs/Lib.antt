@@ -2,6 +2,7 @@ pub mod Cells
 pub mod Texts
 pub mod Rows
 pub mod Rects
+pub mod Offsets
 pub mod Grids
 pub mod Outside
 pub mod Differences

@@ -1,5 +1,5 @@
 -- Parts of rectangles.
-use Rattle.std.specs.Prelude.{ℕ, ◌+◌, ◌-◌, min, List, [], ◌∷◌}
+use Rattle.std.specs.Prelude.{ℕ, ◌+◌, ◌-◌, min, max, List, [], ◌∷◌}
 use Rattle.prodash_core.specs.declared.render.tui.event.Rect.{Rect}
 
 -- its first row
@@ -25,6 +25,27 @@ inner_of area = record {
   y = min (area.y + 1) 65535;
   width = area.width - 2;
   height = area.height - 2;
+}
+
+-- its row in this place, whatever its height is; row 65535, which no grid has, if it is beyond that
+abbrev pub line_bound : Rect → ℕ → Rect
+line_bound area line = record area { y = min (area.y + line) 65535; height = 1 }
+
+-- it without its first columns
+abbrev pub offset_x : Rect → ℕ → Rect
+offset_x area columns = record area { x = min (area.x + columns) 65535; width = area.width - columns }
+
+-- its last columns
+abbrev pub snap_to_right : Rect → ℕ → Rect
+snap_to_right area width = offset_x area (area.width - width)
+
+-- what is in both: between the later of the first edges and the earlier of the last ones
+abbrev pub intersect : Rect → Rect → Rect
+intersect a b = record {
+  x = max a.x b.x;
+  y = max a.y b.y;
+  width = min (a.x + a.width) (b.x + b.width) - max a.x b.x;
+  height = min (a.y + a.height) (b.y + b.height) - max a.y b.y;
 }
 
 -- the parts of a border, each with its character, of which later ones hide earlier ones
