@@ -15,3 +15,5 @@ pub mod WorkedDisplays
 pub mod WorkedScreens
 pub mod BorderCells
 pub mod WorkedRects
+pub mod DrawnPieces
+pub mod WorkedPanes

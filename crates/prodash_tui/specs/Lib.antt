@@ -4,6 +4,11 @@ pub mod Rows
 pub mod Rects
 pub mod Offsets
 pub mod Grids
+pub mod Panes
+pub mod InformationPanes
+pub mod MessagePanes
+pub mod PaneBounds
+pub mod Headlines
 pub mod Outside
 pub mod Differences
 pub mod Signs

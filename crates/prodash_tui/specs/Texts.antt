@@ -1,6 +1,6 @@
 -- The cells of texts.
-use Rattle.std.specs.Prelude.{ℕ, zero, suc, ◌-◌, nat_le, List, [], ◌∷◌, ◌++◌, length, map, take, replicate, chars, if◌then◌else◌}
-use Rattle.prodash_line.specs.CellRows.{char_columns, joined}
+use Rattle.std.specs.Prelude.{ℕ, zero, suc, ◌-◌, min, nat_le, List, [], ◌∷◌, ◌++◌, length, map, take, replicate, chars, if◌then◌else◌}
+use Rattle.prodash_line.specs.CellRows.{char_columns, joined, text_columns}
 use Rattle.prodash_line.specs.DrawnLines.{safe_char}
 use Rattle.prodash_tui.specs.declared.cell.Cell.{Cell}
 use Rattle.prodash_tui.specs.declared.cell.Cell.TheVariants.{Holds, Half}
@@ -42,3 +42,7 @@ text_shortened style n text = shortened style n (text_cells char_columns style (
 -- n columns of a character, or as many as it fills
 abbrev pub filling : Style → ℕ → ℕ → List Cell
 filling style n c = cut n (text_cells char_columns style (replicate n (safe_char c)))
+
+-- how many columns a text has, at most 65535
+abbrev pub block_width : List ℕ → ℕ
+block_width text = min (text_columns char_columns (drawn_text text)) 65535

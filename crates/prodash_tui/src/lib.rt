@@ -3,6 +3,7 @@
 
 mod cell;
 mod cursor;
+pub mod draw;
 mod frame;
 mod grid;
 pub mod laws;

@@ -1,7 +1,7 @@
 //! How many columns a text has.
 ghost use Rattle.std.specs.Prelude.{◌≡◌, min};
 ghost use Rattle.prodash_line.specs.CellRows.{char_columns, text_columns};
-ghost use Rattle.prodash_tui.specs.Texts.{drawn_text};
+ghost use Rattle.prodash_tui.specs.Texts.{block_width, drawn_text};
 
 use prodash_line::render::line::draw::safe_char;
 use prodash_line::render::line::page::{CharColumns, UnicodeWidth};
@@ -20,7 +20,7 @@ pub(crate) fn text_columns(text: &str) -> u32
 
 /// Returns how many columns a text has as it is drawn, at most 65535.
 pub fn block_width(text: &str) -> u16
-    ensures { result ≡ min (text_columns char_columns (drawn_text text.now)) 65535 }
+    ensures { result ≡ block_width text.now }
 {
     text_columns(text).min(65535) as u16
 }

@@ -1,0 +1,172 @@
+//! The headline.
+ghost use Rattle.std.specs.Prelude.{◌≡◌, ◌++◌, IfOk, IsOkUnless, OnErr, OnOk, string_bytes};
+ghost use Rattle.std.specs.Fmt.{decimal};
+ghost use Rattle.prodash_tui.specs.Headlines.{counts_text, headline_text, how_many, in_three, interrupt_text, interval_text, is_group, runs, waits, with_headline};
+
+use crate::draw::parts::bold;
+use crate::grid::Grid;
+use crate::rect::snap_to_right;
+use crate::text::block_width;
+use prodash_base::Refusal;
+use prodash_base::progress::{Row, State};
+use prodash_core::render::tui::{InterruptMode, Rect};
+use std::alloc::Global;
+
+const NANOSECONDS_PER_SECOND: u64 = 1_000_000_000;
+
+/// Draws the headline at the right end of the first row of a rectangle, before a column that stays
+/// free: what `q` does, and how many tasks run, wait for something, and are groups. If more than a
+/// second is between two frames, it has that time in seconds, and `now`, the moment of this frame.
+///
+/// `Memory`: out of memory. The grid is then as it was.
+pub fn headline(
+    alloc: Global,
+    rows: &[Row],
+    mode: InterruptMode,
+    nanoseconds_per_frame: u64,
+    now: &str,
+    bound: Rect,
+    grid: &mut Grid,
+) -> Result<(), Refusal>
+    ensures ok { OnOk result (grid.new ≡ with_headline bound
+        (headline_text mode nanoseconds_per_frame now.now rows.now) grid.old) }
+    ensures err { OnErr result (grid.new ≡ grid.old) }
+    ensures reason { IsOkUnless result Refusal.Memory }
+{
+    let text = headline_text(alloc, rows, mode, nanoseconds_per_frame, now)?;
+    let text = text.as_str();
+    let right = snap_to_right(bound, block_width(text).saturating_add(1));
+    grid.draw_text_with_ellipsis(right, text, bold());
+    Ok(())
+}
+
+/// Returns the text of the headline.
+fn headline_text(
+    alloc: Global,
+    rows: &[Row],
+    mode: InterruptMode,
+    nanoseconds_per_frame: u64,
+    now: &str,
+) -> Result<String, Refusal>
+    ensures ok { IfOk result (λ text. string_bytes text
+        ≡ headline_text mode nanoseconds_per_frame now.now rows.now) }
+    ensures reason { IsOkUnless result Refusal.Memory }
+{
+    let quit = interrupt_text(mode);
+    let interval = interval_text(alloc, nanoseconds_per_frame, now)?;
+    let counts = counts_text(alloc, rows)?;
+    Ok(format!(in alloc; " {quit} {interval} {counts} ")?)
+}
+
+/// Returns what `q` does.
+fn interrupt_text(mode: InterruptMode) -> &'static str
+    ensures { result.now ≡ interrupt_text mode }
+{
+    match mode {
+        InterruptMode::Instantly => "'q' or CTRL+c to quit",
+        InterruptMode::Deferred { requested: true } => "interrupt requested - please wait",
+        InterruptMode::Deferred { requested: false } => "cannot interrupt current operation",
+    }
+}
+
+/// Returns how often a frame is drawn, and when this one is, if there is more than a second between
+/// frames, and else an empty text.
+fn interval_text(alloc: Global, nanoseconds_per_frame: u64, now: &str) -> Result<String, Refusal>
+    ensures ok { IfOk result (λ text.
+        string_bytes text ≡ interval_text nanoseconds_per_frame now.now) }
+    ensures reason { IsOkUnless result Refusal.Memory }
+{
+    if nanoseconds_per_frame <= NANOSECONDS_PER_SECOND {
+        return Ok(String::new(alloc));
+    }
+    let seconds = nanoseconds_per_frame / NANOSECONDS_PER_SECOND;
+    Ok(format!(in alloc; " Every {seconds}s → {now}")?)
+}
+
+/// Returns how many tasks run, wait, and are groups, and how many there are, as a text.
+fn counts_text(alloc: Global, rows: &[Row]) -> Result<String, Refusal>
+    ensures ok { IfOk result (λ text. string_bytes text ≡ counts_text rows.now) }
+    ensures reason { IsOkUnless result Refusal.Memory }
+{
+    let running = in_three(alloc, count_running(rows))?;
+    let blocked = in_three(alloc, count_waiting(rows))?;
+    let groups = in_three(alloc, count_groups(rows))?;
+    let all = rows.len();
+    Ok(format!(in alloc; "{running} running + {blocked} blocked + {groups} groups = {all}")?)
+}
+
+/// Returns a number after spaces that bring it to three columns.
+fn in_three(alloc: Global, n: usize) -> Result<String, Refusal>
+    ensures ok { IfOk result (λ text. string_bytes text ≡ in_three n) }
+    ensures reason { IsOkUnless result Refusal.Memory }
+{
+    let padding = padding(n);
+    Ok(format!(in alloc; "{padding}{n}")?)
+}
+
+/// Returns the spaces that bring a number to three columns.
+fn padding(n: usize) -> &'static str
+    ensures { result.now ++ decimal n ≡ in_three n }
+{
+    if n < 10 {
+        "  "
+    } else if n < 100 {
+        " "
+    } else {
+        ""
+    }
+}
+
+/// Returns how many tasks run.
+fn count_running(rows: &[Row]) -> usize
+    ensures { result ≡ how_many runs rows.now }
+{
+    rows.iter().filter(|row| runs(row)).count()
+}
+
+/// Returns how many tasks wait for something.
+fn count_waiting(rows: &[Row]) -> usize
+    ensures { result ≡ how_many waits rows.now }
+{
+    rows.iter().filter(|row| waits(row)).count()
+}
+
+/// Returns how many tasks have no progress of their own.
+fn count_groups(rows: &[Row]) -> usize
+    ensures { result ≡ how_many is_group rows.now }
+{
+    rows.iter().filter(|row| is_group(row)).count()
+}
+
+/// Returns whether a task runs.
+fn runs(row: &Row) -> bool
+    ensures { result ≡ runs row.now.progress }
+{
+    match &row.progress {
+        Some(value) => match value.state {
+            State::Running => true,
+            State::Blocked(..) | State::Halted(..) => false,
+        },
+        None => false,
+    }
+}
+
+/// Returns whether a task waits for something.
+fn waits(row: &Row) -> bool
+    ensures { result ≡ waits row.now.progress }
+{
+    match &row.progress {
+        Some(value) => match value.state {
+            State::Running => false,
+            State::Blocked(..) | State::Halted(..) => true,
+        },
+        None => false,
+    }
+}
+
+/// Returns whether a task has no progress of its own.
+fn is_group(row: &Row) -> bool
+    ensures { result ≡ is_group row.now.progress }
+{
+    row.progress.is_none()
+}
