@@ -16,4 +16,5 @@ pub mod WorkedScreens
 pub mod BorderCells
 pub mod WorkedRects
 pub mod DrawnPieces
+pub mod CountedRows
 pub mod WorkedPanes

@@ -7,14 +7,14 @@ use Rattle.unicode_width.proofs.Computing.{unicode_width}
 use Rattle.prodash_base.specs.Numerals.{last_digits}
 use Rattle.prodash_base.specs.declared.messages.Message.{Message}
 use Rattle.prodash_base.specs.declared.messages.MessageLevel.TheVariants.{Failure}
-use Rattle.prodash_base.specs.declared.progress.Row.{Row}
-use Rattle.prodash_base.specs.declared.progress.State.TheVariants.{Running}
+use Rattle.prodash_base.specs.Rows.{PathRow, Phase, Blocked, Halted, Running, unknown_id}
 use Rattle.prodash_core.specs.declared.render.tui.event.Line.TheVariants.{Title, Text}
 use Rattle.prodash_core.specs.declared.render.tui.event.Rect.{Rect}
 use Rattle.prodash_core.specs.declared.render.tui.state.InterruptMode.TheVariants.{Deferred}
 use Rattle.prodash_tui.specs.declared.cell.Cell.{Cell}
 use Rattle.prodash_tui.specs.declared.style.Style.{Style}
 use Rattle.prodash_tui.specs.Cells.{blank_cells, cell_of, plain}
+use Rattle.prodash_tui.specs.Dashboards.{headline_bound, is_small, with_window}
 use Rattle.prodash_tui.specs.Grids.{Sheet, blank_sheet}
 use Rattle.prodash_tui.specs.Headlines.{counts_text, headline_text, in_three, interval_text}
 use Rattle.prodash_tui.specs.InformationPanes.{information_keys, with_last_line, with_line, with_lines}
@@ -121,19 +121,44 @@ all_but_eight = refl
 pub at_right : split_right (rect 0 0 90 9) 30 ≡ (rect 0 0 60 9, Some (rect 60 0 30 9))
 at_right = refl
 
+-- ---- the window
+
+pub window : (with_window (rect 0 0 6 2) (codes "ab") (blank_sheet 6 2)).rows
+    ≡ (cells plain (codes "┌") ++ (cells bold (codes "ab") ++ cells plain (codes "──┐"))) ∷ cells plain (codes "└────┘") ∷ []
+unfolding unicode_width
+window = refl
+
+-- a title is cut before the right side
+pub cut_title : (with_window (rect 0 0 4 2) (codes "abc") (blank_sheet 4 2)).rows
+    ≡ (cells plain (codes "┌") ++ (cells bold (codes "ab") ++ cells plain (codes "┐"))) ∷ cells plain (codes "└──┘") ∷ []
+unfolding unicode_width
+cut_title = refl
+
+-- the headline is behind the left side, the title, and a column, and ends before the right side
+pub behind_title : headline_bound (rect 0 0 80 24) (codes "ab") ≡ rect 4 0 75 24
+unfolding unicode_width
+behind_title = refl
+
+pub small : is_small (rect 0 0 3 9) ≡ true
+small = refl
+
+pub not_small : is_small (rect 0 0 4 4) ≡ false
+not_small = refl
+
 -- ---- the headline
 
 pub padded_numbers : in_three 7 ++ (in_three 42 ++ in_three 1234) ≡ codes "  7 421234"
 unfolding digits
 padded_numbers = refl
 
-abbrev group : Row
-group = record { key = 1 ∷ []; name = codes "a"; id = 0 ∷ 0 ∷ 0 ∷ 0 ∷ []; progress = None }
+abbrev group : PathRow
+group = (1 ∷ [], record { name = codes "a"; id = unknown_id; progress = None })
 
-abbrev task : Row
-task = record group { progress = Some (record { step = 1; done_at = None; unit = None; state = Running }) }
+abbrev task : Phase → PathRow
+task phase = (1 ∷ [], record { name = codes "a"; id = unknown_id; progress = Some (record { counter = 1; bound = None; unit = None; phase = phase }) })
 
-pub counted : counts_text (group ∷ task ∷ task ∷ []) ≡ codes "  2 running +   0 blocked +   1 groups = 3"
+pub counted : counts_text (group ∷ task Running ∷ task (Blocked (codes "io") None) ∷ task Running ∷ task (Halted (codes "io") None) ∷ [])
+    ≡ codes "  2 running +   2 blocked +   1 groups = 5"
 unfolding digits
 counted = refl
 
@@ -146,7 +171,7 @@ slow = refl
 pub each_second : interval_text 1000000000 (codes "2026-11-29T22:00:00") ≡ []
 each_second = refl
 
-pub asked : headline_text (Deferred true) 100000000 [] (task ∷ [])
+pub asked : headline_text (Deferred true) 100000000 [] (task Running ∷ [])
     ≡ codes " interrupt requested - please wait    1 running +   0 blocked +   0 groups = 1 "
 unfolding digits
 asked = refl

@@ -1,9 +1,7 @@
 -- The headline of a dashboard.
 use Rattle.std.specs.Prelude.{ℕ, ◌+◌, ◌/◌, Bool, true, false, nat_lt, List, [], ◌++◌, length, filter, codes, encode_utf8_all, Option, Some, None, if◌then◌else◌}
 use Rattle.std.specs.Fmt.{decimal}
-use Rattle.prodash_base.specs.declared.progress.Row.{Row}
-use Rattle.prodash_base.specs.declared.progress.State.TheVariants.{Blocked, Halted, Running}
-use Rattle.prodash_base.specs.declared.progress.Value.{Value}
+use Rattle.prodash_base.specs.Rows.{Blocked, Halted, Running, RowProgress, PathRow}
 use Rattle.prodash_core.specs.declared.render.tui.event.Rect.{Rect}
 use Rattle.prodash_core.specs.declared.render.tui.state.InterruptMode.{InterruptMode}
 use Rattle.prodash_core.specs.declared.render.tui.state.InterruptMode.TheVariants.{Instantly, Deferred}
@@ -28,33 +26,35 @@ abbrev pub in_three : ℕ → List ℕ
 in_three n = (if nat_lt n 10 then codes "  " else if nat_lt n 100 then codes " " else []) ++ decimal n
 
 -- does a task run?
-abbrev pub runs : Option Value → Bool
+abbrev pub runs : Option RowProgress → Bool
 runs None = false
-runs (Some value) = elim value.state [ Running ↦ true | Blocked reason eta ↦ false | Halted reason eta ↦ false ]
+runs (Some p) = elim p.phase [ Running ↦ true | Blocked reason eta ↦ false | Halted reason eta ↦ false ]
 
 -- does it wait?
-abbrev pub waits : Option Value → Bool
+abbrev pub waits : Option RowProgress → Bool
 waits None = false
-waits (Some value) = elim value.state [ Running ↦ false | Blocked reason eta ↦ true | Halted reason eta ↦ true ]
+waits (Some p) = elim p.phase [ Running ↦ false | Blocked reason eta ↦ true | Halted reason eta ↦ true ]
 
 -- has it no progress of its own?
-abbrev pub is_group : Option Value → Bool
+abbrev pub is_group : Option RowProgress → Bool
 is_group None = true
-is_group (Some value) = false
+is_group (Some p) = false
 
 -- how many rows pass a test of their progress
-abbrev pub how_many : (Option Value → Bool) → List Row → ℕ
-how_many test rows = length (filter (λ row. test row.progress) rows)
+abbrev pub how_many : (Option RowProgress → Bool) → List PathRow → ℕ
+how_many test rows = length (filter (λ (row : PathRow). test row.1.progress) rows)
 
--- how many tasks run, wait, and are groups, and how many there are
-abbrev pub counts_text : List Row → List ℕ
-counts_text rows =
-    in_three (how_many runs rows) ++ (codes " running + "
-    ++ (in_three (how_many waits rows) ++ (codes " blocked + "
-    ++ (in_three (how_many is_group rows) ++ (codes " groups = " ++ decimal (length rows))))))
+-- how many tasks run, wait, and are groups, and how many there are, as a text
+abbrev pub count_words : ℕ → ℕ → ℕ → ℕ → List ℕ
+count_words running waiting groups all =
+    in_three running ++ (codes " running + " ++ (in_three waiting ++ (codes " blocked + " ++ (in_three groups ++ (codes " groups = " ++ decimal all)))))
+
+-- these numbers of rows
+abbrev pub counts_text : List PathRow → List ℕ
+counts_text rows = count_words (how_many runs rows) (how_many waits rows) (how_many is_group rows) (length rows)
 
 -- the headline: what `q` does, how often a frame is drawn, and the counts
-abbrev pub headline_text : InterruptMode → ℕ → List ℕ → List Row → List ℕ
+abbrev pub headline_text : InterruptMode → ℕ → List ℕ → List PathRow → List ℕ
 headline_text mode ns now rows =
     codes " " ++ (interrupt_text mode ++ (codes " " ++ (interval_text ns now ++ (codes " " ++ (counts_text rows ++ codes " ")))))
 

@@ -9,6 +9,7 @@ pub mod InformationPanes
 pub mod MessagePanes
 pub mod PaneBounds
 pub mod Headlines
+pub mod Dashboards
 pub mod Outside
 pub mod Differences
 pub mod Signs

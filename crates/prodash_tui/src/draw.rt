@@ -1,6 +1,11 @@
-//! The panes of a dashboard.
+//! The dashboard, and its panes.
 pub mod all;
+mod bounds;
 pub mod headline;
 pub mod information;
+mod input;
 pub mod messages;
 mod parts;
+
+pub use bounds::Bounds;
+pub use input::Input;

@@ -1,10 +1,170 @@
-//! Where the panes are.
-ghost use Rattle.std.specs.Prelude.{◌≡◌};
+//! A dashboard, and where its parts are.
+ghost use Rattle.std.specs.Prelude.{◌≡◌, IsOkUnless, OnOk};
+ghost use Rattle.prodash_tui.specs.Dashboards.{bounds_of, dashboard, headline_bound, is_small, messages_to_show, narrower, offset_in, shown_information, state_after, with_information_in, with_messages_in, with_panes, with_window};
 ghost use Rattle.prodash_tui.specs.PaneBounds.{compute_info_bound, compute_pane_bounds, information_width, line_text, messages_room, split_below, split_right, wanted_width};
 
-use crate::rect::snap_to_right;
+use crate::draw::bounds::Bounds;
+use crate::draw::headline::headline;
+use crate::draw::input::Input;
+use crate::draw::parts::bold;
+use crate::draw::{information, messages};
+use crate::grid::Grid;
+use crate::rect::{bottom_of, inner_of, offset_x, snap_to_right};
+use crate::style::Style;
 use crate::text::block_width;
-use prodash_core::render::tui::{Line, Rect};
+use prodash_base::Refusal;
+use prodash_base::messages::Message;
+use prodash_core::render::tui::{Line, Rect, State};
+use std::alloc::Global;
+
+/// Draws a dashboard without its tasks in a rectangle of a grid: the window with its title, the
+/// headline, the messages and the information. Of a window with less than four rows or columns only
+/// the border and the title are drawn. The offset of the messages is then as many as are skipped.
+///
+/// `Memory`: out of memory. The grid may then have a part of the dashboard.
+pub fn all(
+    alloc: Global,
+    state: &mut State,
+    input: &Input<'_>,
+    bound: Rect,
+    grid: &mut Grid,
+) -> Result<(), Refusal>
+    ensures ok { OnOk result
+        (grid.new ≡ dashboard (λ area g. g) state.old input.now bound grid.old) }
+    ensures state { OnOk result (state.new ≡ state_after state.old input.now bound) }
+    ensures reason { IsOkUnless result Refusal.Memory }
+{
+    let bounds = bounds_of(state, input.messages.len(), bound);
+    draw_window(bounds.window, state.title.as_str(), grid);
+    if is_small(bounds.window) {
+        return Ok(());
+    }
+    draw_panes(alloc, state, input, &bounds, grid)
+}
+
+/// Returns where the parts of a dashboard with so many messages are.
+pub fn bounds_of(state: &State, messages: usize, area: Rect) -> Bounds
+    ensures { result ≡ bounds_of state.now messages area }
+{
+    let lines = shown_information(state);
+    let (window, information) = compute_info_bound(area, lines, state.maximize_info);
+    let count = messages_to_show(state, messages);
+    let inner = inner_of(window);
+    let (tasks, messages) = compute_pane_bounds(count, inner, state.messages_fullscreen);
+    Bounds {
+        window,
+        tasks,
+        messages,
+        information,
+    }
+}
+
+/// Returns the information, unless it is hidden.
+fn shown_information(state: &State) -> &[Line]
+    ensures { result.now ≡ shown_information state.now }
+{
+    if state.hide_info {
+        &[]
+    } else {
+        state.information.as_slice()
+    }
+}
+
+/// Returns how many of so many messages there are to show.
+fn messages_to_show(state: &State, messages: usize) -> usize
+    ensures { result ≡ messages_to_show state.now messages }
+{
+    if state.hide_messages { 0 } else { messages }
+}
+
+/// Returns whether a window has less than four rows or columns.
+fn is_small(window: Rect) -> bool
+    ensures { result ≡ is_small window }
+{
+    window.width < 4 || window.height < 4
+}
+
+/// Returns a rectangle without its last column.
+fn narrower(area: Rect) -> Rect
+    ensures { result ≡ narrower area }
+{
+    Rect {
+        width: area.width.saturating_sub(1),
+        ..area
+    }
+}
+
+/// Draws a window: a border with its title.
+fn draw_window(area: Rect, title: &str, grid: &mut Grid)
+    ensures { grid.new ≡ with_window area title.now grid.old }
+{
+    grid.draw_border(area, Style::new());
+    grid.draw_text(narrower(offset_x(area, 1)), title, bold());
+}
+
+/// Returns where the headline is: behind the title of the window.
+fn headline_bound(area: Rect, title: &str) -> Rect
+    ensures { result ≡ headline_bound area title.now }
+{
+    offset_x(offset_x(narrower(area), block_width(title)), 2)
+}
+
+/// Draws what is inside the window, but the tasks, and the information.
+fn draw_panes(
+    alloc: Global,
+    state: &mut State,
+    input: &Input<'_>,
+    bounds: &Bounds,
+    grid: &mut Grid,
+) -> Result<(), Refusal>
+    ensures ok { OnOk result
+        (grid.new ≡ with_panes (λ area g. g) state.old input.now bounds.now grid.old) }
+    ensures state { OnOk result (state.new ≡ record state.old {
+      message_offset
+          = offset_in bounds.now.messages state.old.message_offset input.now.messages.now;
+    }) }
+    ensures reason { IsOkUnless result Refusal.Memory }
+{
+    let interval = input.nanoseconds_per_frame;
+    let mode = state.interrupt_mode;
+    let behind = headline_bound(bounds.window, state.title.as_str());
+    headline(alloc, input.rows, mode, interval, input.time, behind, grid)?;
+    let offset = &mut state.message_offset;
+    draw_messages(alloc, input.messages, bounds, offset, grid)?;
+    draw_information(state.information.as_slice(), bounds.information, grid);
+    Ok(())
+}
+
+/// Draws the messages, if they are shown.
+fn draw_messages(
+    alloc: Global,
+    messages: &[Message],
+    bounds: &Bounds,
+    offset: &mut u16,
+    grid: &mut Grid,
+) -> Result<(), Refusal>
+    ensures offset { offset.new ≡ offset_in bounds.now.messages offset.old messages.now }
+    ensures ok { OnOk result (grid.new ≡ with_messages_in
+        bounds.now.messages bounds.now.window offset.old messages.now grid.old) }
+    ensures reason { IsOkUnless result Refusal.Memory }
+{
+    match bounds.messages {
+        Some(area) => {
+            let overflow = bottom_of(bounds.window);
+            messages::pane(alloc, messages, area, overflow, offset, grid)
+        }
+        None => Ok(()),
+    }
+}
+
+/// Draws the information, if it is shown.
+fn draw_information(lines: &[Line], area: Option<Rect>, grid: &mut Grid)
+    ensures { grid.new ≡ with_information_in area lines.now grid.old }
+{
+    if let Some(area) = area {
+        information::pane(lines, area, grid);
+    }
+}
 
 /// Returns what is left of the window's rectangle beside the information, and where that is, at its
 /// right: in as many columns as it needs, but at most a third of them, or all but eight if it is

@@ -1,7 +1,8 @@
 //! The headline.
-ghost use Rattle.std.specs.Prelude.{◌≡◌, ◌++◌, IfOk, IsOkUnless, OnErr, OnOk, string_bytes};
+ghost use Rattle.std.specs.Prelude.{◌≡◌, ◌++◌, IfOk, IsOkUnless, OnErr, OnOk, filter, length, string_bytes};
 ghost use Rattle.std.specs.Fmt.{decimal};
-ghost use Rattle.prodash_tui.specs.Headlines.{counts_text, headline_text, how_many, in_three, interrupt_text, interval_text, is_group, runs, waits, with_headline};
+ghost use Rattle.prodash_base.specs.Rows.{row_of, rows_of};
+ghost use Rattle.prodash_tui.specs.Headlines.{count_words, counts_text, headline_text, in_three, interrupt_text, interval_text, is_group, runs, waits, with_headline};
 
 use crate::draw::parts::bold;
 use crate::grid::Grid;
@@ -29,7 +30,7 @@ pub fn headline(
     grid: &mut Grid,
 ) -> Result<(), Refusal>
     ensures ok { OnOk result (grid.new ≡ with_headline bound
-        (headline_text mode nanoseconds_per_frame now.now rows.now) grid.old) }
+        (headline_text mode nanoseconds_per_frame now.now (rows_of rows.now)) grid.old) }
     ensures err { OnErr result (grid.new ≡ grid.old) }
     ensures reason { IsOkUnless result Refusal.Memory }
 {
@@ -49,7 +50,7 @@ fn headline_text(
     now: &str,
 ) -> Result<String, Refusal>
     ensures ok { IfOk result (λ text. string_bytes text
-        ≡ headline_text mode nanoseconds_per_frame now.now rows.now) }
+        ≡ headline_text mode nanoseconds_per_frame now.now (rows_of rows.now)) }
     ensures reason { IsOkUnless result Refusal.Memory }
 {
     let quit = interrupt_text(mode);
@@ -85,14 +86,31 @@ fn interval_text(alloc: Global, nanoseconds_per_frame: u64, now: &str) -> Result
 
 /// Returns how many tasks run, wait, and are groups, and how many there are, as a text.
 fn counts_text(alloc: Global, rows: &[Row]) -> Result<String, Refusal>
-    ensures ok { IfOk result (λ text. string_bytes text ≡ counts_text rows.now) }
+    ensures ok { IfOk result (λ text. string_bytes text ≡ counts_text (rows_of rows.now)) }
     ensures reason { IsOkUnless result Refusal.Memory }
 {
-    let running = in_three(alloc, count_running(rows))?;
-    let blocked = in_three(alloc, count_waiting(rows))?;
-    let groups = in_three(alloc, count_groups(rows))?;
-    let all = rows.len();
-    Ok(format!(in alloc; "{running} running + {blocked} blocked + {groups} groups = {all}")?)
+    let running = count_running(rows);
+    let waiting = count_waiting(rows);
+    let groups = count_groups(rows);
+    count_words(alloc, running, waiting, groups, rows.len())
+}
+
+/// Returns these numbers of tasks as a text.
+fn count_words(
+    alloc: Global,
+    running: usize,
+    waiting: usize,
+    groups: usize,
+    all: usize,
+) -> Result<String, Refusal>
+    ensures ok { IfOk result (λ text.
+        string_bytes text ≡ count_words running waiting groups all) }
+    ensures reason { IsOkUnless result Refusal.Memory }
+{
+    let running = in_three(alloc, running)?;
+    let waiting = in_three(alloc, waiting)?;
+    let groups = in_three(alloc, groups)?;
+    Ok(format!(in alloc; "{running} running + {waiting} blocked + {groups} groups = {all}")?)
 }
 
 /// Returns a number after spaces that bring it to three columns.
@@ -119,28 +137,28 @@ fn padding(n: usize) -> &'static str
 
 /// Returns how many tasks run.
 fn count_running(rows: &[Row]) -> usize
-    ensures { result ≡ how_many runs rows.now }
+    ensures { result ≡ length (filter (λ row. runs (row_of row).1.progress) rows.now) }
 {
     rows.iter().filter(|row| runs(row)).count()
 }
 
 /// Returns how many tasks wait for something.
 fn count_waiting(rows: &[Row]) -> usize
-    ensures { result ≡ how_many waits rows.now }
+    ensures { result ≡ length (filter (λ row. waits (row_of row).1.progress) rows.now) }
 {
     rows.iter().filter(|row| waits(row)).count()
 }
 
 /// Returns how many tasks have no progress of their own.
 fn count_groups(rows: &[Row]) -> usize
-    ensures { result ≡ how_many is_group rows.now }
+    ensures { result ≡ length (filter (λ row. is_group (row_of row).1.progress) rows.now) }
 {
     rows.iter().filter(|row| is_group(row)).count()
 }
 
 /// Returns whether a task runs.
 fn runs(row: &Row) -> bool
-    ensures { result ≡ runs row.now.progress }
+    ensures { result ≡ runs (row_of row.now).1.progress }
 {
     match &row.progress {
         Some(value) => match value.state {
@@ -153,7 +171,7 @@ fn runs(row: &Row) -> bool
 
 /// Returns whether a task waits for something.
 fn waits(row: &Row) -> bool
-    ensures { result ≡ waits row.now.progress }
+    ensures { result ≡ waits (row_of row.now).1.progress }
 {
     match &row.progress {
         Some(value) => match value.state {
@@ -166,7 +184,7 @@ fn waits(row: &Row) -> bool
 
 /// Returns whether a task has no progress of its own.
 fn is_group(row: &Row) -> bool
-    ensures { result ≡ is_group row.now.progress }
+    ensures { result ≡ is_group (row_of row.now).1.progress }
 {
     row.progress.is_none()
 }

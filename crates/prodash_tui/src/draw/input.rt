@@ -1,0 +1,15 @@
+use prodash_base::messages::Message;
+use prodash_base::progress::Row;
+
+/// What a frame shows beside the state of its dashboard.
+#[derive(Clone, Copy)]
+pub struct Input<'a> {
+    /// The rows of the tree.
+    pub rows: &'a [Row],
+    /// The messages, oldest first.
+    pub messages: &'a [Message],
+    /// The interval between frames, in nanoseconds.
+    pub nanoseconds_per_frame: u64,
+    /// The moment of the frame as a text.
+    pub time: &'a str,
+}
