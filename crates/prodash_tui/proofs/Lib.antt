@@ -17,4 +17,5 @@ pub mod BorderCells
 pub mod WorkedRects
 pub mod DrawnPieces
 pub mod CountedRows
+pub mod FittingPanes
 pub mod WorkedPanes

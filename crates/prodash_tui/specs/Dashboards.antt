@@ -7,7 +7,9 @@ use Rattle.prodash_core.specs.declared.render.tui.event.Rect.{Rect}
 use Rattle.prodash_core.specs.declared.render.tui.state.State.{State}
 use Rattle.prodash_tui.specs.declared.draw.bounds.Bounds.{Bounds}
 use Rattle.prodash_tui.specs.declared.draw.input.Input.{Input}
+use Rattle.prodash_line.specs.CellRows.{char_columns}
 use Rattle.prodash_tui.specs.Cells.{plain}
+use Rattle.prodash_tui.specs.Displays.{Display}
 use Rattle.prodash_tui.specs.Grids.{Sheet, with_border, with_text}
 use Rattle.prodash_tui.specs.Headlines.{headline_text, with_headline}
 use Rattle.prodash_tui.specs.InformationPanes.{with_information}
@@ -15,6 +17,7 @@ use Rattle.prodash_tui.specs.MessagePanes.{skipped_messages, with_message_pane}
 use Rattle.prodash_tui.specs.PaneBounds.{compute_info_bound, compute_pane_bounds}
 use Rattle.prodash_tui.specs.Panes.{bold}
 use Rattle.prodash_tui.specs.Rects.{bottom_of, inner_of, offset_x}
+use Rattle.prodash_tui.specs.Screens.{Fits}
 use Rattle.prodash_tui.specs.Texts.{block_width}
 
 -- the information, unless it is hidden
@@ -44,11 +47,12 @@ with_window area title g = with_text (narrower (offset_x area 1)) bold title (wi
 abbrev pub headline_bound : Rect → List ℕ → Rect
 headline_bound area title = offset_x (offset_x (narrower area) (block_width title)) 2
 
--- the messages and the information, if they are shown
+-- the messages, if they are shown
 abbrev pub with_messages_in : Option Rect → Rect → ℕ → List Message → Sheet → Sheet
 with_messages_in None window offset messages g = g
 with_messages_in (Some area) window offset messages g = with_message_pane messages area (bottom_of window) offset g
 
+-- the information, if it is shown
 abbrev pub with_information_in : Option Rect → List Line → Sheet → Sheet
 with_information_in None lines g = g
 with_information_in (Some area) lines g = with_information lines area g
@@ -83,3 +87,11 @@ abbrev pub state_after : State → Input → Rect → State
 state_after s input area =
     let b = bounds_of s (length input.messages.now) area in
     if is_small b.window then s else record s { message_offset = offset_in b.messages s.message_offset input.messages.now }
+
+-- a way to draw in a rectangle after which a grid still fits a display: its rows are proper, and it has the display's size
+abbrev pub KeepsFit : (Rect → Sheet → Sheet) → Type 0
+KeepsFit draw = (d : Display) (area : Rect) (g : Sheet) → Fits char_columns d g → Fits char_columns d (draw area g)
+
+-- so is a dashboard, if so is the way in which its tasks are drawn
+abbrev pub DashboardsFit : Type 0
+DashboardsFit = (with_tasks : Rect → Sheet → Sheet) → KeepsFit with_tasks → (s : State) (input : Input) → KeepsFit (λ area g. dashboard with_tasks s input area g)

@@ -9,7 +9,6 @@ pub mod InformationPanes
 pub mod MessagePanes
 pub mod PaneBounds
 pub mod Headlines
-pub mod Dashboards
 pub mod Outside
 pub mod Differences
 pub mod Signs
@@ -17,4 +16,5 @@ pub mod Displays
 pub mod Frames
 pub mod Screens
 pub mod Lends
+pub mod Dashboards
 pub mod plumbing

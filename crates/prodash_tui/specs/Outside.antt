@@ -1,5 +1,5 @@
 -- The cells of a grid that are inside and outside a rectangle.
-use Rattle.std.specs.Prelude.{◌≡◌, ℕ, ◌+◌, ◌^◌, ◌<◌, ◌≤◌, false, List, [], length, take, drop, slice_index_or}
+use Rattle.std.specs.Prelude.{◌≡◌, ◌↔◌, ℕ, ◌+◌, ◌^◌, ◌<◌, ◌≤◌, false, List, [], length, take, drop, slice_index_or}
 use Rattle.prodash_core.specs.declared.render.tui.event.Rect.{Rect}
 use Rattle.prodash_tui.specs.declared.cell.Cell.{Cell}
 use Rattle.prodash_tui.specs.declared.style.Style.{Style}
@@ -22,6 +22,10 @@ IsRowOf area y = (area.y ≤ y) × (y < area.y + area.height)
 -- a cell of a rectangle
 abbrev pub IsIn : Rect → ℕ → ℕ → Type 0
 IsIn area y x = IsRowOf area y × (area.x ≤ x) × (x < area.x + area.width)
+
+-- the cells of this rectangle are those that two others share
+abbrev pub IsShared : Rect → Rect → Rect → Type 0
+IsShared area a b = (y x : ℕ) → IsIn area y x ↔ (IsIn a y x × IsIn b y x)
 
 -- neither the left nor the right edge of a rectangle goes through a character of two columns
 pub record CutsNone (area : Rect) (g : Sheet) : Type 0 where

@@ -8,8 +8,16 @@ ghost use Rattle.prodash_tui.specs.declared.style.Style.{Style};
 ghost use Rattle.prodash_tui.specs.Differences.{AreRedrawn, IsProperSheet, KeepsProper, TellsApart};
 ghost use Rattle.prodash_tui.specs.Frames.{DrawsFirst, DrawsNext};
 ghost use Rattle.prodash_tui.specs.Grids.{blank_sheet, with_border, with_filling, with_shortened, with_text};
+ghost use Rattle.prodash_tui.specs.Rects.{intersect};
 ghost use Rattle.prodash_tui.specs.Screens.{DrawsEntered, DrawsFrames, Restores, RestoresFrames};
-ghost use Rattle.prodash_tui.specs.Outside.{ShowsFillings, ShowsShortened, ShowsTexts, StaysInside};
+ghost use Rattle.prodash_base.specs.declared.messages.Message.{Message};
+ghost use Rattle.prodash_core.specs.declared.render.tui.event.Line.{Line};
+ghost use Rattle.prodash_core.specs.declared.render.tui.event.Rect.{Rect};
+ghost use Rattle.prodash_tui.specs.Dashboards.{DashboardsFit, KeepsFit};
+ghost use Rattle.prodash_tui.specs.Headlines.{with_headline};
+ghost use Rattle.prodash_tui.specs.InformationPanes.{with_information};
+ghost use Rattle.prodash_tui.specs.MessagePanes.{with_message_pane};
+ghost use Rattle.prodash_tui.specs.Outside.{IsShared, ShowsFillings, ShowsShortened, ShowsTexts, StaysInside};
 
 /// The first row of the rectangle shows the text from the left edge on, cut at the right one. No
 /// cell outside the rectangle changes, if its edges go through no character of two columns.
@@ -25,6 +33,11 @@ pub fn shortened_text()
     ensures shows { ShowsShortened }
     ensures outside { (s : Style) (t : List ℕ)
         → StaysInside (λ area g. with_shortened area s t g) }
+{}
+
+/// The intersection of two rectangles has exactly the cells that both have.
+pub fn shared_cells()
+    ensures { (a b : Rect) → IsShared (intersect a b) a b }
 {}
 
 /// Each row of the rectangle shows the character as often as it fits. No cell outside the rectangle
@@ -78,4 +91,14 @@ pub fn drawn()
 pub fn restored()
     ensures signs { (columns : ℕ → ℕ) → Restores columns }
     ensures frames { (columns : ℕ → ℕ) → RestoresFrames columns }
+{}
+
+/// A dashboard that is drawn on a grid that fits a display leaves one that fits it, and so do its
+/// headline and its panes: the rows are proper, and it has the display's size.
+pub fn dashboards()
+    ensures information { (l : List Line) → KeepsFit (λ area g. with_information l area g) }
+    ensures messages { (l : List Message) (overflow : Rect) (offset : ℕ)
+        → KeepsFit (λ area g. with_message_pane l area overflow offset g) }
+    ensures headline { (text : List ℕ) → KeepsFit (λ area g. with_headline area text g) }
+    ensures all { DashboardsFit }
 {}

@@ -1,0 +1,14 @@
+use Rattle.prodash_tui.proofs.FittingPanes.{fit_dashboard, fit_headline, fit_information, fit_message_pane}
+use Rattle.prodash_tui.proofs.laws.dashboards.Goals as goal
+
+pub returns-clause-information : goal.returns-clause-information
+returns-clause-information c = λ lines d area g h. fit_information d lines area g h
+
+pub returns-clause-messages : goal.returns-clause-messages
+returns-clause-messages c = λ ms overflow offset d area g h. fit_message_pane d ms area overflow offset g h
+
+pub returns-clause-headline : goal.returns-clause-headline
+returns-clause-headline c = λ text d area g h. fit_headline d area text g h
+
+pub returns-clause-all : goal.returns-clause-all
+returns-clause-all c = fit_dashboard
