@@ -14,6 +14,7 @@ pub mod WorkedSigns
 pub mod WorkedDisplays
 pub mod WorkedScreens
 pub mod BorderCells
+pub mod ColoredCells
 pub mod WorkedRects
 pub mod DrawnPieces
 pub mod CountedRows

@@ -1,5 +1,5 @@
 -- The cells of a grid.
-use Rattle.std.specs.Prelude.{ℕ, Bool, true, false, ◌&&◌, nat_eq, List, [], ◌∷◌, ◌++◌, take, replicate, slice_index_or, None}
+use Rattle.std.specs.Prelude.{ℕ, Bool, true, false, ◌&&◌, nat_eq, List, [], ◌∷◌, ◌++◌, take, replicate, slice_index_or, Some, None}
 use Rattle.std.specs.Cmp.Lexicographic.{pointwise}
 use Rattle.std.specs.Bool.{beq}
 use Rattle.std.specs.Option.{option_eq}
@@ -42,6 +42,11 @@ held joined = take 4 joined
 abbrev pub joined_by : ℕ → Cell → Cell
 joined_by c (Holds d joined style) = Holds d (held (joined ++ c ∷ [])) style
 joined_by c Half = Half
+
+-- a cell on this background; a second half has none of its own
+abbrev pub on_background : Color → Cell → Cell
+on_background color (Holds c joined style) = Holds c joined (record style { background = Some color })
+on_background color Half = Half
 
 -- the test of equal colours; this one and those below are true exactly of equal values
 abbrev pub same_color : Color → Color → Bool

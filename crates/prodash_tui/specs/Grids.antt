@@ -1,11 +1,12 @@
 -- A grid of cells, and what drawing on it leaves.
-use Rattle.std.specs.Prelude.{◌≡◌, ℕ, ◌+◌, ◌-◌, ◌<◌, min, List, [], ◌∷◌, ◌++◌, length, map, take, drop, replicate, slice_index_or}
+use Rattle.std.specs.Prelude.{◌≡◌, ℕ, ◌-◌, ◌<◌, min, List, [], ◌∷◌, length, replicate, slice_index_or}
 use Rattle.std.specs.List.{All}
 use Rattle.prodash_core.specs.declared.render.tui.event.Rect.{Rect}
 use Rattle.prodash_tui.specs.declared.cell.Cell.{Cell}
+use Rattle.prodash_tui.specs.declared.style.Color.{Color}
 use Rattle.prodash_tui.specs.declared.style.Style.{Style}
-use Rattle.prodash_tui.specs.Cells.{blank_cells}
-use Rattle.prodash_tui.specs.Rows.{splice}
+use Rattle.prodash_tui.specs.Cells.{blank_cells, on_background}
+use Rattle.prodash_tui.specs.Rows.{in_part, splice}
 use Rattle.prodash_tui.specs.Texts.{filling, text_cut, text_shortened}
 use Rattle.prodash_tui.specs.Rects.{border}
 
@@ -38,7 +39,7 @@ room_of area g = min area.width (g.width - area.x)
 
 -- so many of the rows changed, from one on
 abbrev pub in_rows : ℕ → ℕ → (List Cell → List Cell) → List (List Cell) → List (List Cell)
-in_rows first count f rows = take first rows ++ (map f (take count (drop first rows)) ++ drop (first + count) rows)
+in_rows first count f rows = in_part first count f rows
 
 -- cells at the left edge of a rectangle, in so many rows from its first on
 abbrev pub with_cells : Rect → ℕ → List Cell → Sheet → Sheet
@@ -64,3 +65,8 @@ with_fillings style (f ∷ fs) g = with_fillings style fs (with_filling f.0 styl
 -- a border inside a rectangle
 abbrev pub with_border : Rect → Style → Sheet → Sheet
 with_border area style g = with_fillings style (border area) g
+
+-- a rectangle whose characters have another background
+abbrev pub with_background : Rect → Color → Sheet → Sheet
+with_background area color g =
+    record g { rows = in_rows area.y area.height (in_part (left_of area g) (room_of area g) (on_background color)) g.rows }

@@ -2,10 +2,11 @@
 use Rattle.std.specs.Prelude.{◌≡◌, ◌↔◌, ℕ, ◌+◌, ◌^◌, ◌<◌, ◌≤◌, false, List, [], length, take, drop, slice_index_or}
 use Rattle.prodash_core.specs.declared.render.tui.event.Rect.{Rect}
 use Rattle.prodash_tui.specs.declared.cell.Cell.{Cell}
+use Rattle.prodash_tui.specs.declared.style.Color.{Color}
 use Rattle.prodash_tui.specs.declared.style.Style.{Style}
-use Rattle.prodash_tui.specs.Cells.{cell_at, is_half}
+use Rattle.prodash_tui.specs.Cells.{cell_at, is_half, on_background}
 use Rattle.prodash_tui.specs.Texts.{filling, text_cut, text_shortened}
-use Rattle.prodash_tui.specs.Grids.{IsSheet, Sheet, left_of, room_of, with_filling, with_shortened, with_text}
+use Rattle.prodash_tui.specs.Grids.{IsSheet, Sheet, left_of, room_of, with_background, with_filling, with_shortened, with_text}
 
 -- row y of a grid; it has no cells if there are fewer rows
 abbrev pub row_at : Sheet → ℕ → List Cell
@@ -69,3 +70,9 @@ ShowsShortened = (style : Style) (text : List ℕ) → ShowsFirst (λ area g. wi
 -- each row of the rectangle shows each character as often as it fits
 abbrev pub ShowsFillings : Type 0
 ShowsFillings = (style : Style) (c : ℕ) → ShowsInAll (λ area g. with_filling area style c g) (λ n. filling style n c)
+
+-- each character in the rectangle is on the background, and is else as it was
+abbrev pub ColorsInside : Type 0
+ColorsInside =
+    (color : Color) (area : Rect) (g : Sheet) (y x : ℕ) → IsSheet g → IsIn area y x → y < g.height → x < g.width
+    → grid_cell (with_background area color g) y x ≡ on_background color (grid_cell g y x)

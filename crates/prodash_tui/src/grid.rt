@@ -2,14 +2,14 @@
 ghost use Rattle.std.specs.Prelude.{◌≡◌, ◌+◌, ◌-◌, ◌<◌, ◌≤◌, ◌^◌, length, replicate, IfOk, IsOkUnless, MatchOption};
 ghost use Rattle.std.specs.List.{All};
 ghost use Rattle.prodash_tui.specs.Cells.{blank_cells};
-ghost use Rattle.prodash_tui.specs.Grids.{IsRow, IsSheet, blank_sheet, left_of, room_of, with_border, with_filling, with_shortened, with_text};
+ghost use Rattle.prodash_tui.specs.Grids.{IsRow, IsSheet, blank_sheet, left_of, room_of, with_background, with_border, with_filling, with_shortened, with_text};
 ghost use Rattle.prodash_tui.specs.plumbing.Appended.{AreCounted};
-ghost use Rattle.prodash_tui.specs.plumbing.GridInside.{filled_rows};
+ghost use Rattle.prodash_tui.specs.plumbing.GridInside.{colored_rows, filled_rows};
 
 use crate::cell::Cell;
 use crate::rect::{bottom_of, left_side_of, right_side_of, top_of};
 use crate::row::Row;
-use crate::style::Style;
+use crate::style::{Color, Style};
 use prodash_base::Refusal;
 use prodash_core::render::tui::Rect;
 use std::alloc::Global;
@@ -75,6 +75,19 @@ fn fill_rows(
 {
     for k in first..last {
         rows[k].fill(x, end, c, style);
+    }
+}
+
+/// Changes the background of the columns from `x` up to `end`, in rows `first` up to `last`.
+fn color_rows(rows: &mut Vec<Row>, first: usize, last: usize, x: usize, end: usize, color: Color)
+    requires order { x ≤ end }
+    requires end { All (λ row. end ≤ length row) rows.old.items }
+    requires rows { first ≤ last }
+    requires last { last ≤ length rows.old.items }
+    ensures { rows.new.items ≡ colored_rows first last x end color rows.old.items }
+{
+    for k in first..last {
+        rows[k].fill_background(x, end, color);
     }
 }
 
@@ -181,6 +194,24 @@ impl Grid {
             usize::from(end),
             c,
             style,
+        );
+    }
+
+    /// Changes the background of a rectangle. The characters stay.
+    pub fn fill_background(&mut self, area: Rect, color: Color)
+        ensures { self.new ≡ with_background area color self.old }
+    {
+        let x = area.x.min(self.width);
+        let end = x + area.width.min(self.width - x);
+        let y = area.y.min(self.height);
+        let last = y + area.height.min(self.height - y);
+        color_rows(
+            &mut self.rows,
+            usize::from(y),
+            usize::from(last),
+            usize::from(x),
+            usize::from(end),
+            color,
         );
     }
 

@@ -4,10 +4,11 @@
 ghost use Rattle.std.specs.Prelude.{◌≡◌, ℕ, Bool, List};
 ghost use Rattle.prodash_line.specs.CellRows.{char_columns};
 ghost use Rattle.prodash_tui.specs.declared.cell.Cell.{Cell};
+ghost use Rattle.prodash_tui.specs.declared.style.Color.{Color};
 ghost use Rattle.prodash_tui.specs.declared.style.Style.{Style};
 ghost use Rattle.prodash_tui.specs.Differences.{AreRedrawn, IsProperSheet, KeepsProper, TellsApart};
 ghost use Rattle.prodash_tui.specs.Frames.{DrawsFirst, DrawsNext};
-ghost use Rattle.prodash_tui.specs.Grids.{blank_sheet, with_border, with_filling, with_shortened, with_text};
+ghost use Rattle.prodash_tui.specs.Grids.{blank_sheet, with_background, with_border, with_filling, with_shortened, with_text};
 ghost use Rattle.prodash_tui.specs.Rects.{intersect};
 ghost use Rattle.prodash_tui.specs.Screens.{DrawsEntered, DrawsFrames, Restores, RestoresFrames};
 ghost use Rattle.prodash_base.specs.declared.messages.Message.{Message};
@@ -17,7 +18,7 @@ ghost use Rattle.prodash_tui.specs.Dashboards.{DashboardsFit, KeepsFit};
 ghost use Rattle.prodash_tui.specs.Headlines.{with_headline};
 ghost use Rattle.prodash_tui.specs.InformationPanes.{with_information};
 ghost use Rattle.prodash_tui.specs.MessagePanes.{with_message_pane};
-ghost use Rattle.prodash_tui.specs.Outside.{IsShared, ShowsFillings, ShowsShortened, ShowsTexts, StaysInside};
+ghost use Rattle.prodash_tui.specs.Outside.{ColorsInside, IsShared, ShowsFillings, ShowsShortened, ShowsTexts, StaysInside};
 
 /// The first row of the rectangle shows the text from the left edge on, cut at the right one. No
 /// cell outside the rectangle changes, if its edges go through no character of two columns.
@@ -52,6 +53,13 @@ pub fn bordered()
     ensures { (s : Style) → StaysInside (λ area g. with_border area s g) }
 {}
 
+/// Each character in the rectangle is on the background, and is else as it was. No cell outside the
+/// rectangle changes.
+pub fn colored()
+    ensures inside { ColorsInside }
+    ensures outside { (c : Color) → StaysInside (λ area g. with_background area c g) }
+{}
+
 /// A blank grid has proper rows, and so has each grid that is drawn on one that has.
 pub fn proper()
     ensures blank { (width height : ℕ) → IsProperSheet char_columns (blank_sheet width height) }
@@ -60,6 +68,7 @@ pub fn proper()
         → KeepsProper (λ area g. with_shortened area s t g) }
     ensures filled { (s : Style) (c : ℕ) → KeepsProper (λ area g. with_filling area s c g) }
     ensures border { (s : Style) → KeepsProper (λ area g. with_border area s g) }
+    ensures background { (c : Color) → KeepsProper (λ area g. with_background area c g) }
 {}
 
 /// A proper row into which the characters are written that differ in another proper row of its

@@ -1,13 +1,13 @@
 //! The cells of a row of a grid.
 ghost use Rattle.std.specs.Prelude.{◌≡◌, ◌+◌, ◌-◌, ◌^◌, ◌<◌, ◌≤◌, ◌++◌, length, take, drop, replicate, IfOk};
 ghost use Rattle.prodash_line.specs.CellRows.{char_columns};
-ghost use Rattle.prodash_tui.specs.Cells.{blank_cell, blank_cells, cell_of, is_half, joined_by};
-ghost use Rattle.prodash_tui.specs.Rows.{front, healed, splice};
+ghost use Rattle.prodash_tui.specs.Cells.{blank_cell, blank_cells, cell_of, is_half, joined_by, on_background};
+ghost use Rattle.prodash_tui.specs.Rows.{front, healed, in_part, splice};
 ghost use Rattle.prodash_tui.specs.Texts.{filling, text_cut, text_shortened};
 ghost use Rattle.prodash_tui.specs.plumbing.Writing.{IsInside, after_char, pen_at};
 
 use crate::cell::{Cell, Joined};
-use crate::style::Style;
+use crate::style::{Color, Style};
 use crate::text::text_columns;
 use prodash_line::render::line::draw::safe_char;
 use prodash_line::render::line::page::{CharColumns, UnicodeWidth};
@@ -70,6 +70,28 @@ fn join_cell(cell: &mut Cell, c: char)
     match cell {
         Cell::Holds(_, joined, _) => joined.push(c),
         Cell::Half => {}
+    }
+}
+
+/// Changes the background of a cell's character.
+fn color_cell(cell: &mut Cell, color: Color)
+    ensures { cell.new ≡ on_background color cell.old }
+{
+    match cell {
+        Cell::Holds(_, _, style) => *style = style.bg(color),
+        Cell::Half => {}
+    }
+}
+
+/// Changes the background of the cells from `first` up to `last`.
+fn color_cells(cells: &mut Vec<Cell>, first: usize, last: usize, color: Color)
+    requires order { first ≤ last }
+    requires last { last ≤ length cells.old.items }
+    ensures { cells.new.items
+        ≡ in_part first (last - first) (on_background color) cells.old.items }
+{
+    for k in first..last {
+        color_cell(&mut cells[k], color);
     }
 }
 
@@ -201,6 +223,15 @@ impl Row {
         }
         let behind = self.draw_text(x, end - 1, text, style);
         self.fill(behind, behind + 1, '…', style);
+    }
+
+    /// Changes the background of the columns from `x` up to `end`.
+    pub(crate) fn fill_background(&mut self, x: usize, end: usize, color: Color)
+        requires order { x ≤ end }
+        requires end { end ≤ length self.old }
+        ensures { self.new ≡ in_part x (end - x) (on_background color) self.old }
+    {
+        color_cells(&mut self.cells, x, end, color);
     }
 
     /// Blanks all cells.

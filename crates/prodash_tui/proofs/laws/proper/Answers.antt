@@ -3,6 +3,7 @@ use Rattle.prodash_line.specs.CellRows.{char_columns}
 use Rattle.prodash_tui.specs.Grids.{room_of}
 use Rattle.prodash_tui.specs.Rects.{border}
 use Rattle.prodash_tui.specs.Texts.{drawn_text, text_cells, text_cut, text_shortened}
+use Rattle.prodash_tui.proofs.ColoredCells.{proper_background}
 use Rattle.prodash_tui.proofs.ProperGrids.{proper_blank, proper_cells, proper_filling, proper_fillings}
 use Rattle.prodash_tui.proofs.ProperRows.{proper_cut, proper_shortened, proper_text, space_columns}
 use Rattle.prodash_tui.proofs.WrittenTexts.{ellipsis_columns, length-cut, length-shortened}
@@ -29,3 +30,6 @@ returns-clause-filled c = λ style d area g h. proper_filling area style d g h
 
 pub returns-clause-border : goal.returns-clause-border
 returns-clause-border c = λ style area g h. proper_fillings style (border area) g h
+
+pub returns-clause-background : goal.returns-clause-background
+returns-clause-background c = λ color area g h. proper_background area color g h
