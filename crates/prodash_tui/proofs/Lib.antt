@@ -15,6 +15,9 @@ pub mod WorkedDisplays
 pub mod WorkedScreens
 pub mod BorderCells
 pub mod ColoredCells
+pub mod PaneRows
+pub mod WorkedBars
+pub mod WorkedProgress
 pub mod WorkedRects
 pub mod DrawnPieces
 pub mod CountedRows

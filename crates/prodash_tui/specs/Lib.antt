@@ -9,6 +9,9 @@ pub mod InformationPanes
 pub mod MessagePanes
 pub mod PaneBounds
 pub mod Headlines
+pub mod Bars
+pub mod RowTexts
+pub mod ProgressPanes
 pub mod Outside
 pub mod Differences
 pub mod Signs

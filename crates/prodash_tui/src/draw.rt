@@ -6,6 +6,7 @@ pub mod information;
 mod input;
 pub mod messages;
 mod parts;
+pub mod progress;
 
 pub use bounds::Bounds;
 pub use input::Input;

@@ -1,0 +1,194 @@
+//! The rows of a progress pane.
+ghost use Rattle.std.specs.Prelude.{◌≡◌, ◌+◌, ◌<◌, length, OnOk, IfOk, IsOkUnless};
+ghost use Rattle.std.specs.Option.{option_map};
+ghost use Rattle.prodash_base.specs.Adjacency.{IsAscending, paths_of};
+ghost use Rattle.prodash_base.specs.Rows.{progress_of, rows_of};
+ghost use Rattle.prodash_tui.specs.ProgressPanes as panes;
+ghost use Rattle.prodash_tui.specs.ProgressPanes.{behind_branches, widest_amount, with_bounded, with_branches, with_group, with_row, with_rows, with_value};
+ghost use Rattle.prodash_tui.specs.RowTexts.{amount_columns};
+
+use crate::draw::parts::bold;
+use crate::draw::progress::bar::{
+    bar_color, bar_columns, black_on, draw_bar, draw_spinner, draw_text_across, first_columns,
+    spinner_color,
+};
+use crate::draw::progress::lines::Lines;
+use crate::draw::progress::texts::{
+    branches_of, has_child, write_amount, write_label, write_title,
+};
+use crate::draw::progress::tree::shown_count;
+use crate::grid::Grid;
+use crate::rect::{line_bound, offset_x};
+use crate::style::Style;
+use crate::text::block_width;
+use prodash_base::Refusal;
+use prodash_base::progress::{Row, Step, Value};
+use prodash_core::render::tui::{Rect, VERTICAL_LINE};
+use std::alloc::Global;
+
+/// Draws the branches that lead to a row on a line, and returns what is behind them.
+fn draw_branches(
+    alloc: Global,
+    grid: &mut Grid,
+    rows: &[Row],
+    index: usize,
+    line: Rect,
+) -> Result<Rect, Refusal>
+    requires sorted { IsAscending (paths_of rows.now) }
+    requires inside { index < length rows.now }
+    ensures drawn { OnOk result
+        (grid.new ≡ with_branches (rows_of rows.now) index line grid.old) }
+    ensures behind { IfOk result (λ r. r ≡ behind_branches (rows_of rows.now) index line) }
+    ensures reason { IsOkUnless result Refusal.Memory }
+{
+    let branches = branches_of(alloc, rows, index)?;
+    grid.draw_text_with_ellipsis(line, VERTICAL_LINE, Style::new());
+    grid.draw_text_with_ellipsis(line, branches.as_str(), Style::new());
+    Ok(offset_x(line, block_width(branches.as_str())))
+}
+
+/// Returns how many columns the line of a group has.
+fn rule_columns(has_child: bool, columns: u16) -> u16
+    ensures { result ≡ panes.rule_columns has_child columns }
+{
+    if has_child {
+        columns.saturating_sub(3).max(1)
+    } else {
+        1
+    }
+}
+
+/// Draws a group: a line of so many columns, and its title over it.
+fn draw_group(
+    grid: &mut Grid,
+    text: &mut String,
+    name: &str,
+    columns: u16,
+    line: Rect,
+) -> Result<(), Refusal>
+    ensures drawn { OnOk result (grid.new ≡ with_group name.now columns line grid.old) }
+    ensures reason { IsOkUnless result Refusal.Memory }
+{
+    write_title(text, name)?;
+    let rule = first_columns(offset_x(line, 1), columns);
+    grid.fill(rule, '─', Style::new());
+    grid.draw_text_with_ellipsis(line, text.as_str(), bold());
+    Ok(())
+}
+
+/// Draws a progress with a bound: a bar, and its label over it.
+fn draw_bounded(grid: &mut Grid, value: &Value, bound: Step, label: &str, line: Rect)
+    ensures { grid.new ≡ with_bounded (progress_of value.now) bound label.now line grid.old }
+{
+    let color = bar_color(value, bound);
+    draw_bar(grid, line, value.step, bound, color);
+    let columns = bar_columns(line.width, value.step, bound);
+    draw_text_across(grid, line, columns, black_on(color), Style::new(), label);
+}
+
+/// Draws a progress behind the branches of its line.
+fn draw_value(
+    alloc: Global,
+    grid: &mut Grid,
+    text: &mut String,
+    value: &Value,
+    lines: &Lines,
+    line: u16,
+    behind: Rect,
+) -> Result<(), Refusal>
+    ensures drawn { OnOk result (grid.new
+        ≡ with_value (progress_of value.now) value.now.done_at lines.now line behind grid.old) }
+    ensures reason { IsOkUnless result Refusal.Memory }
+{
+    write_label(alloc, text, lines.at, value)?;
+    match value.done_at {
+        Some(bound) => draw_bounded(grid, value, bound, text.as_str(), behind),
+        None => {
+            grid.draw_text_with_ellipsis(behind, text.as_str(), Style::new());
+            let whole = line_bound(lines.area, usize::from(line));
+            let place = u128::from(value.step) + u128::from(line);
+            let area = offset_x(whole, lines.amount_columns);
+            draw_spinner(grid, area, place, spinner_color(value));
+        }
+    }
+    Ok(())
+}
+
+/// Draws a row on a line.
+fn draw_row(
+    alloc: Global,
+    grid: &mut Grid,
+    text: &mut String,
+    rows: &[Row],
+    lines: &Lines,
+    line: u16,
+) -> Result<(), Refusal>
+    requires sorted { IsAscending (paths_of rows.now) }
+    requires inside { lines.now.offset + line < length rows.now }
+    ensures drawn { OnOk result
+        (grid.new ≡ with_row (rows_of rows.now) lines.now line grid.old) }
+    ensures reason { IsOkUnless result Refusal.Memory }
+{
+    let index = usize::from(lines.offset) + usize::from(line);
+    let bound = line_bound(lines.area, usize::from(line));
+    let behind = draw_branches(alloc, grid, rows, index, bound)?;
+    let row = &rows[index];
+    match &row.progress {
+        Some(value) => draw_value(alloc, grid, text, value, lines, line, behind),
+        None => {
+            let columns = rule_columns(has_child(rows, index), lines.area.width);
+            draw_group(grid, text, row.name.as_str(), columns, behind)
+        }
+    }
+}
+
+/// Draws rows on lines.
+pub(crate) fn draw_rows(
+    alloc: Global,
+    grid: &mut Grid,
+    text: &mut String,
+    rows: &[Row],
+    lines: &Lines,
+) -> Result<(), Refusal>
+    requires sorted { IsAscending (paths_of rows.now) }
+    ensures drawn { OnOk result (grid.new ≡ with_rows (rows_of rows.now) lines.now grid.old) }
+    ensures reason { IsOkUnless result Refusal.Memory }
+{
+    for line in 0..shown_count(rows, lines.area, lines.offset) {
+        draw_row(alloc, grid, text, rows, lines, line)?;
+    }
+    Ok(())
+}
+
+/// Returns how many columns the amount of a row has; 0 of a group. Writes over the text.
+fn columns_of_amount(alloc: Global, text: &mut String, row: &Row) -> Result<u16, Refusal>
+    ensures ok { IfOk result (λ n.
+        n ≡ amount_columns (option_map progress_of row.now.progress)) }
+    ensures reason { IsOkUnless result Refusal.Memory }
+{
+    match &row.progress {
+        Some(value) => write_amount(alloc, text, value),
+        None => Ok(0),
+    }
+}
+
+/// Returns how many columns the widest amount of the rows from an offset on has. Writes over the
+/// text.
+pub(crate) fn widest_amount(
+    alloc: Global,
+    text: &mut String,
+    rows: &[Row],
+    area: Rect,
+    offset: u16,
+) -> Result<u16, Refusal>
+    ensures ok { IfOk result (λ n. n ≡ widest_amount (rows_of rows.now) area offset) }
+    ensures reason { IsOkUnless result Refusal.Memory }
+{
+    let mut columns = 0;
+    for line in 0..shown_count(rows, area, offset) {
+        let index = usize::from(offset) + usize::from(line);
+        let width = columns_of_amount(alloc, text, &rows[index])?;
+        columns = width.max(columns);
+    }
+    Ok(columns)
+}
