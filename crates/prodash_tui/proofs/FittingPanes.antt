@@ -73,7 +73,7 @@ fit_head d area title keys g h =
     fit_at_right d area keys (with_text area bold title line) (fit_text d area bold title line (fit_filling d (top_of area) plain 0x2500 g h))
 
 -- a choice of two grids
-fit_choice : (d : Display) (t : Bool) (g h : Sheet) → Fit d g → Fit d h → Fit d (cond t g h)
+pub fit_choice : (d : Display) (t : Bool) (g h : Sheet) → Fit d g → Fit d h → Fit d (cond t g h)
 fit_choice d true g h p q = p
 fit_choice d false g h p q = q
 

@@ -22,4 +22,5 @@ pub mod WorkedRects
 pub mod DrawnPieces
 pub mod CountedRows
 pub mod FittingPanes
+pub mod FittingProgress
 pub mod WorkedPanes

@@ -15,9 +15,12 @@ ghost use Rattle.prodash_base.specs.declared.messages.Message.{Message};
 ghost use Rattle.prodash_core.specs.declared.render.tui.event.Line.{Line};
 ghost use Rattle.prodash_core.specs.declared.render.tui.event.Rect.{Rect};
 ghost use Rattle.prodash_tui.specs.Dashboards.{DashboardsFit, KeepsFit};
+ghost use Rattle.prodash_base.specs.Rows.{PathRow};
+ghost use Rattle.prodash_tui.specs.declared.draw.progress.lines.Scroll.{Scroll};
 ghost use Rattle.prodash_tui.specs.Headlines.{with_headline};
 ghost use Rattle.prodash_tui.specs.InformationPanes.{with_information};
 ghost use Rattle.prodash_tui.specs.MessagePanes.{with_message_pane};
+ghost use Rattle.prodash_tui.specs.ProgressPanes.{with_progress_pane};
 ghost use Rattle.prodash_tui.specs.Outside.{ColorsInside, IsShared, ShowsFillings, ShowsShortened, ShowsTexts, StaysInside};
 
 /// The first row of the rectangle shows the text from the left edge on, cut at the right one. No
@@ -109,5 +112,7 @@ pub fn dashboards()
     ensures messages { (l : List Message) (overflow : Rect) (offset : ℕ)
         → KeepsFit (λ area g. with_message_pane l area overflow offset g) }
     ensures headline { (text : List ℕ) → KeepsFit (λ area g. with_headline area text g) }
+    ensures progress { (rows : List PathRow) (at : ℕ) (s : Scroll)
+        → KeepsFit (λ area g. with_progress_pane rows at s area g) }
     ensures all { DashboardsFit }
 {}

@@ -1,4 +1,5 @@
 use Rattle.prodash_tui.proofs.FittingPanes.{fit_dashboard, fit_headline, fit_information, fit_message_pane}
+use Rattle.prodash_tui.proofs.FittingProgress.{fit_pane}
 use Rattle.prodash_tui.proofs.laws.dashboards.Goals as goal
 
 pub returns-clause-information : goal.returns-clause-information
@@ -9,6 +10,9 @@ returns-clause-messages c = λ ms overflow offset d area g h. fit_message_pane d
 
 pub returns-clause-headline : goal.returns-clause-headline
 returns-clause-headline c = λ text d area g h. fit_headline d area text g h
+
+pub returns-clause-progress : goal.returns-clause-progress
+returns-clause-progress c = λ rows at scroll d area g h. fit_pane d rows at scroll area g h
 
 pub returns-clause-all : goal.returns-clause-all
 returns-clause-all c = fit_dashboard
