@@ -7,6 +7,7 @@ use Rattle.prodash_core.specs.declared.render.tui.event.Rect.{Rect}
 use Rattle.prodash_core.specs.declared.render.tui.state.State.{State}
 use Rattle.prodash_tui.specs.declared.draw.bounds.Bounds.{Bounds}
 use Rattle.prodash_tui.specs.declared.draw.input.Input.{Input}
+use Rattle.prodash_tui.specs.declared.draw.progress.lines.Scroll.{Scroll}
 use Rattle.prodash_line.specs.CellRows.{char_columns}
 use Rattle.prodash_tui.specs.Cells.{plain}
 use Rattle.prodash_tui.specs.Displays.{Display}
@@ -16,6 +17,7 @@ use Rattle.prodash_tui.specs.InformationPanes.{with_information}
 use Rattle.prodash_tui.specs.MessagePanes.{skipped_messages, with_message_pane}
 use Rattle.prodash_tui.specs.PaneBounds.{compute_info_bound, compute_pane_bounds}
 use Rattle.prodash_tui.specs.Panes.{bold}
+use Rattle.prodash_tui.specs.ProgressPanes.{scrolled, with_progress_pane}
 use Rattle.prodash_tui.specs.Rects.{bottom_of, inner_of, offset_x}
 use Rattle.prodash_tui.specs.Screens.{Fits}
 use Rattle.prodash_tui.specs.Texts.{block_width}
@@ -82,11 +84,40 @@ dashboard with_tasks s input area g =
     let window = with_window b.window (string_bytes s.title) g in
     if is_small b.window then window else with_panes with_tasks s input b window
 
--- the state after it
+-- how far the tasks are scrolled before a frame, if so many of them are skipped
+abbrev pub scroll_of : Input → ℕ → Scroll
+scroll_of input offset = record { offset = offset; tree_columns = input.tree_columns }
+
+-- the tasks in a rectangle
+abbrev pub with_task_pane : Input → ℕ → Rect → Sheet → Sheet
+with_task_pane input offset area g = with_progress_pane (rows_of input.rows.now) input.at (scroll_of input offset) area g
+
+-- how far they are scrolled then
+abbrev pub scroll_after : Input → ℕ → Rect → Scroll
+scroll_after input offset area = scrolled (rows_of input.rows.now) (scroll_of input offset) area
+
+-- a dashboard with its tasks
+abbrev pub whole_dashboard : State → Input → Rect → Sheet → Sheet
+whole_dashboard s input area g = dashboard (with_task_pane input s.task_offset) s input area g
+
+-- the state after the panes are drawn in these bounds
+abbrev pub panes_after : State → Input → Bounds → State
+panes_after s input b =
+    record s {
+      task_offset = (scroll_after input s.task_offset b.tasks).offset;
+      message_offset = offset_in b.messages s.message_offset input.messages.now;
+    }
+
+-- the state after a dashboard is drawn
 abbrev pub state_after : State → Input → Rect → State
 state_after s input area =
+    let b = bounds_of s (length input.messages.now) area in if is_small b.window then s else panes_after s input b
+
+-- how many columns the tree of the tasks has then
+abbrev pub tree_after : State → Input → Rect → ℕ
+tree_after s input area =
     let b = bounds_of s (length input.messages.now) area in
-    if is_small b.window then s else record s { message_offset = offset_in b.messages s.message_offset input.messages.now }
+    if is_small b.window then input.tree_columns else (scroll_after input s.task_offset b.tasks).tree_columns
 
 -- a way to draw in a rectangle after which a grid still fits a display: its rows are proper, and it has the display's size
 abbrev pub KeepsFit : (Rect → Sheet → Sheet) → Type 0

@@ -14,7 +14,9 @@ ghost use Rattle.prodash_tui.specs.Screens.{DrawsEntered, DrawsFrames, Restores,
 ghost use Rattle.prodash_base.specs.declared.messages.Message.{Message};
 ghost use Rattle.prodash_core.specs.declared.render.tui.event.Line.{Line};
 ghost use Rattle.prodash_core.specs.declared.render.tui.event.Rect.{Rect};
-ghost use Rattle.prodash_tui.specs.Dashboards.{DashboardsFit, KeepsFit};
+ghost use Rattle.prodash_core.specs.declared.render.tui.state.State.{State};
+ghost use Rattle.prodash_tui.specs.declared.draw.input.Input.{Input};
+ghost use Rattle.prodash_tui.specs.Dashboards.{DashboardsFit, KeepsFit, whole_dashboard};
 ghost use Rattle.prodash_base.specs.Rows.{PathRow};
 ghost use Rattle.prodash_tui.specs.declared.draw.progress.lines.Scroll.{Scroll};
 ghost use Rattle.prodash_tui.specs.Headlines.{with_headline};
@@ -115,4 +117,6 @@ pub fn dashboards()
     ensures progress { (rows : List PathRow) (at : ℕ) (s : Scroll)
         → KeepsFit (λ area g. with_progress_pane rows at s area g) }
     ensures all { DashboardsFit }
+    ensures whole { (s : State) (input : Input)
+        → KeepsFit (λ area g. whole_dashboard s input area g) }
 {}

@@ -1,13 +1,15 @@
 //! A dashboard, and where its parts are.
-ghost use Rattle.std.specs.Prelude.{◌≡◌, IsOkUnless, OnOk};
-ghost use Rattle.prodash_tui.specs.Dashboards.{bounds_of, dashboard, headline_bound, is_small, messages_to_show, narrower, offset_in, shown_information, state_after, with_information_in, with_messages_in, with_panes, with_window};
+ghost use Rattle.std.specs.Prelude.{◌≡◌, IfOk, IsOkUnless, OnOk};
+ghost use Rattle.prodash_base.specs.Adjacency.{IsAscending, paths_of};
+ghost use Rattle.prodash_tui.specs.Dashboards.{bounds_of, headline_bound, is_small, messages_to_show, narrower, offset_in, panes_after, scroll_after, shown_information, state_after, tree_after, whole_dashboard, with_information_in, with_messages_in, with_panes, with_task_pane, with_window};
 ghost use Rattle.prodash_tui.specs.PaneBounds.{compute_info_bound, compute_pane_bounds, information_width, line_text, messages_room, split_below, split_right, wanted_width};
 
 use crate::draw::bounds::Bounds;
 use crate::draw::headline::headline;
 use crate::draw::input::Input;
 use crate::draw::parts::bold;
-use crate::draw::{information, messages};
+use crate::draw::progress::Scroll;
+use crate::draw::{information, messages, progress};
 use crate::grid::Grid;
 use crate::rect::{bottom_of, inner_of, offset_x, snap_to_right};
 use crate::style::Style;
@@ -17,29 +19,35 @@ use prodash_base::messages::Message;
 use prodash_core::render::tui::{Line, Rect, State};
 use std::alloc::Global;
 
-/// Draws a dashboard without its tasks in a rectangle of a grid: the window with its title, the
-/// headline, the messages and the information. Of a window with less than four rows or columns only
-/// the border and the title are drawn. The offset of the messages is then as many as are skipped.
+/// Draws a dashboard in a rectangle of a grid: the window with its title, the headline, the tasks,
+/// the messages and the information. Of a window with less than four rows or columns only the
+/// border and the title are drawn. The offsets of the tasks and of the messages are then as many as
+/// are skipped. Returns how many columns the tree of the tasks has, for the next frame. `text` is
+/// memory for texts, which is written over. The rows must be in strictly ascending order of their
+/// keys, as those of a snapshot are.
 ///
 /// `Memory`: out of memory. The grid may then have a part of the dashboard.
 pub fn all(
     alloc: Global,
+    text: &mut String,
     state: &mut State,
     input: &Input<'_>,
     bound: Rect,
     grid: &mut Grid,
-) -> Result<(), Refusal>
+) -> Result<u16, Refusal>
+    requires sorted { IsAscending (paths_of input.now.rows.now) }
     ensures ok { OnOk result
-        (grid.new ≡ dashboard (λ area g. g) state.old input.now bound grid.old) }
+        (grid.new ≡ whole_dashboard state.old input.now bound grid.old) }
     ensures state { OnOk result (state.new ≡ state_after state.old input.now bound) }
+    ensures tree { IfOk result (λ n. n ≡ tree_after state.old input.now bound) }
     ensures reason { IsOkUnless result Refusal.Memory }
 {
     let bounds = bounds_of(state, input.messages.len(), bound);
     draw_window(bounds.window, state.title.as_str(), grid);
     if is_small(bounds.window) {
-        return Ok(());
+        return Ok(input.tree_columns);
     }
-    draw_panes(alloc, state, input, &bounds, grid)
+    draw_panes(alloc, text, state, input, &bounds, grid)
 }
 
 /// Returns where the parts of a dashboard with so many messages are.
@@ -109,30 +117,55 @@ fn headline_bound(area: Rect, title: &str) -> Rect
     offset_x(offset_x(narrower(area), block_width(title)), 2)
 }
 
-/// Draws what is inside the window, but the tasks, and the information.
+/// Draws what is inside the window, and the information. Returns how many columns the tree of the
+/// tasks has.
 fn draw_panes(
     alloc: Global,
+    text: &mut String,
     state: &mut State,
     input: &Input<'_>,
     bounds: &Bounds,
     grid: &mut Grid,
-) -> Result<(), Refusal>
-    ensures ok { OnOk result
-        (grid.new ≡ with_panes (λ area g. g) state.old input.now bounds.now grid.old) }
-    ensures state { OnOk result (state.new ≡ record state.old {
-      message_offset
-          = offset_in bounds.now.messages state.old.message_offset input.now.messages.now;
-    }) }
+) -> Result<u16, Refusal>
+    requires sorted { IsAscending (paths_of input.now.rows.now) }
+    ensures ok { OnOk result (grid.new ≡ with_panes
+        (with_task_pane input.now state.old.task_offset) state.old input.now bounds.now grid.old) }
+    ensures state { OnOk result (state.new ≡ panes_after state.old input.now bounds.now) }
+    ensures tree { IfOk result (λ n.
+        n ≡ (scroll_after input.now state.old.task_offset bounds.now.tasks).tree_columns) }
     ensures reason { IsOkUnless result Refusal.Memory }
 {
     let interval = input.nanoseconds_per_frame;
     let mode = state.interrupt_mode;
     let behind = headline_bound(bounds.window, state.title.as_str());
     headline(alloc, input.rows, mode, interval, input.time, behind, grid)?;
+    let scroll = draw_tasks(alloc, text, input, state.task_offset, bounds.tasks, grid)?;
+    state.task_offset = scroll.offset;
     let offset = &mut state.message_offset;
     draw_messages(alloc, input.messages, bounds, offset, grid)?;
     draw_information(state.information.as_slice(), bounds.information, grid);
-    Ok(())
+    Ok(scroll.tree_columns)
+}
+
+/// Draws the tasks, of which so many are skipped, and returns how far they are scrolled then.
+fn draw_tasks(
+    alloc: Global,
+    text: &mut String,
+    input: &Input<'_>,
+    offset: u16,
+    area: Rect,
+    grid: &mut Grid,
+) -> Result<Scroll, Refusal>
+    requires sorted { IsAscending (paths_of input.now.rows.now) }
+    ensures ok { OnOk result (grid.new ≡ with_task_pane input.now offset area grid.old) }
+    ensures scroll { IfOk result (λ s. s ≡ scroll_after input.now offset area) }
+    ensures reason { IsOkUnless result Refusal.Memory }
+{
+    let scroll = Scroll {
+        offset,
+        tree_columns: input.tree_columns,
+    };
+    progress::pane(alloc, grid, text, input.rows, input.at, scroll, area)
 }
 
 /// Draws the messages, if they are shown.

@@ -1,5 +1,6 @@
 use prodash_base::messages::Message;
 use prodash_base::progress::Row;
+use prodash_base::time::Moment;
 
 /// What a frame shows beside the state of its dashboard.
 #[derive(Clone, Copy)]
@@ -10,6 +11,10 @@ pub struct Input<'a> {
     pub messages: &'a [Message],
     /// The interval between frames, in nanoseconds.
     pub nanoseconds_per_frame: u64,
+    /// The moment of the frame.
+    pub at: Moment,
     /// The moment of the frame as a text.
     pub time: &'a str,
+    /// How many columns the tree of the tasks has; 0 if that isn't known.
+    pub tree_columns: u16,
 }

@@ -1,5 +1,7 @@
 use Rattle.prodash_tui.proofs.FittingPanes.{fit_dashboard, fit_headline, fit_information, fit_message_pane}
 use Rattle.prodash_tui.proofs.FittingProgress.{fit_pane}
+use Rattle.prodash_base.specs.Rows.{rows_of}
+use Rattle.prodash_tui.specs.Dashboards.{scroll_of, with_task_pane}
 use Rattle.prodash_tui.proofs.laws.dashboards.Goals as goal
 
 pub returns-clause-information : goal.returns-clause-information
@@ -13,6 +15,10 @@ returns-clause-headline c = λ text d area g h. fit_headline d area text g h
 
 pub returns-clause-progress : goal.returns-clause-progress
 returns-clause-progress c = λ rows at scroll d area g h. fit_pane d rows at scroll area g h
+
+pub returns-clause-whole : goal.returns-clause-whole
+returns-clause-whole c = λ s input d area g h.
+    fit_dashboard (with_task_pane input s.task_offset) (λ d area g h. fit_pane d (rows_of input.rows.now) input.at (scroll_of input s.task_offset) area g h) s input d area g h
 
 pub returns-clause-all : goal.returns-clause-all
 returns-clause-all c = fit_dashboard
