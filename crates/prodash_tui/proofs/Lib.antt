@@ -23,4 +23,5 @@ pub mod DrawnPieces
 pub mod CountedRows
 pub mod FittingPanes
 pub mod FittingProgress
+pub mod WorkedDashboards
 pub mod WorkedPanes
