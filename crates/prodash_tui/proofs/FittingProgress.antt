@@ -1,5 +1,5 @@
 -- Drawing a progress pane on a grid that fits a display leaves one that fits it.
-use Rattle.std.proofs.Common.{◌≡◌, ℕ, zero, suc, ◌+◌, ◌-◌, Option, Some, None, List, length}
+use Rattle.std.proofs.Common.{ℕ, zero, suc, ◌+◌, ◌-◌, Option, Some, None, List, length}
 use Rattle.std.specs.Prelude.{◌==◌}
 use Rattle.prodash_base.specs.Rows.{PathRow, RowProgress}
 use Rattle.prodash_core.specs.declared.render.tui.event.Rect.{Rect}
@@ -10,7 +10,7 @@ use Rattle.prodash_tui.specs.declared.draw.progress.lines.Scroll.{Scroll}
 use Rattle.prodash_tui.specs.declared.style.Color.{Color}
 use Rattle.prodash_tui.specs.declared.style.Color.TheVariants.{Red, Green}
 use Rattle.prodash_tui.specs.declared.style.Style.{Style}
-use Rattle.prodash_tui.specs.Bars.{bar_color, bar_columns, black_on, block, eighths, first_columns, inked, spinner_color, spinner_of, with_bar, with_spinner, with_text_across}
+use Rattle.prodash_tui.specs.Bars.{bar_color, bar_columns, black_on, block, eighths, first_columns, inked, spinner_color, spinner_of, with_bar, with_text_across}
 use Rattle.prodash_tui.specs.Cells.{plain}
 use Rattle.prodash_tui.specs.Displays.{Display}
 use Rattle.prodash_tui.specs.Grids.{Sheet, with_background, with_filling, with_shortened, with_text}
