@@ -15,7 +15,7 @@ use Rattle.prodash_tui.specs.declared.style.Style.{Style}
 use Rattle.prodash_tui.specs.Bars.{black_on}
 use Rattle.prodash_tui.specs.Cells.{blank_cells, cell_of, on_background, plain}
 use Rattle.prodash_tui.specs.Grids.{blank_sheet}
-use Rattle.prodash_tui.specs.ProgressPanes.{hidden, mean_share, rows_area, rows_offset, tree_line, tree_width, with_overflow, with_row, with_tree_row}
+use Rattle.prodash_tui.specs.ProgressPanes.{hidden, mean_share, rows_area, rows_offset, tree_columns, tree_line, tree_width, with_overflow, with_row, with_tree_row}
 use Rattle.prodash_tui.specs.Panes.{bold}
 use Rattle.prodash_tui.specs.RowTexts.{has_child, label_text, skipped_text, waits_text}
 
@@ -87,13 +87,22 @@ unfolding unicode_width encode digits
 unbounded = refl
 
 -- rows of the tree, which begins a column to the left: a group, and a task whose name has no room
-pub tree_group : (with_tree_row rows 0 (tree_line (rect 1 0 9 3) 0) (blank_sheet 9 1)).rows ≡ (text bold (codes "├ a ") ++ blank_cells 5) ∷ []
+pub tree_group : (with_tree_row rows 0 (tree_line (rect 1 0 9 3) 0) (blank_sheet 9 1)).rows ≡ (text bold (codes "├ a") ++ blank_cells 6) ∷ []
 unfolding unicode_width encode
 tree_group = refl
 
 pub tree_task : (with_tree_row rows 1 (tree_line (rect 1 0 5 3) 0) (blank_sheet 9 1)).rows ≡ (text plain (codes "│ ├…") ++ blank_cells 5) ∷ []
 unfolding unicode_width encode
 tree_task = refl
+
+-- the widest row has five columns, and one behind it; in as many columns it isn't shortened
+pub tree_known : tree_columns rows (rect 1 0 20 3) 0 ≡ 6
+unfolding unicode_width encode
+tree_known = refl
+
+pub tree_fits : (with_tree_row rows 1 (tree_line (rect 1 0 6 3) 0) (blank_sheet 9 1)).rows ≡ (text plain (codes "│ ├ b") ++ blank_cells 4) ∷ []
+unfolding unicode_width encode
+tree_fits = refl
 
 -- ---- the pane
 

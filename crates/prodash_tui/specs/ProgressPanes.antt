@@ -13,7 +13,7 @@ use Rattle.prodash_tui.specs.Grids.{Sheet, with_background, with_filling, with_s
 use Rattle.prodash_tui.specs.Offsets.{sanitize_offset}
 use Rattle.prodash_tui.specs.Panes.{bold, vertical_line}
 use Rattle.prodash_tui.specs.Rects.{bottom_of, line_bound, offset_x}
-use Rattle.prodash_tui.specs.RowTexts.{amount_columns, branches_of, has_child, hidden_text, keys_text, label_text, row_at, title_text, tree_text}
+use Rattle.prodash_tui.specs.RowTexts.{amount_columns, branches_of, has_child, hidden_text, keys_text, label_text, row_at, title_text, tree_row_columns, tree_text}
 use Rattle.prodash_tui.specs.Texts.{block_width}
 
 -- so many lines, each drawn after those above it
@@ -50,10 +50,10 @@ abbrev pub with_tree : List PathRow → Rect → ℕ → Sheet → Sheet
 with_tree rows area offset g =
     with_lines (shown_count rows area offset) (λ line g. with_tree_row rows (offset + line) (tree_line area line) g) g
 
--- the columns of the widest row in it
+-- the columns of the widest row in it, with one behind it
 abbrev pub tree_columns : List PathRow → Rect → ℕ → ℕ
 tree_columns rows area offset =
-    greatest (shown_count rows area offset) (λ line. block_width (tree_text rows (offset + line)))
+    greatest (shown_count rows area offset) (λ line. tree_row_columns rows (offset + line))
 
 -- ---- the progress of rows
 

@@ -1,6 +1,6 @@
 -- What a progress pane says of rows, as bytes.
 use Prim.Native.Char.{code}
-use Rattle.std.specs.Prelude.{ℕ, ◌+◌, ◌-◌, nat_lt, Bool, true, false, ◌&&◌, List, [], ◌++◌, codes, length, map, take, slice_index_or, Option, Some, None, encode_utf8_all, if◌then◌else◌}
+use Rattle.std.specs.Prelude.{ℕ, min, ◌+◌, ◌-◌, nat_lt, Bool, true, false, ◌&&◌, List, [], ◌++◌, codes, length, map, take, slice_index_or, Option, Some, None, encode_utf8_all, if◌then◌else◌}
 use Rattle.std.specs.Char.{encode_utf8}
 use Rattle.std.specs.Fmt.{decimal}
 use Rattle.std.specs.Option.{option_map_or}
@@ -44,7 +44,11 @@ branches_of rows i = option_map_or encode_utf8_all (prefix_at (map (λ row. row.
 
 -- row i of the tree: the branches that lead to it, and its name
 abbrev pub tree_text : List PathRow → ℕ → List ℕ
-tree_text rows i = branches_of rows i ++ (codes " " ++ ((row_at rows i).1.name ++ codes " "))
+tree_text rows i = branches_of rows i ++ (codes " " ++ (row_at rows i).1.name)
+
+-- its columns, and one behind it
+abbrev pub tree_row_columns : List PathRow → ℕ → ℕ
+tree_row_columns rows i = min (block_width (tree_text rows i) + 1) 65535
 
 -- a progress in a unit, or as a fraction if there is none
 abbrev pub amount_in : Option Measure → RowProgress → List ℕ

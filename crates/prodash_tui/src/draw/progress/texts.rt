@@ -63,7 +63,6 @@ pub(crate) fn write_tree_text(
     text.push_str(branches.as_str())?;
     text.push_str(" ")?;
     text.push_str(rows[index].name.as_str())?;
-    text.push_str(" ")?;
     Ok(())
 }
 

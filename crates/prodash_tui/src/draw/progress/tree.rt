@@ -5,8 +5,7 @@ ghost use Rattle.prodash_base.specs.Adjacency.{IsAscending, paths_of};
 ghost use Rattle.prodash_base.specs.Rows.{progress_of, rows_of};
 ghost use Rattle.prodash_tui.specs.ProgressPanes as panes;
 ghost use Rattle.prodash_tui.specs.ProgressPanes.{tree_columns, with_tree, with_tree_row};
-ghost use Rattle.prodash_tui.specs.RowTexts.{tree_text};
-ghost use Rattle.prodash_tui.specs.Texts.{block_width};
+ghost use Rattle.prodash_tui.specs.RowTexts.{tree_row_columns};
 
 use crate::draw::parts::bold;
 use crate::draw::progress::texts::write_tree_text;
@@ -49,7 +48,7 @@ fn tree_line(area: Rect, line: u16) -> Rect
     }
 }
 
-/// Draws a row of the tree, and returns how many columns it has.
+/// Draws a row of the tree, and returns how many columns it has, with one behind it.
 fn draw_tree_row(
     alloc: Global,
     grid: &mut Grid,
@@ -62,16 +61,16 @@ fn draw_tree_row(
     requires inside { index < length rows.now }
     ensures drawn { OnOk result
         (grid.new ≡ with_tree_row (rows_of rows.now) index line grid.old) }
-    ensures columns { IfOk result (λ n.
-        n ≡ block_width (tree_text (rows_of rows.now) index)) }
+    ensures columns { IfOk result (λ n. n ≡ tree_row_columns (rows_of rows.now) index) }
     ensures reason { IsOkUnless result Refusal.Memory }
 {
     write_tree_text(alloc, text, rows, index)?;
     grid.draw_text_with_ellipsis(line, text.as_str(), tree_style(&rows[index].progress));
-    Ok(block_width(text.as_str()))
+    Ok(block_width(text.as_str()).saturating_add(1))
 }
 
-/// Draws the tree of the rows from an offset on, and returns how many columns the widest has.
+/// Draws the tree of the rows from an offset on, and returns how many columns the widest has, with
+/// one behind it.
 pub(crate) fn draw_tree(
     alloc: Global,
     grid: &mut Grid,

@@ -4,8 +4,7 @@ use Rattle.prodash_base.specs.Rows.{rows_of}
 use Rattle.prodash_core.specs.declared.render.tui.event.Rect.{Rect}
 use Rattle.prodash_tui.specs.Grids.{Sheet}
 use Rattle.prodash_tui.specs.ProgressPanes.{greatest, tree_line, with_tree_row}
-use Rattle.prodash_tui.specs.RowTexts.{tree_text}
-use Rattle.prodash_tui.specs.Texts.{block_width}
+use Rattle.prodash_tui.specs.RowTexts.{tree_row_columns}
 use Rattle.prodash_tui.proofs.PaneRows.{greatest_more, line_more}
 use Rattle.prodash_tui.proofs.draw.progress.tree.draw_tree.Goals as goal
 
@@ -16,7 +15,7 @@ loop-line-preserved c =
     let offset = c.args.offset in
     let line = c.loop-line.line in
     let draw : ℕ → Sheet → Sheet = λ line g. with_tree_row rows (offset + line) (tree_line area line) g in
-    let numbers : ℕ → ℕ = λ line. block_width (tree_text rows (offset + line)) in
+    let numbers : ℕ → ℕ = λ line. tree_row_columns rows (offset + line) in
     let index : c.from.result + c.from-in-loop-line.result ≡ offset + line = omega arith in
     record {
       drawn = c.in_ok-width.ensures.drawn
@@ -26,7 +25,7 @@ loop-line-preserved c =
           ∙ sym (line_more line draw c.args.grid.now);
       columns =
           let before : c.loop-line.columns ≡ greatest line numbers = c.loop-line.invariant.columns in
-          let width : c.in_ok-width.width ≡ numbers line = c.in_ok-width.ensures.columns ∙ ap (λ (i : ℕ). block_width (tree_text rows i)) index in
+          let width : c.in_ok-width.width ≡ numbers line = c.in_ok-width.ensures.columns ∙ ap (λ (i : ℕ). tree_row_columns rows i) index in
           let more : greatest (line + 1) numbers ≡ max (greatest line numbers) (numbers line) = greatest_more line numbers in
           omega (arith, c.max-columns.ensures);
     }
