@@ -9,6 +9,7 @@ pub mod ProperGrids
 pub mod PlayedChanges
 pub mod PlayedFrames
 pub mod ShownScreens
+pub mod ShownRuns
 pub mod SpelledSigns
 pub mod WorkedSigns
 pub mod WorkedDisplays
@@ -24,4 +25,5 @@ pub mod CountedRows
 pub mod FittingPanes
 pub mod FittingProgress
 pub mod WorkedDashboards
+pub mod WorkedSessions
 pub mod WorkedPanes

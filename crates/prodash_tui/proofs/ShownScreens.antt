@@ -22,7 +22,7 @@ use Rattle.prodash_tui.proofs.PlayedFrames.{draws_first, draws_next}
 
 -- ---- frames enter and leave no screen
 
-abbrev Stay : List Sign → Type 0
+abbrev pub Stay : List Sign → Type 0
 Stay signs = AllByRecursion StaysOnScreen signs
 
 stay_append : (a b : List Sign) → Stay a → Stay b → Stay (a ++ b)
@@ -66,7 +66,7 @@ rows_stay row (a ∷ old) (b ∷ new) k =
     let behind = row_cursor row changes k in
     stay_append (row_signs row changes k) (rows_signs (row + 1) old new behind) (row_stays row changes k) (rows_stay (row + 1) old new behind)
 
-frame_stays : (b : Buffers) → Stay (frame b)
+pub frame_stays : (b : Buffers) → Stay (frame b)
 frame_stays b =
     let blank = blank_sheet b.back.width b.back.height in
     stay_if (follows b) (difference b.front b.back) (first_frame b.back) (rows_stay 0 b.front.rows b.back.rows None) (tt, (tt, rows_stay 0 blank.rows b.back.rows None))
@@ -79,7 +79,7 @@ frames_stay b (g ∷ grids) =
 
 -- ---- the main screen is kept under the alternate one
 
-abbrev Kept : Type 0
+abbrev pub Kept : Type 0
 Kept = Option (Sheet × Cursor)
 
 main_of_either : (t : Bool) (a b : Display) (m : Kept) → a.main ≡ m → b.main ≡ m → (cond t a b).main ≡ m
@@ -106,12 +106,12 @@ sign_keeps columns ShowCursor d stays = refl
 sign_keeps columns NoWrap d stays = refl
 sign_keeps columns Wrap d stays = refl
 
-signs_keep : (columns : ℕ → ℕ) (signs : List Sign) (d : Display) → Stay signs → (after_signs columns signs d).main ≡ d.main
+pub signs_keep : (columns : ℕ → ℕ) (signs : List Sign) (d : Display) → Stay signs → (after_signs columns signs d).main ≡ d.main
 signs_keep columns [] d stay = refl
 signs_keep columns (s ∷ signs) d stay = signs_keep columns signs (after_sign columns s d) stay.1 ∙ sign_keeps columns s d stay.0
 
 -- what is left of a display that keeps this grid and cursor under the alternate screen
-left_again : (columns : ℕ → ℕ) (d e : Display) → d.main ≡ None → e.main ≡ Some (d.grid, d.cursor)
+pub left_again : (columns : ℕ → ℕ) (d e : Display) → d.main ≡ None → e.main ≡ Some (d.grid, d.cursor)
     → after_signs columns leave e ≡ record d { shows_cursor = true; wraps = true }
 left_again columns d e none kept =
     λ i. record {
@@ -137,7 +137,7 @@ restores_frames columns b d grids none = restored columns d (frames b grids) (fr
 
 -- ---- what the frames show
 
-draws_frame : (columns : ℕ → ℕ) → columns 32 ≡ 1 → (b : Buffers) (d : Display) → Agrees columns b d → Fits columns d b.back → (after_signs columns (frame b) d).grid ≡ b.back
+pub draws_frame : (columns : ℕ → ℕ) → columns 32 ≡ 1 → (b : Buffers) (d : Display) → Agrees columns b d → Fits columns d b.back → (after_signs columns (frame b) d).grid ≡ b.back
 draws_frame columns space b d agrees fits =
     let Shows : Bool → Type 0 = λ t. (after_signs columns (cond t (difference b.front b.back) (first_frame b.back)) d).grid ≡ b.back in
     let go : (t : Bool) → follows b ≡ t → Shows t =
@@ -151,7 +151,7 @@ draws_frame columns space b d agrees fits =
     go (follows b) refl
 
 -- grids of a display's size are of that of another one of this size
-fits_more : (columns : ℕ → ℕ) (d e : Display) (g : Sheet) → e.grid.width ≡ d.grid.width → e.grid.height ≡ d.grid.height → Fits columns d g → Fits columns e g
+pub fits_more : (columns : ℕ → ℕ) (d e : Display) (g : Sheet) → e.grid.width ≡ d.grid.width → e.grid.height ≡ d.grid.height → Fits columns d g → Fits columns e g
 fits_more columns d e g width height fits = record { proper = fits.proper; size = record { width = width ∙ fits.size.width; height = height ∙ fits.size.height } }
 
 fit_more : (columns : ℕ → ℕ) (d e : Display) (grids : List Sheet) → e.grid.width ≡ d.grid.width → e.grid.height ≡ d.grid.height → AllByRecursion (Fits columns d) grids
@@ -159,7 +159,7 @@ fit_more : (columns : ℕ → ℕ) (d e : Display) (grids : List Sheet) → e.gr
 fit_more columns d e [] width height fit = tt
 fit_more columns d e (g ∷ grids) width height fit = (fits_more columns d e g width height fit.0, fit_more columns d e grids width height fit.1)
 
-after_grid : (columns : ℕ → ℕ) (a b : List Sign) (d : Display) → (after_signs columns (a ++ b) d).grid ≡ (after_signs columns b (after_signs columns a d)).grid
+pub after_grid : (columns : ℕ → ℕ) (a b : List Sign) (d : Display) → (after_signs columns (a ++ b) d).grid ≡ (after_signs columns b (after_signs columns a d)).grid
 after_grid columns a b d = ap (λ (e : Display). e.grid) (after_append columns a b d)
 
 drawn_frames : (columns : ℕ → ℕ) → columns 32 ≡ 1 → (b : Buffers) (d : Display) (grids : List Sheet) (last : Sheet) → Agrees columns b d

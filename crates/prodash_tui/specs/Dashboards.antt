@@ -100,6 +100,10 @@ scroll_after input offset area = scrolled (rows_of input.rows.now) (scroll_of in
 abbrev pub whole_dashboard : State → Input → Rect → Sheet → Sheet
 whole_dashboard s input area g = dashboard (with_task_pane input s.task_offset) s input area g
 
+-- a state with so many rows and messages skipped
+abbrev pub with_offsets : ℕ → ℕ → State → State
+with_offsets tasks messages s = record s { task_offset = tasks; message_offset = messages }
+
 -- the state after the panes are drawn in these bounds
 abbrev pub panes_after : State → Input → Bounds → State
 panes_after s input b =

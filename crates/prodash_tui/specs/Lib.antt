@@ -20,4 +20,6 @@ pub mod Frames
 pub mod Screens
 pub mod Lends
 pub mod Dashboards
+pub mod Sessions
+pub mod SessionRuns
 pub mod plumbing

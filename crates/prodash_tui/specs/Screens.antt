@@ -30,6 +30,10 @@ blank_buffers width height = record { front = blank_sheet width height; back = b
 abbrev pub unknown : Buffers → Buffers
 unknown b = record b { is_shown = false }
 
+-- the grids of a screen, with this one drawn next
+abbrev pub with_next : Sheet → Buffers → Buffers
+with_next g b = record b { back = g }
+
 -- the test of two grids of one size
 abbrev pub have_one_size : Sheet → Sheet → Bool
 have_one_size g h = nat_eq g.width h.width && nat_eq g.height h.height

@@ -2,3 +2,4 @@ pub mod Appended
 pub mod SameCells
 pub mod Writing
 pub mod GridInside
+pub mod SessionParts

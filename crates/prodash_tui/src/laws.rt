@@ -11,6 +11,7 @@ ghost use Rattle.prodash_tui.specs.Frames.{DrawsFirst, DrawsNext};
 ghost use Rattle.prodash_tui.specs.Grids.{blank_sheet, with_background, with_border, with_filling, with_shortened, with_text};
 ghost use Rattle.prodash_tui.specs.Rects.{intersect};
 ghost use Rattle.prodash_tui.specs.Screens.{DrawsEntered, DrawsFrames, Restores, RestoresFrames};
+ghost use Rattle.prodash_tui.specs.SessionRuns.{ShowsEachFrame, ShowsMainAgain};
 ghost use Rattle.prodash_base.specs.declared.messages.Message.{Message};
 ghost use Rattle.prodash_core.specs.declared.render.tui.event.Line.{Line};
 ghost use Rattle.prodash_core.specs.declared.render.tui.event.Rect.{Rect};
@@ -119,4 +120,13 @@ pub fn dashboards()
     ensures all { DashboardsFit }
     ensures whole { (s : State) (input : Input)
         → KeepsFit (λ area g. whole_dashboard s input area g) }
+{}
+
+/// Over every run of a dashboard, of events, sizes and frames, a display shows exactly the grid of
+/// each frame after it, whatever it showed before, if it has the size that the dashboard was told.
+/// At the end it shows again what it showed before the first frame, with its cursor shown and
+/// wrapping on. The display gives characters the columns that `unicode_width` does.
+pub fn runs()
+    ensures frames { ShowsEachFrame }
+    ensures end { ShowsMainAgain }
 {}

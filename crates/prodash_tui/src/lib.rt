@@ -3,6 +3,7 @@
 
 mod cell;
 mod cursor;
+mod dashboard;
 pub mod draw;
 mod frame;
 mod grid;
@@ -16,6 +17,7 @@ mod style;
 mod text;
 
 pub use cell::{Cell, Joined};
+pub use dashboard::{Contents, Dashboard};
 pub use frame::{push_difference, push_first};
 pub use grid::Grid;
 pub use offset::sanitize_offset;

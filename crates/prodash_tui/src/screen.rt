@@ -1,7 +1,7 @@
 //! Two grids for a terminal's alternate screen: the one that it shows, and the next one.
 ghost use Rattle.std.specs.Prelude.{◌≡◌, ◌&&◌, IfOk, IsOkUnless, OnErr, OnOk};
 ghost use Rattle.std.specs.Borrow.{sem};
-ghost use Rattle.prodash_tui.specs.Screens.{blank_buffers, drawn, enter, frame, have_one_size, leave, unknown};
+ghost use Rattle.prodash_tui.specs.Screens.{blank_buffers, drawn, enter, frame, have_one_size, leave, unknown, with_next};
 ghost use Rattle.prodash_tui.specs.plumbing.Appended.{Spells};
 ghost use Rattle.prodash_tui.specs.Lends.{LendsBack};
 
@@ -140,6 +140,24 @@ impl Screen {
         self.back.clear();
         self.is_shown = true;
         Ok(())
+    }
+
+    /// Takes a grid as the one that is drawn next, and draws it.
+    ///
+    /// `Memory`: out of memory. The buffer and the screen are then as they were.
+    pub(crate) fn draw_grid(&mut self, grid: Grid, out: &mut Vec<u8>) -> Result<(), Refusal>
+        ensures ok { Spells result out.old.items (frame (with_next grid self.old)) out.new.items }
+        ensures screen { OnOk result (self.new ≡ drawn (with_next grid self.old)) }
+        ensures err { OnErr result (out.new.items ≡ out.old.items) }
+        ensures stays { OnErr result (self.new ≡ self.old) }
+        ensures reason { IsOkUnless result Refusal.Memory }
+    {
+        let before = mem::replace(&mut self.back, grid);
+        let drawn = self.draw(out);
+        if drawn.is_err() {
+            self.back = before;
+        }
+        drawn
     }
 
     /// Appends what shows the main screen again as it was, with its cursor. The next grid is

@@ -1,7 +1,7 @@
 //! A dashboard, and where its parts are.
 ghost use Rattle.std.specs.Prelude.{◌≡◌, IfOk, IsOkUnless, OnOk};
 ghost use Rattle.prodash_base.specs.Adjacency.{IsAscending, paths_of};
-ghost use Rattle.prodash_tui.specs.Dashboards.{bounds_of, headline_bound, is_small, messages_to_show, narrower, offset_in, panes_after, scroll_after, shown_information, state_after, tree_after, whole_dashboard, with_information_in, with_messages_in, with_panes, with_task_pane, with_window};
+ghost use Rattle.prodash_tui.specs.Dashboards.{bounds_of, headline_bound, is_small, messages_to_show, narrower, offset_in, panes_after, scroll_after, shown_information, state_after, tree_after, whole_dashboard, with_information_in, with_messages_in, with_panes, with_offsets, with_task_pane, with_window};
 ghost use Rattle.prodash_tui.specs.PaneBounds.{compute_info_bound, compute_pane_bounds, information_width, line_text, messages_room, split_below, split_right, wanted_width};
 
 use crate::draw::bounds::Bounds;
@@ -26,7 +26,8 @@ use std::alloc::Global;
 /// memory for texts, which is written over. The rows must be in strictly ascending order of their
 /// keys, as those of a snapshot are.
 ///
-/// `Memory`: out of memory. The grid may then have a part of the dashboard.
+/// `Memory`: out of memory. The grid may then have a part of the dashboard, and the offsets may be
+/// others.
 pub fn all(
     alloc: Global,
     text: &mut String,
@@ -39,6 +40,8 @@ pub fn all(
     ensures ok { OnOk result
         (grid.new ≡ whole_dashboard state.old input.now bound grid.old) }
     ensures state { OnOk result (state.new ≡ state_after state.old input.now bound) }
+    ensures kept { state.new
+        ≡ with_offsets state.new.task_offset state.new.message_offset state.old }
     ensures tree { IfOk result (λ n. n ≡ tree_after state.old input.now bound) }
     ensures reason { IsOkUnless result Refusal.Memory }
 {
@@ -131,6 +134,8 @@ fn draw_panes(
     ensures ok { OnOk result (grid.new ≡ with_panes
         (with_task_pane input.now state.old.task_offset) state.old input.now bounds.now grid.old) }
     ensures state { OnOk result (state.new ≡ panes_after state.old input.now bounds.now) }
+    ensures kept { state.new
+        ≡ with_offsets state.new.task_offset state.new.message_offset state.old }
     ensures tree { IfOk result (λ n.
         n ≡ (scroll_after input.now state.old.task_offset bounds.now.tasks).tree_columns) }
     ensures reason { IsOkUnless result Refusal.Memory }

@@ -1,0 +1,337 @@
+//! A dashboard on a terminal: its state, and the frames that show it.
+ghost use Rattle.std.specs.Prelude.{◌≡◌, true, false, [], ◌++◌, Err, IfOk, IsOkUnless, OnErr, OnOk};
+ghost use Rattle.prodash_base.specs.Adjacency.{IsAscending, paths_of};
+ghost use Rattle.prodash_tui.specs.Screens.{drawn, enter, frame};
+ghost use Rattle.prodash_tui.specs.Sessions.{after_frame, area_of, closed, closing, counted, first_state, frame_signs, framed, handled, input_of, is_closed, is_measured, is_running, new_session, resized, shown, signs_of, tree_in_frame};
+ghost use Rattle.prodash_tui.specs.plumbing.Appended.{Spells};
+ghost use Rattle.prodash_tui.specs.plumbing.SessionParts.{HasSessionSize, first_buffers, scrolled_to};
+
+mod contents;
+mod phase;
+
+use crate::draw::Input;
+use crate::draw::all::all;
+use crate::grid::Grid;
+use crate::screen::Screen;
+pub use contents::Contents;
+pub(crate) use phase::Phase;
+use prodash_base::Refusal;
+use prodash_core::render::tui::{Answer, Event, Options, Rect, State};
+use std::alloc::Global;
+use std::marker::Model;
+
+/// A dashboard on a terminal. It takes events, and appends the bytes of its frames to a buffer. The
+/// first frame enters the alternate screen, and `close` leaves it.
+///
+/// ```rust
+/// let mut dashboard = Dashboard::new(alloc, options, 80, 24);
+/// dashboard.draw(alloc, &contents, &mut bytes)?;
+/// let answer = dashboard.handle(Event::Input(key));
+/// dashboard.close(&mut bytes)?;
+/// ```
+#[derive(Drop)]
+pub struct Dashboard {
+    state: State,
+    width: u16,
+    height: u16,
+    /// The alternate screen, once it was entered.
+    screen: Option<Screen>,
+    /// Memory for texts, which is written over.
+    text: String,
+    /// How many columns the tree is taken to have; 0 if that isn't known.
+    tree_columns: u16,
+    /// How many frames were drawn.
+    frames: usize,
+    nanoseconds_per_frame: u64,
+    recompute_column_width_every_nth_frame: Option<usize>,
+    phase: Phase,
+}
+
+impl Model for Dashboard {
+    ghost use Rattle.prodash_tui.specs.Sessions.{Session};
+
+    ghost Value = { Session };
+
+    ghost view = { λ s. record {
+      state = s.state;
+      width = s.width;
+      height = s.height;
+      screen = s.screen;
+      tree_columns = s.tree_columns;
+      frames = s.frames;
+      nanoseconds_per_frame = s.nanoseconds_per_frame;
+      every_nth_frame = s.recompute_column_width_every_nth_frame;
+      phase = s.phase;
+    } };
+}
+
+/// Enters the alternate screen and draws a grid on it. Returns that screen.
+///
+/// `Memory`: out of memory. The buffer is then as it was.
+fn open(alloc: Global, grid: Grid, out: &mut Vec<u8>) -> Result<Screen, Refusal>
+    ensures ok { Spells result out.old.items (enter ++ frame (first_buffers grid)) out.new.items }
+    ensures screen { IfOk result (λ screen. screen ≡ drawn (first_buffers grid)) }
+    ensures err { OnErr result (out.new.items ≡ out.old.items) }
+    ensures reason { IsOkUnless result Refusal.Memory }
+{
+    let mut screen = Screen::new(alloc, grid.width(), grid.height())?;
+    let length = out.len();
+    screen.enter(out)?;
+    let drawn = screen.draw_grid(grid, out);
+    if drawn.is_err() {
+        out.truncate(length);
+    }
+    drawn?;
+    Ok(screen)
+}
+
+/// Returns whether the tree is measured in the frame of this number, if it has so many columns.
+fn is_measured(every: Option<usize>, number: usize, columns: u16) -> bool
+    ensures { result ≡ is_measured every number columns }
+{
+    let interval = every.unwrap_or(1).max(1);
+    number == 1 || number % interval == 0 || columns == 0
+}
+
+impl Dashboard {
+    /// Returns a dashboard with the title, the window size and the intervals of these options, on a
+    /// terminal of so many columns and rows. Nothing is scrolled or hidden. It takes no memory.
+    ///
+    /// What `throughput` and `stop_if_progress_missing` say is up to the caller.
+    pub fn new(alloc: Global, options: Options, width: u16, height: u16) -> Dashboard
+        ensures dashboard { result ≡ new_session options result.state width height }
+        ensures state { result.state ≡ first_state options result.state.information }
+        ensures information { result.state.information.items ≡ [] }
+    {
+        let mut state = State::new(alloc, options.title);
+        state.window_size = options.window_size;
+        Dashboard {
+            state,
+            width,
+            height,
+            screen: None,
+            text: String::new(alloc),
+            tree_columns: 0,
+            frames: 0,
+            nanoseconds_per_frame: options.nanoseconds_per_frame,
+            recompute_column_width_every_nth_frame: options.recompute_column_width_every_nth_frame,
+            phase: Phase::Running,
+        }
+    }
+
+    /// Returns whether it is running: it has not stopped, and was not closed.
+    pub fn is_running(&self) -> bool
+        ensures { result ≡ is_running self.now }
+    {
+        match self.phase {
+            Phase::Running => true,
+            Phase::Stopped | Phase::Closed => false,
+        }
+    }
+
+    /// Returns whether it was closed.
+    fn is_closed(&self) -> bool
+        ensures { result ≡ is_closed self.now }
+    {
+        match self.phase {
+            Phase::Running | Phase::Stopped => false,
+            Phase::Closed => true,
+        }
+    }
+
+    /// Handles an event as `State::handle` does, and returns what to do next. It stops if that is
+    /// `Stop`. If it isn't running, the answer is `Stop`, and nothing changes.
+    pub fn handle(&mut self, event: Event) -> Answer
+        ensures { (self.new, result) ≡ handled self.old event }
+    {
+        if !self.is_running() {
+            return Answer::Stop;
+        }
+        let answer = self.state.handle(event);
+        match answer {
+            Answer::Redraw | Answer::Skip => {}
+            Answer::Stop => self.phase = Phase::Stopped,
+        }
+        answer
+    }
+
+    /// Takes the size of the terminal as changed. The next frame is written whole.
+    ///
+    /// `Closed`: it isn't running. `Memory`: out of memory. The dashboard is then as it was.
+    pub fn resize(&mut self, alloc: Global, width: u16, height: u16) -> Result<(), Refusal>
+        ensures ok { OnOk result (self.new ≡ resized width height self.old) }
+        ensures err { OnErr result (self.new ≡ self.old) }
+        ensures running { is_running self.old ≡ true → IsOkUnless result Refusal.Memory }
+        ensures ended { is_running self.old ≡ false → result ≡ Err Refusal.Closed }
+    {
+        if !self.is_running() {
+            return Err(Refusal::Closed);
+        }
+        if let Some(screen) = &mut self.screen {
+            screen.resize(alloc, width, height)?;
+        }
+        self.width = width;
+        self.height = height;
+        Ok(())
+    }
+
+    /// Returns what a frame draws.
+    fn input<'a>(&self, contents: &Contents<'a>) -> Input<'a>
+        ensures { result ≡ input_of self.now contents.now }
+    {
+        Input {
+            rows: contents.rows,
+            messages: contents.messages,
+            nanoseconds_per_frame: self.nanoseconds_per_frame,
+            at: contents.at,
+            time: contents.time,
+            tree_columns: self.tree_columns,
+        }
+    }
+
+    /// Returns the part of the terminal that it fills.
+    fn area(&self) -> Rect
+        ensures { result ≡ area_of self.now }
+    {
+        let terminal = Rect {
+            x: 0,
+            y: 0,
+            width: self.width,
+            height: self.height,
+        };
+        self.state.window_size.unwrap_or(terminal)
+    }
+
+    /// Appends what shows a grid. Before the first one the alternate screen is entered.
+    ///
+    /// `Memory`: out of memory. The buffer and the dashboard are then as they were.
+    fn show(&mut self, alloc: Global, grid: Grid, out: &mut Vec<u8>) -> Result<(), Refusal>
+        requires size { HasSessionSize self.old grid }
+        ensures ok { Spells result out.old.items (signs_of self.old grid) out.new.items }
+        ensures shown { OnOk result (self.new ≡ shown grid self.old) }
+        ensures err { OnErr result (out.new.items ≡ out.old.items) }
+        ensures stays { OnErr result (self.new ≡ self.old) }
+        ensures reason { IsOkUnless result Refusal.Memory }
+    {
+        match &mut self.screen {
+            Some(screen) => screen.draw_grid(grid, out),
+            None => {
+                self.screen = Some(open(alloc, grid, out)?);
+                Ok(())
+            }
+        }
+    }
+
+    /// Draws the next frame on a grid of its own, so that a refused one leaves the screen as it
+    /// was. Returns how many columns the tree has in it.
+    ///
+    /// `Memory`: out of memory. The buffer is then as it was, and so is the dashboard but for its
+    /// offsets.
+    fn draw_frame(
+        &mut self,
+        alloc: Global,
+        contents: &Contents<'_>,
+        out: &mut Vec<u8>,
+    ) -> Result<u16, Refusal>
+        requires sorted { IsAscending (paths_of contents.now.rows.now) }
+        ensures ok { Spells result out.old.items (frame_signs self.old contents.now)
+            out.new.items }
+        ensures drawn { OnOk result (self.new ≡ framed self.old contents.now) }
+        ensures tree { IfOk result (λ n. n ≡ tree_in_frame self.old contents.now) }
+        ensures err { OnErr result (out.new.items ≡ out.old.items) }
+        ensures stays { OnErr result (self.new ≡ scrolled_to
+            self.new.state.task_offset self.new.state.message_offset self.old) }
+        ensures reason { IsOkUnless result Refusal.Memory }
+    {
+        let mut grid = Grid::new(alloc, self.width, self.height)?;
+        let input = self.input(contents);
+        let area = self.area();
+        let columns = all(
+            alloc,
+            &mut self.text,
+            &mut self.state,
+            &input,
+            area,
+            &mut grid,
+        )?;
+        self.show(alloc, grid, out)?;
+        Ok(columns)
+    }
+
+    /// Counts a frame in which the tree has so many columns.
+    fn count(&mut self, columns: u16)
+        ensures { self.new ≡ counted columns self.old }
+    {
+        self.frames = self.frames.saturating_add(1);
+        if is_measured(
+            self.recompute_column_width_every_nth_frame,
+            self.frames,
+            columns,
+        ) {
+            self.tree_columns = columns;
+        }
+    }
+
+    /// Appends the bytes of the next frame: what shows the state and the contents in the window
+    /// size that was set, or on the whole terminal. Before the first frame the alternate screen is
+    /// entered. The rows must be in strictly ascending order of their keys, as those of a snapshot
+    /// are.
+    ///
+    /// `Closed`: it isn't running. `Memory`: out of memory. The buffer and the dashboard are then
+    /// as they were: the frame counts as not drawn, and what the terminal shows as before.
+    pub fn draw(
+        &mut self,
+        alloc: Global,
+        contents: &Contents<'_>,
+        out: &mut Vec<u8>,
+    ) -> Result<(), Refusal>
+        requires sorted { IsAscending (paths_of contents.now.rows.now) }
+        ensures ok { Spells result out.old.items (frame_signs self.old contents.now)
+            out.new.items }
+        ensures drawn { OnOk result (self.new ≡ after_frame self.old contents.now) }
+        ensures err { OnErr result (out.new.items ≡ out.old.items) }
+        ensures stays { OnErr result (self.new ≡ self.old) }
+        ensures running { is_running self.old ≡ true → IsOkUnless result Refusal.Memory }
+        ensures ended { is_running self.old ≡ false → result ≡ Err Refusal.Closed }
+    {
+        if !self.is_running() {
+            return Err(Refusal::Closed);
+        }
+        let (tasks, messages) = (self.state.task_offset, self.state.message_offset);
+        match self.draw_frame(alloc, contents, out) {
+            Ok(columns) => {
+                self.count(columns);
+                Ok(())
+            }
+            Err(why) => {
+                self.state.task_offset = tasks;
+                self.state.message_offset = messages;
+                Err(why)
+            }
+        }
+    }
+
+    /// Appends what shows the main screen again as it was, if the alternate one was entered. From
+    /// now on every call is refused, and the answer to an event is `Stop`.
+    ///
+    /// `Closed`: it was closed already. `Memory`: out of memory. The buffer and the dashboard are
+    /// then as they were.
+    pub fn close(&mut self, out: &mut Vec<u8>) -> Result<(), Refusal>
+        ensures ok { Spells result out.old.items (closing self.old.screen) out.new.items }
+        ensures closed { OnOk result (self.new ≡ closed self.old) }
+        ensures err { OnErr result (out.new.items ≡ out.old.items) }
+        ensures stays { OnErr result (self.new ≡ self.old) }
+        ensures once { is_closed self.old ≡ false → IsOkUnless result Refusal.Memory }
+        ensures again { is_closed self.old ≡ true → result ≡ Err Refusal.Closed }
+    {
+        if self.is_closed() {
+            return Err(Refusal::Closed);
+        }
+        if let Some(screen) = &mut self.screen {
+            screen.leave(out)?;
+        }
+        self.screen = None;
+        self.phase = Phase::Closed;
+        Ok(())
+    }
+}
