@@ -25,5 +25,5 @@ pub mod CountedRows
 pub mod FittingPanes
 pub mod FittingProgress
 pub mod WorkedDashboards
-pub mod WorkedSessions
+pub mod WorkedBoards
 pub mod WorkedPanes

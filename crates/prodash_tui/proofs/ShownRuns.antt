@@ -15,9 +15,9 @@ use Rattle.prodash_tui.specs.Dashboards.{scroll_of, with_task_pane}
 use Rattle.prodash_tui.specs.Displays.{Display, after_signs}
 use Rattle.prodash_tui.specs.Grids.{Sheet, blank_sheet}
 use Rattle.prodash_tui.specs.Screens.{Agrees, Buffers, Fits, blank_buffers, enter, frame, with_next}
-use Rattle.prodash_tui.specs.SessionRuns.{HasToldSize, Run, ShowsEachFrame, ShowsMainAgain, Step, Handles, Resizes, Draws, after_drawing, after_step, after_steps}
-use Rattle.prodash_tui.specs.Sessions.{Session, area_of, closing, handled, handled_running, input_of, is_running, next_grid, opening}
-use Rattle.prodash_tui.specs.plumbing.SessionParts.{HasSessionSize}
+use Rattle.prodash_tui.specs.BoardRuns.{HasToldSize, Run, ShowsEachFrame, ShowsMainAgain, Step, Handles, Resizes, Draws, after_drawing, after_step, after_steps}
+use Rattle.prodash_tui.specs.Boards.{Board, area_of, closing, handled, handled_running, input_of, is_running, next_grid, opening}
+use Rattle.prodash_tui.specs.plumbing.BoardParts.{HasTerminalSize}
 use Rattle.prodash_tui.proofs.FittingPanes.{fit_dashboard}
 use Rattle.prodash_tui.proofs.FittingProgress.{fit_pane}
 use Rattle.prodash_tui.proofs.PlayedChanges.{after_append}
@@ -53,10 +53,10 @@ frame_shows (Some b) width height d g agrees fits = draws_frame char_columns spa
 -- what is known of a run between its steps
 record Follows (r : Run) : Type 0 where
   size : HasToldSize r
-  agrees : Agree r.session.screen r.display
+  agrees : Agree r.board.screen r.display
 
 -- the next grid fits a display of the size that the dashboard was told
-next_fits : (s : Session) (c : Contents) (d : Display) → d.grid.width ≡ s.width → d.grid.height ≡ s.height → Fits char_columns d (next_grid s c)
+next_fits : (s : Board) (c : Contents) (d : Display) → d.grid.width ≡ s.width → d.grid.height ≡ s.height → Fits char_columns d (next_grid s c)
 next_fits s c d width height =
     let input = input_of s c in
     fit_dashboard (with_task_pane input s.state.task_offset)
@@ -65,7 +65,7 @@ next_fits s c d width height =
     (record { proper = proper_blank char_columns space_columns s.width s.height; size = record { width = width; height = height } })
 
 -- so it has that size
-pub next_size : (s : Session) (c : Contents) → HasSessionSize s (next_grid s c)
+pub next_size : (s : Board) (c : Contents) → HasTerminalSize s (next_grid s c)
 next_size s c =
     let d : Display = record {
       grid = blank_sheet s.width s.height;
@@ -78,22 +78,22 @@ next_size s c =
     record { width = sym size.width; height = sym size.height }
 
 -- a frame of a run is shown
-drawing_shows : (r : Run) (c : Contents) → Follows r → (after_drawing c r).display.grid ≡ next_grid r.session c
+drawing_shows : (r : Run) (c : Contents) → Follows r → (after_drawing c r).display.grid ≡ next_grid r.board c
 drawing_shows r c follows =
-    frame_shows r.session.screen r.session.width r.session.height r.display (next_grid r.session c) follows.agrees
-    (next_fits r.session c r.display follows.size.width follows.size.height)
+    frame_shows r.board.screen r.board.width r.board.height r.display (next_grid r.board c) follows.agrees
+    (next_fits r.board c r.display follows.size.width follows.size.height)
 
 -- an event changes neither the size nor the screen
-record Stays (s t : Session) : Type 0 where
+record Stays (s t : Board) : Type 0 where
   width : s.width ≡ t.width
   height : s.height ≡ t.height
   screen : s.screen ≡ t.screen
 
-either_stays : (running : Bool) (a b : Session × Answer) (s : Session) → Stays s a.0 → Stays s b.0 → Stays s (cond running a b).0
+either_stays : (running : Bool) (a b : Board × Answer) (s : Board) → Stays s a.0 → Stays s b.0 → Stays s (cond running a b).0
 either_stays true a b s first second = first
 either_stays false a b s first second = second
 
-handled_stays : (s : Session) (e : Event) → Stays s (handled s e).0
+handled_stays : (s : Board) (e : Event) → Stays s (handled s e).0
 handled_stays s e =
     either_stays (is_running s) (handled_running s (handle s.state e)) (s, Stop) s (record { width = refl; height = refl; screen = refl })
     (record { width = refl; height = refl; screen = refl })
@@ -105,17 +105,17 @@ resized_agrees (Some b) width height d = λ is. cc
 
 step_follows : (s : Step) (r : Run) → Follows r → Follows (after_step s r)
 step_follows (Handles e) r follows =
-    let stays = handled_stays r.session e in
+    let stays = handled_stays r.board e in
     record {
       size = record { width = follows.size.width ∙ stays.width; height = follows.size.height ∙ stays.height };
       agrees = subst (λ (screen : Option Buffers). Agree screen r.display) stays.screen follows.agrees;
     }
 step_follows (Resizes g cursor) r follows = record {
   size = record { width = refl; height = refl };
-  agrees = resized_agrees r.session.screen g.width g.height (record r.display { grid = g; cursor = cursor });
+  agrees = resized_agrees r.board.screen g.width g.height (record r.display { grid = g; cursor = cursor });
 }
 step_follows (Draws c) r follows =
-    let fits = next_fits r.session c r.display follows.size.width follows.size.height in
+    let fits = next_fits r.board c r.display follows.size.width follows.size.height in
     let shown = drawing_shows r c follows in
     record {
       size = record {
@@ -131,14 +131,14 @@ steps_follow (s ∷ steps) r follows = steps_follow steps (after_step s r) (step
 
 pub shows_each_frame : ShowsEachFrame
 shows_each_frame r steps c none size =
-    let agrees : Agree r.session.screen r.display = subst (λ (screen : Option Buffers). Agree screen r.display) (sym none) tt in
+    let agrees : Agree r.board.screen r.display = subst (λ (screen : Option Buffers). Agree screen r.display) (sym none) tt in
     drawing_shows (after_steps steps r) c (steps_follow steps r (record { size = size; agrees = agrees }))
 
 -- ---- the main screen is shown again
 
 -- a display on its alternate screen, which the dashboard has entered, keeps this of the main one
 record Keeps (m : Kept) (r : Run) : Type 0 where
-  entered : is_some r.session.screen ≡ true
+  entered : is_some r.board.screen ≡ true
   main : r.display.main ≡ m
 
 -- the first frame enters the alternate screen
@@ -165,13 +165,13 @@ resized_entered (Some b) width height entered = refl
 
 step_keeps : (m : Kept) (s : Step) (r : Run) → Keeps m r → Keeps m (after_step s r)
 step_keeps m (Handles e) r keeps = record {
-  entered = subst (λ (screen : Option Buffers). is_some screen ≡ true) (handled_stays r.session e).screen keeps.entered;
+  entered = subst (λ (screen : Option Buffers). is_some screen ≡ true) (handled_stays r.board e).screen keeps.entered;
   main = keeps.main;
 }
-step_keeps m (Resizes g cursor) r keeps = record { entered = resized_entered r.session.screen g.width g.height keeps.entered; main = keeps.main }
+step_keeps m (Resizes g cursor) r keeps = record { entered = resized_entered r.board.screen g.width g.height keeps.entered; main = keeps.main }
 step_keeps m (Draws c) r keeps = record {
   entered = refl;
-  main = frame_keeps r.session.screen r.session.width r.session.height r.display (next_grid r.session c) keeps.entered ∙ keeps.main;
+  main = frame_keeps r.board.screen r.board.width r.board.height r.display (next_grid r.board c) keeps.entered ∙ keeps.main;
 }
 
 steps_keep : (m : Kept) (steps : List Step) (r : Run) → Keeps m r → Keeps m (after_steps steps r)
@@ -188,5 +188,5 @@ pub shows_main_again : ShowsMainAgain
 shows_main_again r c steps none main =
     let first = after_drawing c r in
     let keeps = steps_keep (Some (r.display.grid, r.display.cursor)) steps first
-    (record { entered = refl; main = frame_enters r.session.screen r.session.width r.session.height r.display (next_grid r.session c) none main }) in
-    closes (after_steps steps first).session.screen r.display (after_steps steps first).display keeps.entered main keeps.main
+    (record { entered = refl; main = frame_enters r.board.screen r.board.width r.board.height r.display (next_grid r.board c) none main }) in
+    closes (after_steps steps first).board.screen r.display (after_steps steps first).display keeps.entered main keeps.main

@@ -20,6 +20,6 @@ pub mod Frames
 pub mod Screens
 pub mod Lends
 pub mod Dashboards
-pub mod Sessions
-pub mod SessionRuns
+pub mod Boards
+pub mod BoardRuns
 pub mod plumbing

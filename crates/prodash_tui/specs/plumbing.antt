@@ -2,4 +2,4 @@ pub mod Appended
 pub mod SameCells
 pub mod Writing
 pub mod GridInside
-pub mod SessionParts
+pub mod BoardParts

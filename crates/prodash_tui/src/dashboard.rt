@@ -2,9 +2,9 @@
 ghost use Rattle.std.specs.Prelude.{◌≡◌, true, false, [], ◌++◌, Err, IfOk, IsOkUnless, OnErr, OnOk};
 ghost use Rattle.prodash_base.specs.Adjacency.{IsAscending, paths_of};
 ghost use Rattle.prodash_tui.specs.Screens.{drawn, enter, frame};
-ghost use Rattle.prodash_tui.specs.Sessions.{after_frame, area_of, closed, closing, counted, first_state, frame_signs, framed, handled, input_of, is_closed, is_measured, is_running, new_session, resized, shown, signs_of, tree_in_frame};
+ghost use Rattle.prodash_tui.specs.Boards.{after_frame, area_of, closed, closing, counted, first_state, frame_signs, framed, handled, input_of, is_closed, is_measured, is_running, new_board, resized, shown, signs_of, tree_in_frame};
 ghost use Rattle.prodash_tui.specs.plumbing.Appended.{Spells};
-ghost use Rattle.prodash_tui.specs.plumbing.SessionParts.{HasSessionSize, first_buffers, scrolled_to};
+ghost use Rattle.prodash_tui.specs.plumbing.BoardParts.{HasTerminalSize, first_buffers, scrolled_to};
 
 mod contents;
 mod phase;
@@ -48,9 +48,9 @@ pub struct Dashboard {
 }
 
 impl Model for Dashboard {
-    ghost use Rattle.prodash_tui.specs.Sessions.{Session};
+    ghost use Rattle.prodash_tui.specs.Boards.{Board};
 
-    ghost Value = { Session };
+    ghost Value = { Board };
 
     ghost view = { λ s. record {
       state = s.state;
@@ -99,7 +99,7 @@ impl Dashboard {
     ///
     /// What `throughput` and `stop_if_progress_missing` say is up to the caller.
     pub fn new(alloc: Global, options: Options, width: u16, height: u16) -> Dashboard
-        ensures dashboard { result ≡ new_session options result.state width height }
+        ensures dashboard { result ≡ new_board options result.state width height }
         ensures state { result.state ≡ first_state options result.state.information }
         ensures information { result.state.information.items ≡ [] }
     {
@@ -206,7 +206,7 @@ impl Dashboard {
     ///
     /// `Memory`: out of memory. The buffer and the dashboard are then as they were.
     fn show(&mut self, alloc: Global, grid: Grid, out: &mut Vec<u8>) -> Result<(), Refusal>
-        requires size { HasSessionSize self.old grid }
+        requires size { HasTerminalSize self.old grid }
         ensures ok { Spells result out.old.items (signs_of self.old grid) out.new.items }
         ensures shown { OnOk result (self.new ≡ shown grid self.old) }
         ensures err { OnErr result (out.new.items ≡ out.old.items) }

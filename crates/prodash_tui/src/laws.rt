@@ -11,7 +11,7 @@ ghost use Rattle.prodash_tui.specs.Frames.{DrawsFirst, DrawsNext};
 ghost use Rattle.prodash_tui.specs.Grids.{blank_sheet, with_background, with_border, with_filling, with_shortened, with_text};
 ghost use Rattle.prodash_tui.specs.Rects.{intersect};
 ghost use Rattle.prodash_tui.specs.Screens.{DrawsEntered, DrawsFrames, Restores, RestoresFrames};
-ghost use Rattle.prodash_tui.specs.SessionRuns.{ShowsEachFrame, ShowsMainAgain};
+ghost use Rattle.prodash_tui.specs.BoardRuns.{ShowsEachFrame, ShowsMainAgain};
 ghost use Rattle.prodash_base.specs.declared.messages.Message.{Message};
 ghost use Rattle.prodash_core.specs.declared.render.tui.event.Line.{Line};
 ghost use Rattle.prodash_core.specs.declared.render.tui.event.Rect.{Rect};

@@ -6,11 +6,11 @@ use Rattle.prodash_tui.specs.declared.cursor.Cursor.{Cursor}
 use Rattle.prodash_tui.specs.declared.dashboard.contents.Contents.{Contents}
 use Rattle.prodash_tui.specs.Displays.{Display, after_signs}
 use Rattle.prodash_tui.specs.Grids.{Sheet}
-use Rattle.prodash_tui.specs.Sessions.{Session, after_frame, closing, frame_signs, handled, next_grid, resized}
+use Rattle.prodash_tui.specs.Boards.{Board, after_frame, closing, frame_signs, handled, next_grid, resized}
 
 -- a dashboard, and the display of its terminal, on which characters have as many columns as `unicode_width` counts
 pub record Run : Type 0 where
-  pub session : Session
+  pub board : Board
   pub display : Display
 
 -- a step of it: an event, another size of the display, which then shows anything and has its cursor anywhere, or a frame
@@ -21,12 +21,12 @@ pub data Step : Type 0 where
 
 -- it after a frame
 abbrev pub after_drawing : Contents → Run → Run
-after_drawing c r = record { session = after_frame r.session c; display = after_signs char_columns (frame_signs r.session c) r.display }
+after_drawing c r = record { board = after_frame r.board c; display = after_signs char_columns (frame_signs r.board c) r.display }
 
 -- it after a step that isn't refused; the dashboard is told the size
 abbrev pub after_step : Step → Run → Run
-after_step (Handles e) r = record r { session = (handled r.session e).0 }
-after_step (Resizes g cursor) r = record { session = resized g.width g.height r.session; display = record r.display { grid = g; cursor = cursor } }
+after_step (Handles e) r = record r { board = (handled r.board e).0 }
+after_step (Resizes g cursor) r = record { board = resized g.width g.height r.board; display = record r.display { grid = g; cursor = cursor } }
 after_step (Draws c) r = after_drawing c r
 
 -- it after these steps
@@ -36,19 +36,19 @@ after_steps (s ∷ steps) r = after_steps steps (after_step s r)
 
 -- what the display shows after the end
 abbrev pub after_closing : Run → Display
-after_closing r = after_signs char_columns (closing r.session.screen) r.display
+after_closing r = after_signs char_columns (closing r.board.screen) r.display
 
 -- the display has the size that the dashboard was told
 pub record HasToldSize (r : Run) : Type 0 where
-  pub width : r.display.grid.width ≡ r.session.width
-  pub height : r.display.grid.height ≡ r.session.height
+  pub width : r.display.grid.width ≡ r.board.width
+  pub height : r.display.grid.height ≡ r.board.height
 
 -- after any steps of a dashboard that has drawn no frame, and one frame more, the display shows exactly the grid of that frame, whatever it showed before
 abbrev pub ShowsEachFrame : Type 0
-ShowsEachFrame = (r : Run) (steps : List Step) (c : Contents) → r.session.screen ≡ None → HasToldSize r
-    → (after_drawing c (after_steps steps r)).display.grid ≡ next_grid (after_steps steps r).session c
+ShowsEachFrame = (r : Run) (steps : List Step) (c : Contents) → r.board.screen ≡ None → HasToldSize r
+    → (after_drawing c (after_steps steps r)).display.grid ≡ next_grid (after_steps steps r).board c
 
 -- after the first frame, any further steps, and the end, it shows again what it showed before; the cursor is shown, and characters wrap
 abbrev pub ShowsMainAgain : Type 0
-ShowsMainAgain = (r : Run) (c : Contents) (steps : List Step) → r.session.screen ≡ None → r.display.main ≡ None
+ShowsMainAgain = (r : Run) (c : Contents) (steps : List Step) → r.board.screen ≡ None → r.display.main ≡ None
     → after_closing (after_steps steps (after_drawing c r)) ≡ record r.display { shows_cursor = true; wraps = true }

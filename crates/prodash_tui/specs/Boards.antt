@@ -20,9 +20,9 @@ use Rattle.prodash_tui.specs.Dashboards.{state_after, tree_after, whole_dashboar
 use Rattle.prodash_tui.specs.Grids.{Sheet, blank_sheet}
 use Rattle.prodash_tui.specs.Screens.{Buffers, blank_buffers, drawn, enter, frame, leave, with_next}
 
--- its state, the size of the terminal, the alternate screen if that was entered, how many columns the tree is taken to have, how many frames were drawn,
+-- a dashboard: its state, the size of the terminal, the alternate screen if that was entered, how many columns the tree is taken to have, how many frames were drawn,
 -- their interval, after how many of them the tree is measured, and whether it is running
-pub record Session : Type 0 where
+pub record Board : Type 0 where
   pub state : State
   pub width : ℕ
   pub height : ℕ
@@ -38,8 +38,8 @@ abbrev pub first_state : Options → Vec Line → State
 first_state options information = record (new_state options.title information) { window_size = options.window_size }
 
 -- a new one with this state, on a terminal of this size
-abbrev pub new_session : Options → State → ℕ → ℕ → Session
-new_session options state width height = record {
+abbrev pub new_board : Options → State → ℕ → ℕ → Board
+new_board options state width height = record {
   state = state;
   width = width;
   height = height;
@@ -58,7 +58,7 @@ runs Stopped = false
 runs Closed = false
 
 -- is it running? until it has stopped or was closed
-abbrev pub is_running : Session → Bool
+abbrev pub is_running : Board → Bool
 is_running s = runs s.phase
 
 -- was one in this phase closed?
@@ -68,7 +68,7 @@ has_closed Stopped = false
 has_closed Closed = true
 
 -- was it closed?
-abbrev pub is_closed : Session → Bool
+abbrev pub is_closed : Board → Bool
 is_closed s = has_closed s.phase
 
 -- where it is after an answer to an event
@@ -77,20 +77,20 @@ phase_after answers.Redraw = Running
 phase_after answers.Skip = Running
 phase_after answers.Stop = Stopped
 
--- with what a running one has after an event, and the answer
-abbrev pub handled_running : Session → State × Answer → Session × Answer
+-- a running one with this state, which an event has left, and the answer to that
+abbrev pub handled_running : Board → State × Answer → Board × Answer
 handled_running s h = (record s { state = h.0; phase = phase_after h.1 }, h.1)
 
 -- an event: one that isn't running stays as it is, and the answer is to stop
-abbrev pub handled : Session → Event → Session × Answer
+abbrev pub handled : Board → Event → Board × Answer
 handled s e = if is_running s then handled_running s (handle s.state e) else (s, answers.Stop)
 
 -- the terminal has another size: both grids of the screen are blank, and it may show anything
-abbrev pub resized : ℕ → ℕ → Session → Session
+abbrev pub resized : ℕ → ℕ → Board → Board
 resized width height s = record s { width = width; height = height; screen = option_map (λ b. blank_buffers width height) s.screen }
 
 -- what a frame draws
-abbrev pub input_of : Session → Contents → Input
+abbrev pub input_of : Board → Contents → Input
 input_of s c = record {
   rows = c.rows;
   messages = c.messages;
@@ -101,11 +101,11 @@ input_of s c = record {
 }
 
 -- the part of the terminal that it fills: the window size that was set, or all of it
-abbrev pub area_of : Session → Rect
+abbrev pub area_of : Board → Rect
 area_of s = unwrap_or s.state.window_size (record { x = 0; y = 0; width = s.width; height = s.height })
 
 -- the grid of the next frame
-abbrev pub next_grid : Session → Contents → Sheet
+abbrev pub next_grid : Board → Contents → Sheet
 next_grid s c = whole_dashboard s.state (input_of s c) (area_of s) (blank_sheet s.width s.height)
 
 -- the signs before it: the first frame enters the alternate screen
@@ -114,15 +114,15 @@ opening None = enter
 opening (Some b) = []
 
 -- the grids of the screen, with this one drawn next
-abbrev pub next_buffers : Session → Sheet → Buffers
+abbrev pub next_buffers : Board → Sheet → Buffers
 next_buffers s g = with_next g (unwrap_or s.screen (blank_buffers s.width s.height))
 
 -- the signs of a frame of this grid
-abbrev pub signs_of : Session → Sheet → List Sign
+abbrev pub signs_of : Board → Sheet → List Sign
 signs_of s g = opening s.screen ++ frame (next_buffers s g)
 
 -- the signs of the next frame
-abbrev pub frame_signs : Session → Contents → List Sign
+abbrev pub frame_signs : Board → Contents → List Sign
 frame_signs s c = signs_of s (next_grid s c)
 
 -- after how many frames the tree is measured
@@ -135,30 +135,30 @@ abbrev pub is_measured : Option ℕ → ℕ → ℕ → Bool
 is_measured every n columns = nat_eq n 1 || (is_multiple n (interval_of every) || nat_eq columns 0)
 
 -- the number of the next frame, which a `usize` counts
-abbrev pub next_number : Session → ℕ
+abbrev pub next_number : Board → ℕ
 next_number s = min (s.frames + 1) (2 ^ 64 - 1)
 
 -- it after a frame in which the tree has so many columns
-abbrev pub counted : ℕ → Session → Session
+abbrev pub counted : ℕ → Board → Board
 counted columns s = record s {
   tree_columns = if is_measured s.every_nth_frame (next_number s) columns then columns else s.tree_columns;
   frames = next_number s;
 }
 
 -- it after a frame of this grid is on the screen
-abbrev pub shown : Sheet → Session → Session
+abbrev pub shown : Sheet → Board → Board
 shown g s = record s { screen = Some (drawn (next_buffers s g)) }
 
 -- how many columns the tree has in the next frame
-abbrev pub tree_in_frame : Session → Contents → ℕ
+abbrev pub tree_in_frame : Board → Contents → ℕ
 tree_in_frame s c = tree_after s.state (input_of s c) (area_of s)
 
 -- it after the next frame is drawn and on the screen
-abbrev pub framed : Session → Contents → Session
+abbrev pub framed : Board → Contents → Board
 framed s c = record (shown (next_grid s c) s) { state = state_after s.state (input_of s c) (area_of s) }
 
 -- it after the next frame
-abbrev pub after_frame : Session → Contents → Session
+abbrev pub after_frame : Board → Contents → Board
 after_frame s c = counted (tree_in_frame s c) (framed s c)
 
 -- the signs at the end: if the alternate screen was entered, it is left
@@ -167,5 +167,5 @@ closing None = []
 closing (Some b) = leave
 
 -- it after that
-abbrev pub closed : Session → Session
+abbrev pub closed : Board → Board
 closed s = record s { screen = None; phase = Closed }

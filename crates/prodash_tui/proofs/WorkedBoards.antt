@@ -21,7 +21,7 @@ use Rattle.prodash_tui.specs.Dashboards.{with_window}
 use Rattle.prodash_tui.specs.Displays.{Display, after_signs}
 use Rattle.prodash_tui.specs.Grids.{Sheet, blank_sheet}
 use Rattle.prodash_tui.specs.Panes.{bold}
-use Rattle.prodash_tui.specs.Sessions.{Session, closed, closing, handled, is_measured, is_running, next_grid, resized, shown, signs_of}
+use Rattle.prodash_tui.specs.Boards.{Board, closed, closing, handled, is_measured, is_running, next_grid, resized, shown, signs_of}
 
 -- a state that hides messages and information, and fills this part of the terminal
 abbrev state : String Global → Vec Line → Option Rect → State
@@ -39,8 +39,8 @@ state title lines size = record {
 }
 
 -- a dashboard on a terminal of three columns and two rows that has drawn no frame
-abbrev session : String Global → Vec Line → Option Rect → Session
-session title lines size = record {
+abbrev board : String Global → Vec Line → Option Rect → Board
+board title lines size = record {
   state = state title lines size;
   width = 3;
   height = 2;
@@ -71,30 +71,30 @@ whole = SetStyle plain ∷ EraseScreen ∷ MoveTo 0 0 ∷ SetStyle plain ∷ Cha
 
 -- the next grid is that of the dashboard on the whole terminal
 pub on_the_terminal : (title : String Global) (lines : Vec Line) (c : Contents)
-    → next_grid (session title lines None) c ≡ with_window (record { x = 0; y = 0; width = 3; height = 2 }) (string_bytes title) (blank_sheet 3 2)
+    → next_grid (board title lines None) c ≡ with_window (record { x = 0; y = 0; width = 3; height = 2 }) (string_bytes title) (blank_sheet 3 2)
 on_the_terminal title lines c = refl
 
 -- or in the window size that was set
 pub in_the_window_size : (title : String Global) (lines : Vec Line) (c : Contents) (size : Rect) → size.width ≡ 2
-    → next_grid (session title lines (Some size)) c ≡ with_window size (string_bytes title) (blank_sheet 3 2)
+    → next_grid (board title lines (Some size)) c ≡ with_window size (string_bytes title) (blank_sheet 3 2)
 in_the_window_size title lines c size e = rw e refl
 
 -- the first frame enters the alternate screen, and is written whole
-pub first : (title : String Global) (lines : Vec Line) → signs_of (session title lines None) (window (code "H")) ≡ EnterAlternate ∷ HideCursor ∷ NoWrap ∷ whole
+pub first : (title : String Global) (lines : Vec Line) → signs_of (board title lines None) (window (code "H")) ≡ EnterAlternate ∷ HideCursor ∷ NoWrap ∷ whole
 first title lines = refl
 
 -- the next one doesn't enter it again, and is written by what has changed
 pub second : (title : String Global) (lines : Vec Line)
-    → signs_of (shown (window (code "H")) (session title lines None)) (window (code "O")) ≡ MoveTo 0 1 ∷ SetStyle bold ∷ Char (code "O") ∷ []
+    → signs_of (shown (window (code "H")) (board title lines None)) (window (code "O")) ≡ MoveTo 0 1 ∷ SetStyle bold ∷ Char (code "O") ∷ []
 second title lines = refl
 
 -- after another size, be it the same one, it is written whole
 pub resized_frame : (title : String Global) (lines : Vec Line)
-    → signs_of (resized 3 2 (shown (window (code "O")) (session title lines None))) (window (code "H")) ≡ whole
+    → signs_of (resized 3 2 (shown (window (code "O")) (board title lines None))) (window (code "H")) ≡ whole
 resized_frame title lines = refl
 
 -- a size that comes before the first frame enters no screen
-pub resized_first : (title : String Global) (lines : Vec Line) → (resized 80 24 (session title lines None)).screen ≡ None
+pub resized_first : (title : String Global) (lines : Vec Line) → (resized 80 24 (board title lines None)).screen ≡ None
 resized_first title lines = refl
 
 -- ---- the width of the tree
@@ -114,25 +114,25 @@ abbrev q : Event
 q = Input (record { code = Character (code "q"); control = false; release = false })
 
 -- `q` stops it, and then every event is answered by that
-pub stops : (title : String Global) (lines : Vec Line) → handled (session title lines None) q ≡ (record (session title lines None) { phase = Stopped }, Stop)
+pub stops : (title : String Global) (lines : Vec Line) → handled (board title lines None) q ≡ (record (board title lines None) { phase = Stopped }, Stop)
 stops title lines = refl
 
 pub has_stopped : (title : String Global) (lines : Vec Line)
-    → handled (record (session title lines None) { phase = Stopped }) Tick ≡ (record (session title lines None) { phase = Stopped }, Stop)
+    → handled (record (board title lines None) { phase = Stopped }) Tick ≡ (record (board title lines None) { phase = Stopped }, Stop)
 has_stopped title lines = refl
 
-pub goes_on : (title : String Global) (lines : Vec Line) → handled (session title lines None) Tick ≡ (session title lines None, Redraw)
+pub goes_on : (title : String Global) (lines : Vec Line) → handled (board title lines None) Tick ≡ (board title lines None, Redraw)
 goes_on title lines = refl
 
 -- at the end the alternate screen is left if it was entered
 pub leaves : (title : String Global) (lines : Vec Line)
-    → closing (shown (window (code "H")) (session title lines None)).screen ≡ LeaveAlternate ∷ Wrap ∷ ShowCursor ∷ []
+    → closing (shown (window (code "H")) (board title lines None)).screen ≡ LeaveAlternate ∷ Wrap ∷ ShowCursor ∷ []
 leaves title lines = refl
 
-pub leaves_none : (title : String Global) (lines : Vec Line) → closing (session title lines None).screen ≡ []
+pub leaves_none : (title : String Global) (lines : Vec Line) → closing (board title lines None).screen ≡ []
 leaves_none title lines = refl
 
-pub is_over : (title : String Global) (lines : Vec Line) → is_running (closed (session title lines None)) ≡ false
+pub is_over : (title : String Global) (lines : Vec Line) → is_running (closed (board title lines None)) ≡ false
 is_over title lines = refl
 
 -- ---- what a display shows
