@@ -13,7 +13,8 @@ pub record Run : Type 0 where
   pub board : Board
   pub display : Display
 
--- a step of it: an event, another size of the display, which then shows anything and has its cursor anywhere, or a frame
+-- a step of it: an event, another size of the display, which then shows anything and has its cursor anywhere, but keeps what is under the alternate
+-- screen, or a frame
 pub data Step : Type 0 where
   Handles : Event → Step
   Resizes : Sheet → Cursor → Step
