@@ -12,3 +12,5 @@ pub mod Observing
 pub mod Choosing
 pub mod FrameWriting
 pub mod RenderedInputs
+pub mod KeptLines
+pub mod ComposedLines
