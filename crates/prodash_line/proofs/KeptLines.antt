@@ -12,7 +12,6 @@ use Rattle.prodash_base.specs.Trackers.{Tracker}
 use Rattle.prodash_base.specs.declared.progress.Row.{Row}
 use Rattle.prodash_line.specs.declared.render.line.draw.input.Options.{Options}
 use Rattle.prodash_line.specs.declared.render.line.draw.layout.Layout.{Layout}
-use Rattle.prodash_line.specs.declared.render.line.draw.row_lines.ComposedLine.{ComposedLine}
 use Rattle.prodash_line.specs.declared.render.line.draw.row_lines.EarlierLines.{EarlierLines}
 use Rattle.prodash_line.specs.declared.render.line.draw.row_lines.RowLine.{RowLine}
 use Rattle.prodash_line.specs.declared.render.line.draw.row_lines.RowLines.{RowLines}
@@ -26,7 +25,7 @@ use Rattle.prodash_line.specs.declared.render.line.draw.action.Action.{Action}
 use Rattle.prodash_line.specs.declared.render.line.draw.action.Action.TheVariants.{Close, Leave, Redraw}
 use Rattle.prodash_line.specs.plumbing.ComposedLines.{AreFitting, Composes}
 use Rattle.prodash_line.specs.plumbing.FrameWriting.{SplitsFitting, count_of}
-use Rattle.prodash_line.specs.plumbing.KeptLines.{AddsLines, AreFirstLines, AreLinesOf, HasNone, HoldsLines, IsLineOf, covers, line_midpoint, line_widths, measure_line, untimed_bytes, untimed_line}
+use Rattle.prodash_line.specs.plumbing.KeptLines.{AddsLines, AreFirstLines, AreLinesOf, HasNone, HoldsLines, between, covers, line_midpoint, line_widths, measure_line, untimed_bytes, untimed_line}
 use Rattle.prodash_line.specs.plumbing.Observing.{observe_all, shown_by}
 use Rattle.prodash_line.specs.plumbing.OverwriteBytes.{lines_bytes, overwrite_line_bytes, row_end}
 use Rattle.prodash_line.specs.plumbing.Writing.{line_bytes}
@@ -254,28 +253,28 @@ sees_same r show printed rows left shown terminal =
     let changed = rows_changed r.last_rows rows in
     unchanged r.last_rows rows (changed_by again times changed (drawn_by show r.options.output_is_terminal (again || (times || changed)) drawn shown terminal))
 
--- of the rows that are left the first is added
-pub bytes_next : (f : PathRow → List ℕ) (row : PathRow) (rest left : List PathRow) (before new all : List ℕ)
-    → left ≡ row ∷ rest → new ≡ before ++ f row → before ++ flat_map f left ≡ all → new ++ flat_map f rest ≡ all
-bytes_next f row rest left before new all l n h =
-    ap (λ (t : List ℕ). t ++ flat_map f rest) n ∙ append_assoc before (f row) (flat_map f rest) ∙ ap (λ (rows : List PathRow). before ++ flat_map f rows) (sym l) ∙ h
+-- the next row is one more whose line will be copied
+pub copied_next : {A : Type 0} (each : List PathRow → List A) (own : List A) (row : PathRow) (rest left : List PathRow) (before run more all : List A)
+    → left ≡ row ∷ rest → each (row ∷ rest) ≡ own ++ each rest → more ≡ run ++ own → before ++ (run ++ each left) ≡ all → before ++ (more ++ each rest) ≡ all
+copied_next each own row rest left before run more all l e n h =
+    ap (λ t. before ++ (t ++ each rest)) n ∙ ap (λ t. before ++ t) (append_assoc run own (each rest))
+    ∙ ap (λ t. before ++ (run ++ t)) (sym e) ∙ ap (λ rows. before ++ (run ++ each rows)) (sym l) ∙ h
 
-pub lines_next : (g : PathRow → RowLine) (row : PathRow) (rest left : List PathRow) (before new all : List RowLine)
-    → left ≡ row ∷ rest → new ≡ before ++ g row ∷ [] → before ++ map g left ≡ all → new ++ map g rest ≡ all
-lines_next g row rest left before new all l n h =
-    ap (λ (t : List RowLine). t ++ map g rest) n ∙ append_assoc before (g row ∷ []) (map g rest) ∙ ap (λ (rows : List PathRow). before ++ map g rows) (sym l) ∙ h
+-- the lines are copied, and that of the next row is composed
+pub composed_next : {A : Type 0} (each : List PathRow → List A) (own : List A) (row : PathRow) (rest left : List PathRow) (before run copied new none all : List A)
+    → left ≡ row ∷ rest → each (row ∷ rest) ≡ own ++ each rest → copied ≡ before ++ run → new ≡ copied ++ own → none ≡ []
+    → before ++ (run ++ each left) ≡ all → new ++ (none ++ each rest) ≡ all
+composed_next each own row rest left before run copied new none all l e c n z h =
+    (λ i. n i ++ (z i ++ each rest)) ∙ (λ i. (c i ++ own) ++ each rest) ∙ append_assoc (before ++ run) own (each rest) ∙ append_assoc before run (own ++ each rest)
+    ∙ ap (λ t. before ++ (run ++ t)) (sym e) ∙ ap (λ rows. before ++ (run ++ each rows)) (sym l) ∙ h
 
--- a line of an earlier frame is added as that of its row
-pub adds_composed : (options : Options) (midpoint : ℕ) (row : PathRow) (line : ComposedLine) (old new : RowLines)
-    → IsLineOf options midpoint row line → midpoint ≡ old.midpoint → new.midpoint ≡ old.midpoint
-    → new.writer.bytes ≡ old.writer.bytes ++ line.bytes.now → new.lines.items ≡ old.lines.items ++ line.line ∷ []
-    → AddsLines options (row ∷ []) old new
-adds_composed options midpoint row line old new h at m b l = record {
-  midpoint = m;
-  bytes = b ∙ ap (λ (t : List ℕ). old.writer.bytes ++ t) (h.bytes ∙ ap (λ (n : ℕ). untimed_bytes options n row) at ∙ sym (append-nil (untimed_bytes options old.midpoint row)));
-  lines = l ∙ ap (λ (x : RowLine). old.lines.items ++ x ∷ []) (h.line ∙ ap (λ (n : ℕ). measure_line options n row) at);
-}
+-- the last lines are copied
+pub copied_last : {A : Type 0} (each : List PathRow → List A) (left : List PathRow) (before run new all : List A)
+    → left ≡ [] → each [] ≡ [] → new ≡ before ++ run → before ++ (run ++ each left) ≡ all → new ≡ all
+copied_last each left before run new all l e n h =
+    n ∙ ap (λ t. before ++ t) (sym (append-nil run)) ∙ ap (λ t. before ++ (run ++ t)) (sym e) ∙ ap (λ rows. before ++ (run ++ each rows)) (sym l) ∙ h
 
+-- the line of a row is added
 pub added_bytes : (options : Options) (at : ℕ) (row : PathRow) (old new : RowLines) → AddsLines options (row ∷ []) old new → old.midpoint ≡ at
     → new.writer.bytes ≡ old.writer.bytes ++ untimed_bytes options at row
 added_bytes options at row old new h m =
@@ -312,3 +311,29 @@ composed_widths options midpoint at rows lines bytes h =
 pub composed_midpoint : (options : Options) (midpoint : ℕ) (rows : List PathRow) (lines : List RowLine) (bytes : List ℕ) → AreLinesOf options midpoint rows lines bytes
     → line_midpoint lines ≡ greatest_midpoint options.defensive (shown_by None rows)
 composed_midpoint options midpoint rows lines bytes h = ap line_midpoint h.measured ∙ midpoints_kept options midpoint rows
+
+-- what is between the whole of a list and a part that is left
+pub between_is : {X : Type 0} (run first left : List X) → run ≡ first ++ left → between run left ≡ first
+between_is run first left h =
+    let size : length run ≡ length first + length left = ap length h ∙ length-append first left in
+    let n : length first ≡ length run - length left = omega (arith, size) in
+    ap (take (length run - length left)) h ∙ take_at first left (length run - length left) n
+
+-- what is copied grows by the next of what is left
+pub between_next : {X : Type 0} (run left part others : List X) → run ≡ between run left ++ left → left ≡ part ++ others
+    → between run others ≡ between run left ++ part
+between_next run left part others h l =
+    between_is run (between run left ++ part) others (h ∙ ap (λ xs. between run left ++ xs) l ∙ sym (append_assoc (between run left) part others))
+
+pub behind_next : {X : Type 0} (run left part others : List X) → run ≡ between run left ++ left → left ≡ part ++ others
+    → run ≡ between run others ++ others
+behind_next run left part others h l =
+    h ∙ ap (λ xs. between run left ++ xs) l ∙ sym (append_assoc (between run left) part others)
+    ∙ ap (λ xs. xs ++ others) (sym (between_next run left part others h l))
+
+-- nothing is between a list and itself
+pub between_none : {X : Type 0} (xs : List X) → between xs xs ≡ []
+between_none xs = between_is xs [] xs refl
+
+pub behind_itself : {X : Type 0} (xs : List X) → xs ≡ between xs xs ++ xs
+behind_itself xs = ap (λ ys. ys ++ xs) (sym (between_none xs))

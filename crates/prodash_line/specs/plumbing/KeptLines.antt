@@ -1,9 +1,8 @@
 -- Lines of rows that are kept from one frame to the next.
-use Rattle.std.specs.Prelude.{◌≡◌, ℕ, ◌&&◌, nat_le, Bool, true, List, [], ◌∷◌, ◌++◌, length, map, take, drop, max, Option, None}
+use Rattle.std.specs.Prelude.{◌≡◌, ℕ, ◌-◌, ◌&&◌, nat_le, Bool, true, List, [], ◌∷◌, ◌++◌, length, map, take, drop, max, Option, None}
 use Rattle.std.specs.List.{flat_map}
 use Rattle.prodash_base.specs.Rows.{PathRow, rows_of}
 use Rattle.prodash_line.specs.declared.render.line.draw.input.Options.{Options}
-use Rattle.prodash_line.specs.declared.render.line.draw.row_lines.ComposedLine.{ComposedLine}
 use Rattle.prodash_line.specs.declared.render.line.draw.row_lines.EarlierLines.{EarlierLines}
 use Rattle.prodash_line.specs.declared.render.line.draw.row_lines.RowLine.{RowLine}
 use Rattle.prodash_line.specs.declared.render.line.draw.row_lines.RowLines.{RowLines}
@@ -51,10 +50,16 @@ HoldsLines options rows l = AreFirstLines options l.midpoint rows l.lines.items 
 abbrev pub AreLeft : Options → EarlierLines → Type 0
 AreLeft options e = AreFirstLines options e.midpoint (rows_of e.rows.now) e.lines.now e.bytes.now
 
--- a line that was composed is that of this row
-pub record IsLineOf (options : Options) (midpoint : ℕ) (row : PathRow) (c : ComposedLine) : Type 0 where
-  pub bytes : c.bytes.now ≡ untimed_bytes options midpoint row
-  pub line : c.line ≡ measure_line options midpoint row
+-- the first of these are the line of this row, and those after it are left
+pub record IsAfter (options : Options) (row : PathRow) (e left : EarlierLines) : Type 0 where
+  pub midpoint : left.midpoint ≡ e.midpoint
+  pub lines : e.lines.now ≡ measure_line options e.midpoint row ∷ left.lines.now
+  pub bytes : e.bytes.now ≡ untimed_bytes options e.midpoint row ++ left.bytes.now
+  pub kept : AreLeft options left
+
+-- what comes before the last ones, which are left of a list
+abbrev pub between : {X : Type 0} → List X → List X → List X
+between run left = take (length run - length left) run
 
 -- the lines of rows have been added
 pub record AddsLines (options : Options) (rows : List PathRow) (old new : RowLines) : Type 0 where

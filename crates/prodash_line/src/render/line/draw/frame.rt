@@ -111,7 +111,7 @@ pub(crate) fn compose_tick<'a>(
     keep_latest(&mut origin_widths, usize::from(height));
     let left = widths_below(&past.widths, messages.len());
     let timer = past.timer_after(alloc, at, rows)?;
-    let earlier = if draws_untimed(action, tracker, &timer) {
+    let earlier = if draws_untimed(action, tracker, &timer) && past.sees_some_again(rows) {
         Some(past.earlier_lines())
     } else {
         None

@@ -2,7 +2,7 @@
 ghost use Rattle.std.specs.Prelude.{◌≡◌, ◌∷◌, ◌++◌, [], length, nat_eq, true, OnOk, IfSome, IsOkUnless, MatchOption};
 ghost use Rattle.prodash_base.specs.Rows.{row_of, rows_of};
 ghost use Rattle.prodash_line.specs.ProgressRows.{filtered};
-ghost use Rattle.prodash_line.specs.plumbing.KeptLines.{AddsLines, AreLeft, HasNone, IsLineOf, covers, line_widths};
+ghost use Rattle.prodash_line.specs.plumbing.KeptLines.{AddsLines, AreLeft, HasNone, IsAfter, between, covers, line_widths};
 ghost use Rattle.prodash_line.specs.plumbing.ComposedLines.{Composes};
 
 use crate::render::line::draw::input::Options;
@@ -44,13 +44,6 @@ pub(crate) struct EarlierLines<'a> {
     pub(crate) lines: &'a [RowLine],
     /// The bytes of all lines.
     pub(crate) bytes: &'a [u8],
-}
-
-/// A line of an earlier frame.
-#[derive(Clone, Copy, Drop)]
-struct ComposedLine<'a> {
-    bytes: &'a [u8],
-    line: RowLine,
 }
 
 impl RowLines {
@@ -112,23 +105,27 @@ impl RowLines {
         ensures reason { IsOkUnless result Refusal.Memory }
     {
         let mut texts = RowTexts::new(alloc);
-        let mut left = earlier;
+        // the lines from the first on that has not been copied, and those from the next row's on
+        let (mut run, mut left) = (earlier, earlier);
         for row in rows {
             if !is_row_drawn(options.level_filter, row) {
                 continue;
             }
-            let (line, others) = left.split_first(options, row);
-            match line {
-                Some(line) => self.push_composed(line)?,
-                None => self.push_new(alloc, options, &mut texts, row)?,
+            if let Some(others) = left.split_same(options, row) {
+                left = others;
+                continue;
             }
-            left = others;
+            self.push_run(run, left)?;
+            self.push_new(alloc, options, &mut texts, row)?;
+            left = left.split_off(options, row);
+            run = left;
         }
+        self.push_run(run, left)?;
         Ok(())
     }
 
     /// Composes the line of a row, and appends it.
-    #[inline(always)]
+    #[inline(never)]
     fn push_new(
         &mut self,
         alloc: Global,
@@ -159,17 +156,22 @@ impl RowLines {
         Ok(())
     }
 
-    /// Appends a line of an earlier frame.
-    #[inline(always)]
-    fn push_composed(&mut self, line: ComposedLine<'_>) -> Result<(), AllocError>
-        ensures bytes { OnOk result
-            (self.new.writer.bytes ≡ self.old.writer.bytes ++ line.entry.bytes.now) }
-        ensures lines { OnOk result
-            (self.new.lines.items ≡ self.old.lines.items ++ line.entry.line ∷ []) }
+    /// Appends the first of these lines of an earlier frame, up to those that are left of them.
+    fn push_run(
+        &mut self,
+        run: EarlierLines<'_>,
+        left: EarlierLines<'_>,
+    ) -> Result<(), AllocError>
+        ensures bytes { OnOk result (self.new.writer.bytes
+            ≡ self.old.writer.bytes ++ between run.entry.bytes.now left.entry.bytes.now) }
+        ensures lines { OnOk result (self.new.lines.items
+            ≡ self.old.lines.items ++ between run.entry.lines.now left.entry.lines.now) }
         ensures midpoint { self.new.midpoint ≡ self.old.midpoint }
     {
-        self.writer.push_lines(line.bytes)?;
-        self.lines.push(line.line)?;
+        let bytes = run.bytes.len().saturating_sub(left.bytes.len());
+        let lines = run.lines.len().saturating_sub(left.lines.len());
+        self.writer.push_lines(&run.bytes[..bytes])?;
+        self.lines.extend_from_slice(&run.lines[..lines])?;
         Ok(())
     }
 
@@ -199,37 +201,46 @@ impl RowLines {
 }
 
 impl<'a> EarlierLines<'a> {
-    /// Returns the first line that is left, if it is that of this row, and the lines after it.
+    /// Returns the lines after the first one, if that is of this row.
     #[inline(always)]
-    fn split_first(
-        self,
-        options: &Options,
-        row: &Row,
-    ) -> (Option<ComposedLine<'a>>, EarlierLines<'a>)
+    fn split_same(self, options: &Options, row: &Row) -> Option<EarlierLines<'a>>
         requires { AreLeft options.now self }
-        ensures line { IfSome result.0
-            (IsLineOf options.now self.entry.midpoint (row_of row.now)) }
-        ensures left { AreLeft options.now result.1 }
-        ensures midpoint { result.1.midpoint ≡ self.entry.midpoint }
+        ensures { IfSome result (IsAfter options.now (row_of row.now) self.entry) }
     {
-        let Some((line, lines)) = self.lines.split_first() else {
-            return (None, self);
-        };
-        let Some((earlier, rows)) = split_first_drawn(options, self.rows) else {
-            return (None, self);
-        };
-        let (bytes, others) = self.bytes.split_at(line.length);
-        let left = EarlierLines {
+        let (line, lines) = self.lines.split_first()?;
+        let (earlier, rows) = split_first_drawn(options, self.rows)?;
+        if !are_same(row, earlier) {
+            return None;
+        }
+        Some(EarlierLines {
             midpoint: self.midpoint,
             rows,
             lines,
-            bytes: others,
-        };
-        if are_same(row, earlier) {
-            (Some(ComposedLine { bytes, line: *line }), left)
-        } else {
-            (None, left)
+            bytes: &self.bytes[line.length..],
+        })
+    }
+
+    /// Returns the lines from the first one on whose row is below this one in the tree's order.
+    fn split_off(self, options: &Options, row: &Row) -> EarlierLines<'a>
+        requires { AreLeft options.now self }
+        ensures left { AreLeft options.now result }
+        ensures midpoint { result.midpoint ≡ self.entry.midpoint }
+    {
+        let mut left = self;
+        while let Some((line, lines)) = left.lines.split_first() {
+            match split_first_drawn(options, left.rows) {
+                Some((earlier, rows)) if earlier.key <= row.key => {
+                    left = EarlierLines {
+                        midpoint: left.midpoint,
+                        rows,
+                        lines,
+                        bytes: &left.bytes[line.length..],
+                    };
+                }
+                _ => return left,
+            }
         }
+        left
     }
 }
 

@@ -25,6 +25,9 @@ use std::alloc::Global;
 use std::marker::Model;
 use std::mem;
 
+/// How many rows are compared to tell whether most have changed.
+const SAMPLES: usize = 8;
+
 /// What the renderer keeps from frame to frame. Contracts see a `Renderer`.
 ///
 /// ```rust
@@ -436,6 +439,21 @@ impl Past {
             lines: self.lines.lines.as_slice(),
             bytes: self.lines.writer.bytes(),
         }
+    }
+
+    /// Whether some of a few rows, spread over all, have the progress of those in their places at the
+    /// latest accepted tick. If not, most rows have changed, and lines aren't worth keeping.
+    pub(crate) fn sees_some_again(&self, rows: &[Row]) -> bool {
+        let earlier = self.latest_rows();
+        let step = rows.len() / SAMPLES + 1;
+        let mut n = 0;
+        while n < rows.len() && n < earlier.len() {
+            if rows[n].progress == earlier[n].progress {
+                return true;
+            }
+            n += step;
+        }
+        false
     }
 
     /// Records whether the cursor is hidden once a frame is written.
