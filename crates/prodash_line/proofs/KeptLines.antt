@@ -4,11 +4,10 @@ use Rattle.std.proofs.lemmas.Bool.{leb-true, lt-leb}
 use Rattle.std.specs.Prelude.{◌&&◌, ◌||◌, max, IfSome}
 use Rattle.std.specs.List.{flat_map}
 use Rattle.std.proofs.lemmas.Grind.{flat_map-append}
-use Rattle.std.proofs.lemmas.List.{map-append, length-map, length-take, take_at, drop_at}
+use Rattle.std.proofs.lemmas.List.{map-append, length-map, take_at, drop_at}
 use Rattle.prodash_base.specs.Rows.{PathRow, rows_of, same_rows}
 use Rattle.prodash_base.specs.plumbing.EqualityTests.{sound}
 use Rattle.prodash_base.specs.plumbing.SameRows as same
-use Rattle.prodash_base.specs.Trackers.{Tracker}
 use Rattle.prodash_base.specs.declared.progress.Row.{Row}
 use Rattle.prodash_line.specs.declared.render.line.draw.input.Options.{Options}
 use Rattle.prodash_line.specs.declared.render.line.draw.layout.Layout.{Layout}

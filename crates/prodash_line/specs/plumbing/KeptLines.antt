@@ -1,5 +1,5 @@
 -- Lines of rows that are kept from one frame to the next.
-use Rattle.std.specs.Prelude.{◌≡◌, ℕ, ◌-◌, ◌&&◌, nat_le, Bool, true, List, [], ◌∷◌, ◌++◌, length, map, take, drop, max, Option, None}
+use Rattle.std.specs.Prelude.{◌≡◌, ℕ, ◌-◌, ◌&&◌, nat_le, Bool, true, List, [], ◌∷◌, ◌++◌, length, map, take, drop, max, None}
 use Rattle.std.specs.List.{flat_map}
 use Rattle.prodash_base.specs.Rows.{PathRow, rows_of}
 use Rattle.prodash_line.specs.declared.render.line.draw.input.Options.{Options}

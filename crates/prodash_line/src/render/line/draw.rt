@@ -146,10 +146,8 @@ fn draw_tick<S: Screen>(
     send_frame(screen, &mut state.past, state.frame.out.bytes())?;
     let (rows, messages, copy_state) = seen;
     keep_observed(&mut state.tracker, frame.drawn.action, rows.as_slice());
-    let lines = &mut state.frame.lines;
-    Ok(state
-        .past
-        .remember_tick(frame, lines, rows, messages, copy_state))
+    let (past, lines) = (&mut state.past, &mut state.frame.lines);
+    Ok(past.remember_tick(frame, lines, rows, messages, copy_state))
 }
 
 /// Draws the frame of a resize, and sets the size.

@@ -187,11 +187,7 @@ pub(crate) fn compose_resized<'a>(
 }
 
 /// Returns whether a frame with this action draws rows that show neither throughput nor times.
-fn draws_untimed(
-    action: Action,
-    tracker: &Option<FrameThroughput>,
-    timer: &Option<Timer>,
-) -> bool {
+fn draws_untimed(action: Action, tracker: &Option<FrameThroughput>, timer: &Option<Timer>) -> bool {
     action == Action::Redraw && tracker.is_none() && timer.is_none()
 }
 

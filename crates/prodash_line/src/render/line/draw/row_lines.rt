@@ -157,11 +157,7 @@ impl RowLines {
     }
 
     /// Appends the first of these lines of an earlier frame, up to those that are left of them.
-    fn push_run(
-        &mut self,
-        run: EarlierLines<'_>,
-        left: EarlierLines<'_>,
-    ) -> Result<(), AllocError>
+    fn push_run(&mut self, run: EarlierLines<'_>, left: EarlierLines<'_>) -> Result<(), AllocError>
         ensures bytes { OnOk result (self.new.writer.bytes
             ≡ self.old.writer.bytes ++ between run.entry.bytes.now left.entry.bytes.now) }
         ensures lines { OnOk result (self.new.lines.items

@@ -1,4 +1,4 @@
-use Rattle.std.proofs.Common.{arith, rules, ◌≡◌, ◌+◌, ℕ, ◌++◌, List, drop, ap, sym, ◌∙◌, append_assoc}
+use Rattle.std.proofs.Common.{arith, ◌+◌, ℕ, ◌++◌, List, drop, ap, sym, ◌∙◌, append_assoc}
 use Rattle.prodash_line.specs.declared.render.line.draw.row_lines.RowLine.{RowLine}
 use Rattle.prodash_line.specs.plumbing.KeptLines.{line_midpoint, line_widths}
 use Rattle.prodash_line.proofs.KeptLines.{lines_from}

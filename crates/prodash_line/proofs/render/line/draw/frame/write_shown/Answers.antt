@@ -1,12 +1,9 @@
-use Rattle.std.proofs.Common.{rules, ◌≡◌, ℕ, ◌++◌, List, Option, None, ap, sym, ◌∙◌}
+use Rattle.std.proofs.Common.{rules, ◌≡◌, ℕ, ◌++◌, List, None, ap, sym, ◌∙◌}
 use Rattle.std.specs.Prelude.{max}
 use Rattle.prodash_base.specs.Rows.{PathRow, rows_of}
-use Rattle.prodash_base.specs.FrameTrackers.{FrameTracker}
-use Rattle.prodash_base.specs.Timers.{TimerState}
 use Rattle.prodash_line.specs.DrawnLines.{layout_of}
 use Rattle.prodash_line.specs.Frames.{widths_of}
 use Rattle.prodash_line.specs.ProgressRows.{filtered, greatest_midpoint, row_lines, times_at}
-use Rattle.prodash_line.specs.plumbing.ComposedLines.{AreFitting}
 use Rattle.prodash_line.specs.plumbing.KeptLines.{AreLinesOf}
 use Rattle.prodash_line.specs.plumbing.Observing.{ahead_of, observe_all, shown_by}
 use Rattle.prodash_line.specs.plumbing.OverwriteBytes.{lines_bytes}

@@ -1,4 +1,4 @@
-use Rattle.std.proofs.Common.{arith, ◌≡◌, ℕ, ◌+◌, ◌-◌, ◌≤◌, ◌++◌, ◌∷◌, [], List, length, None, ap, sym, ◌∙◌, append-nil}
+use Rattle.std.proofs.Common.{arith, ◌≡◌, ℕ, ◌-◌, ◌++◌, ◌∷◌, [], List, length, None, ap, sym, ◌∙◌, append-nil}
 use Rattle.prodash_base.specs.Rows.{row_of}
 use Rattle.prodash_line.specs.Lines.{columns_of}
 use Rattle.prodash_line.specs.ProgressRows.{midpoint_of}
