@@ -12,5 +12,3 @@ pub mod Observing
 pub mod Choosing
 pub mod FrameWriting
 pub mod RenderedInputs
-pub mod KeptLines
-pub mod ComposedLines

@@ -40,8 +40,8 @@ pub fn run<S: Screen>(
 {
     // The clause on pages needs the fact that this number has 16 bits.
     let (_, _rows) = options.draw.terminal_dimensions;
-    let mut replies = Vec::with_capacity(alloc, events.len())?;
     let mut session = Session::new(alloc, options)?;
+    let mut replies = Vec::with_capacity(alloc, events.len())?;
     let mut left = events;
     while let Some((event, others)) = left.split_first() {
         let reply = session.apply(alloc, event, screen);

@@ -23,7 +23,6 @@ pub(crate) mod plain_progress;
 mod rank;
 mod room;
 mod row;
-mod row_lines;
 mod row_time;
 mod screen;
 mod state;
@@ -143,11 +142,10 @@ fn draw_tick<S: Screen>(
         show,
         &seen,
     )?;
-    send_frame(screen, &mut state.past, state.frame.out.bytes())?;
+    send_frame(screen, &mut state.past, state.frame.bytes())?;
     let (rows, messages, copy_state) = seen;
     keep_observed(&mut state.tracker, frame.drawn.action, rows.as_slice());
-    let (past, lines) = (&mut state.past, &mut state.frame.lines);
-    Ok(past.remember_tick(frame, lines, rows, messages, copy_state))
+    Ok(state.past.remember_tick(frame, rows, messages, copy_state))
 }
 
 /// Draws the frame of a resize, and sets the size.
@@ -165,7 +163,7 @@ fn draw_resized<S: Screen>(
 {
     let (past, tracker) = (&state.past, &mut state.tracker);
     let drawn = compose_resized(alloc, &mut state.frame, past, tracker, at, size, show)?;
-    send_frame(screen, &mut state.past, state.frame.out.bytes())?;
+    send_frame(screen, &mut state.past, state.frame.bytes())?;
     keep_observed(&mut state.tracker, drawn.action, state.past.latest_rows());
     state.past.set_size(size, drawn);
     Ok(Answer::Drawn)
@@ -180,8 +178,8 @@ fn draw_closing<S: Screen>(screen: &mut S, state: &mut State) -> Result<Answer, 
         → RendersOn S.state state.old (Input.Tick at show None) screen.old result state.new
         screen.new }
 {
-    compose_closing(&mut state.frame.out, &state.past)?;
-    send_frame(screen, &mut state.past, state.frame.out.bytes())?;
+    compose_closing(&mut state.frame, &state.past)?;
+    send_frame(screen, &mut state.past, state.frame.bytes())?;
     state.past.mark_closed();
     Ok(Answer::Ended)
 }

@@ -36,6 +36,4 @@ pub(crate) struct Composed {
     pub(crate) origin_widths: Vec<u16>,
     /// The timer that has seen the rows of the tick, if times are shown.
     pub(crate) timer: Option<Timer>,
-    /// Whether the frame leaves the lines on screen since the tick saw the rows of the one before.
-    pub(crate) rows_stay: bool,
 }

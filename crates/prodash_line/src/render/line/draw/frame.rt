@@ -8,8 +8,6 @@ ghost use Rattle.prodash_line.specs.plumbing.FrameWriting.{closing_signs, closin
 ghost use Rattle.prodash_line.specs.Tracking.{kept_of};
 ghost use Rattle.prodash_line.specs.plumbing.Observing.{ObservesDrawn, ObservesScene};
 ghost use Rattle.prodash_line.specs.plumbing.OverwriteBytes.{blank_bytes};
-ghost use Rattle.prodash_line.specs.plumbing.ComposedLines.{HasLines, RowsStay, AddsComposed};
-ghost use Rattle.prodash_line.specs.plumbing.KeptLines.{HasNone, HoldsLines};
 
 use crate::render::line::draw::action::{Action, Composed, Drawn};
 use crate::render::line::draw::drawn_text::drawn_text;
@@ -23,7 +21,6 @@ use crate::render::line::draw::message::{greatest_width, push_message};
 use crate::render::line::draw::more::{count_drawn, split_fitting, write_hidden, write_more};
 use crate::render::line::draw::rank::{quotas_for, rank_of};
 use crate::render::line::draw::row::{Measured, RowTexts, is_row_drawn, push_row};
-use crate::render::line::draw::row_lines::RowLines;
 use crate::render::line::draw::state::{Past, keep_latest};
 use crate::render::line::draw::tracker::{begin_observing, observe_row};
 use crate::render::line::page::Sign;
@@ -47,51 +44,27 @@ struct Scene<'a> {
     timer: &'a Option<Timer>,
     /// The rows that are drawn if the frame draws any.
     rows: &'a [Row],
-    /// Their lines, or none if they haven't been composed.
-    lines: &'a RowLines,
-}
-
-/// Memory for a frame, which that of the next frame reuses.
-#[derive(Drop)]
-pub(crate) struct FrameBuffers {
-    /// The bytes of the frame.
-    pub(crate) out: LineWriter,
-    /// The lines of its rows, if they show neither throughput nor times.
-    pub(crate) lines: RowLines,
-}
-
-impl FrameBuffers {
-    /// Returns buffers without a frame.
-    pub(crate) fn new(alloc: Global) -> FrameBuffers {
-        FrameBuffers {
-            out: LineWriter::new(alloc),
-            lines: RowLines::new(alloc),
-        }
-    }
 }
 
 /// Composes the frame of a tick with a root: the messages over the lines on screen, then the rows
 /// over those that are left, if they are drawn; or blanks, if the tick closes the renderer. Fails
 /// if out of memory.
-pub(crate) fn compose_tick<'a>(
+pub(crate) fn compose_tick(
     alloc: Global,
-    frame: &'a mut FrameBuffers,
-    past: &'a Past,
+    out: &mut LineWriter,
+    past: &Past,
     tracker: &mut Option<FrameThroughput>,
     at: Moment,
     show: bool,
-    seen: &'a (Rows, Messages, MessageCopyState),
+    seen: &(Rows, Messages, MessageCopyState),
 ) -> Result<Composed, Refusal>
     ensures bytes { OnOk result
-        (Composes past.now tracker.old (tick_seeing at show seen.now) frame.new.out) }
+        (Composes past.now tracker.old (tick_seeing at show seen.now) out.new) }
     ensures state { IfOk result
         (LeftByTick past.now tracker.old at show seen.now tracker.new) }
-    ensures lines { OnOk result (HoldsLines past.now.options seen.now.0 frame.new.lines) }
-    ensures rows { IfOk result (λ composed. RowsStay composed past.now seen.now.0) }
     ensures kept { kept_of tracker.new ≡ kept_of tracker.old }
     ensures reason { IsOkUnless result Refusal.Memory }
 {
-    let out = &mut frame.out;
     let (_, height) = past.options.terminal_dimensions;
     let layout = past.options.layout();
     let (rows, messages) = (seen.0.as_slice(), seen.1.as_slice());
@@ -111,19 +84,12 @@ pub(crate) fn compose_tick<'a>(
     keep_latest(&mut origin_widths, usize::from(height));
     let left = widths_below(&past.widths, messages.len());
     let timer = past.timer_after(alloc, at, rows)?;
-    let earlier = if draws_untimed(action, tracker, &timer) && past.sees_some_again(rows) {
-        Some(past.earlier_lines())
-    } else {
-        None
-    };
-    frame.lines.compose(alloc, &past.options, earlier, rows)?;
     let scene = Scene {
         past,
         options: past.options,
         at,
         timer: &timer,
         rows,
-        lines: &frame.lines,
     };
     let drawn = write_body(alloc, out, tracker, &scene, action, left)?;
     end_frame(out, layout, action)?;
@@ -131,7 +97,6 @@ pub(crate) fn compose_tick<'a>(
         drawn,
         origin_widths,
         timer,
-        rows_stay: past.rows_stay(action, show),
     })
 }
 
@@ -148,24 +113,20 @@ pub(crate) fn compose_closing(out: &mut LineWriter, past: &Past) -> Result<(), A
 
 /// Composes the frame of a resize: the rows of the latest tick at the new size, if they are shown
 /// on a terminal. Fails if out of memory.
-pub(crate) fn compose_resized<'a>(
+pub(crate) fn compose_resized(
     alloc: Global,
-    frame: &'a mut FrameBuffers,
-    past: &'a Past,
+    out: &mut LineWriter,
+    past: &Past,
     tracker: &mut Option<FrameThroughput>,
     at: Moment,
     size: (u16, u16),
     show: bool,
 ) -> Result<Drawn, Refusal>
-    ensures bytes { OnOk result
-        (Composes past.now tracker.old (resize_to at show size) frame.new.out) }
+    ensures bytes { OnOk result (Composes past.now tracker.old (resize_to at show size) out.new) }
     ensures state { IfOk result (LeftBy past.now tracker.old (resize_to at show size) tracker.new) }
-    ensures lines { OnOk result (HasNone frame.new.lines) }
     ensures kept { kept_of tracker.new ≡ kept_of tracker.old }
     ensures reason { IsOkUnless result Refusal.Memory }
 {
-    let out = &mut frame.out;
-    frame.lines.clear();
     let options = Options {
         terminal_dimensions: size,
         ..past.options
@@ -179,16 +140,10 @@ pub(crate) fn compose_resized<'a>(
         at,
         timer: &past.timer,
         rows: past.latest_rows(),
-        lines: &frame.lines,
     };
     let drawn = write_body(alloc, out, tracker, &scene, action, &past.widths)?;
     end_frame(out, layout, action)?;
     Ok(drawn)
-}
-
-/// Returns whether a frame with this action draws rows that show neither throughput nor times.
-fn draws_untimed(action: Action, tracker: &Option<FrameThroughput>, timer: &Option<Timer>) -> bool {
-    action == Action::Redraw && tracker.is_none() && timer.is_none()
 }
 
 /// Begins a frame with this action: empties the buffer, hides the cursor if this frame is to hide
@@ -218,7 +173,6 @@ fn write_body(
     action: Action,
     left: &[u16],
 ) -> Result<Drawn, Refusal>
-    requires { HasLines scene.now }
     ensures bytes { OnOk result
         (AppendsBody action scene.now tracker.old left.now out.old out.new) }
     ensures state { IfOk result
@@ -349,7 +303,6 @@ fn redraw_rows(
     scene: &Scene<'_>,
     widths: &[u16],
 ) -> Result<Drawn, Refusal>
-    requires { HasLines scene.now }
     ensures bytes { OnOk result
         (AppendsRedraw scene.now tracker.old widths.now out.old out.new) }
     ensures state { IfOk result
@@ -381,7 +334,6 @@ fn write_fitting(
     scene: &Scene<'_>,
     widths: &[u16],
 ) -> Result<(), Refusal>
-    requires { HasLines scene.now }
     ensures bytes { OnOk result
         (WritesFitting scene.now tracker.old widths.now out.old out.new) }
     ensures drawn { OnOk result (DrawsFitting scene.now tracker.old drawn.old drawn.new) }
@@ -412,7 +364,6 @@ fn write_first(
 ) -> Result<(), Refusal>
     requires split { SplitsScene scene.now parts.0.now parts.1.now }
     requires first { DrawsFirst scene.now.options parts.1.now }
-    requires lines { HasLines scene.now }
     ensures bytes { OnOk result
         (WritesFitting scene.now tracker.old widths.now out.old out.new) }
     ensures drawn { OnOk result (DrawsFitting scene.now tracker.old drawn.old drawn.new) }
@@ -420,44 +371,12 @@ fn write_first(
     ensures kept { kept_of tracker.new ≡ kept_of tracker.old }
     ensures reason { IsOkUnless result Refusal.Memory }
 {
-    let (_, others) = parts;
+    let (shown, others) = parts;
     let options = &scene.options;
     let layout = options.layout();
     let covered = layout.covered_widths(widths);
-    write_shown(alloc, out, tracker, drawn, scene, covered, parts)?;
+    write_rows(alloc, out, tracker, drawn, scene, covered, shown)?;
     write_more(alloc, out, tracker, drawn, options, others)?;
-    Ok(())
-}
-
-/// Writes the lines of the rows that are drawn over the lines on screen: as they have been composed
-/// if they have been and no line on screen is wider, or row by row. Adds their widths to those that
-/// are drawn, and observes each row. `parts` are the rows, and those that aren't drawn.
-#[inline(always)]
-fn write_shown(
-    alloc: Global,
-    out: &mut LineWriter,
-    tracker: &mut Option<FrameThroughput>,
-    drawn: &mut Drawn,
-    scene: &Scene<'_>,
-    widths: &[u16],
-    parts: (&[Row], &[Row]),
-) -> Result<(), Refusal>
-    requires split { SplitsScene scene.now parts.0.now parts.1.now }
-    requires lines { HasLines scene.now }
-    ensures bytes { OnOk result
-        (WritesRows scene.now tracker.old widths.now parts.entry.0.now out.old out.new) }
-    ensures drawn { OnOk result
-        (DrawsRows scene.now tracker.old parts.entry.0.now drawn.old drawn.new) }
-    ensures observed { OnOk result
-        (ObservesDrawn scene.now.options parts.entry.0.now tracker.old tracker.new) }
-    ensures kept { kept_of tracker.new ≡ kept_of tracker.old }
-    ensures reason { IsOkUnless result Refusal.Memory }
-{
-    let lines = scene.lines;
-    if lines.is_empty() || tracker.is_some() || scene.timer.is_some() || !lines.cover(widths) {
-        return write_rows(alloc, out, tracker, drawn, scene, widths, parts.0);
-    }
-    write_composed(out, drawn, lines)?;
     Ok(())
 }
 
@@ -543,25 +462,6 @@ fn write_row(
     let own_midpoint = push_row(alloc, out, texts, &scene.options, midpoint, row, measured)?;
     drawn.midpoint = drawn.midpoint.max(own_midpoint);
     drawn.widths.push(out.end_line_over(0)?)?;
-    Ok(())
-}
-
-/// Writes lines that have been composed, over no lines on screen or over some that aren't wider.
-/// Adds their widths to those that are drawn.
-fn write_composed(
-    out: &mut LineWriter,
-    drawn: &mut Drawn,
-    lines: &RowLines,
-) -> Result<(), AllocError>
-    ensures bytes { OnOk result
-        (out.new.bytes ≡ out.old.bytes ++ lines.now.writer.bytes) }
-    ensures drawn { OnOk result (AddsComposed lines.now.lines.items drawn.old drawn.new) }
-{
-    out.push_lines(lines.writer.bytes())?;
-    for line in lines.lines.as_slice() {
-        drawn.widths.push(line.width)?;
-        drawn.midpoint = drawn.midpoint.max(line.midpoint);
-    }
     Ok(())
 }
 

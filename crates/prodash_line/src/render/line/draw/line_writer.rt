@@ -390,14 +390,6 @@ impl LineWriter {
         Ok(own_width)
     }
 
-    /// Appends the bytes of whole lines. Fails if out of memory.
-    #[inline(always)]
-    pub(crate) fn push_lines(&mut self, bytes: &[u8]) -> Result<(), AllocError>
-        ensures { OnOk result (self.new.bytes ≡ self.old.bytes ++ bytes.now) }
-    {
-        self.bytes.extend_from_slice(bytes)
-    }
-
     /// Appends a sign after the lines. Fails if out of memory.
     pub(crate) fn push_sign(&mut self, sign: Sign) -> Result<(), AllocError>
         ensures { OnOk result (self.new.bytes ≡ self.old.bytes ++ spelling_of sign) }

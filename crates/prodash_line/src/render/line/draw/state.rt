@@ -1,20 +1,17 @@
 //! What the renderer keeps from frame to frame.
-ghost use Rattle.std.specs.Prelude.{◌≡◌, [], Bool, List, true, false, Some, IfSome, IfOk, IsOkUnless};
-ghost use Rattle.prodash_base.specs.Rows.{PathRow, rows_of};
+ghost use Rattle.std.specs.Prelude.{◌≡◌, [], false, Some, IfSome, IfOk, IsOkUnless};
+ghost use Rattle.prodash_base.specs.Rows.{rows_of};
 ghost use Rattle.prodash_base.specs.Timers.{timer_after};
 ghost use Rattle.std.specs.Option.{option_map};
 ghost use Rattle.prodash_line.specs.Renderer.{IsEndRefusal, new_renderer, rows_changed, draws_again, any_goes_on, times_go_on, is_drawn, erases_at_end, closes_at, hides_cursor, is_cursor_hidden, latest_rows, resized, tick_action, resize_action, answer_of};
 ghost use Rattle.prodash_line.specs.plumbing.FrameWriting.{keeping, remembering};
-ghost use Rattle.prodash_line.specs.plumbing.KeptLines.{AreLeft, HoldsLines};
-ghost use Rattle.prodash_line.specs.plumbing.ComposedLines.{RowsStay};
 ghost use Rattle.prodash_line.specs.Tracking.{kept_of};
 ghost use Rattle.prodash_base.specs.Rings.{keep_last};
 
 use crate::render::line::draw::action::{Action, Composed, Drawn};
-use crate::render::line::draw::frame::FrameBuffers;
 use crate::render::line::draw::input::{Answer, Options};
+use crate::render::line::draw::line_writer::LineWriter;
 use crate::render::line::draw::row::is_row_drawn;
-use crate::render::line::draw::row_lines::{EarlierLines, RowLines};
 use prodash_base::Refusal;
 use prodash_base::messages::{MessageCopyState, Messages};
 use prodash_base::progress::{Level, Row, Rows};
@@ -23,10 +20,6 @@ use prodash_base::time::Moment;
 use prodash_base::timing::{Timer, goes_on};
 use std::alloc::Global;
 use std::marker::Model;
-use std::mem;
-
-/// How many rows are compared to tell whether most have changed.
-const SAMPLES: usize = 8;
 
 /// What the renderer keeps from frame to frame. Contracts see a `Renderer`.
 ///
@@ -40,8 +33,8 @@ const SAMPLES: usize = 8;
 #[derive(Drop)]
 pub struct State {
     pub(crate) past: Past,
-    /// A frame while it is composed. Each frame reuses its memory.
-    pub(crate) frame: FrameBuffers,
+    /// The bytes of a frame while it is composed. Each frame reuses its memory.
+    pub(crate) frame: LineWriter,
     /// Measures throughput, if it is shown.
     pub(crate) tracker: Option<FrameThroughput>,
 }
@@ -56,8 +49,6 @@ pub(crate) struct Past {
     last_progress_midpoint: u16,
     /// The rows at the latest accepted tick with a root.
     last_rows: Option<Rows>,
-    /// The lines that those rows were drawn in, kept for the next frame. Contracts don't see them.
-    lines: RowLines,
     /// The rows that were remembered before those, kept only for their memory. Contracts don't see
     /// them.
     spare_rows: Option<Rows>,
@@ -103,9 +94,8 @@ impl Ending {
 impl Model for Past {
     ghost use Rattle.std.specs.Prelude.{None};
     ghost use Rattle.std.specs.Option.{option_map};
-    ghost use Rattle.prodash_line.specs.Renderer.{Renderer, latest_rows};
+    ghost use Rattle.prodash_line.specs.Renderer.{Renderer};
     ghost use Rattle.prodash_line.specs.plumbing.Endings.{refusal_of};
-    ghost use Rattle.prodash_line.specs.plumbing.KeptLines.{HoldsLines};
     ghost use Rattle.std.specs.Coded.{codes};
     ghost use Rattle.std.specs.FinMap as finite;
 
@@ -126,8 +116,6 @@ impl Model for Past {
       cursor_hidden = p.cursor_hidden;
       ended = option_map refusal_of p.ending;
     } };
-
-    ghost invariant = { λ p. HoldsLines p.options (latest_rows p.last_rows) p.lines };
 }
 
 impl Model for State {
@@ -151,7 +139,7 @@ impl State {
     {
         State {
             past: Past::new(alloc, options),
-            frame: FrameBuffers::new(alloc),
+            frame: LineWriter::new(alloc),
             tracker: if throughput {
                 Some(FrameThroughput::new(alloc))
             } else {
@@ -170,8 +158,8 @@ impl State {
         ensures reason { IsOkUnless result Refusal.Memory }
     {
         Ok(State {
-            past: self.past.deep_clone(alloc)?,
-            frame: FrameBuffers::new(alloc),
+            past: self.past.deep_clone()?,
+            frame: LineWriter::new(alloc),
             tracker: self.copied_tracker()?,
         })
     }
@@ -227,7 +215,6 @@ impl Past {
             widths: Vec::new(alloc),
             last_progress_midpoint: 0,
             last_rows: None,
-            lines: RowLines::new(alloc),
             spare_rows: None,
             spare_messages: None,
             origin_widths: Vec::new(alloc),
@@ -244,7 +231,7 @@ impl Past {
     }
 
     /// Returns an equal copy.
-    fn deep_clone(&self, alloc: Global) -> Result<Past, Refusal>
+    fn deep_clone(&self) -> Result<Past, Refusal>
         ensures ok { IfOk result (λ copy. copy ≡ self.now) }
         ensures reason { IsOkUnless result Refusal.Memory }
     {
@@ -253,7 +240,6 @@ impl Past {
             widths: self.widths.clone()?,
             last_progress_midpoint: self.last_progress_midpoint,
             last_rows: self.last_rows.clone()?,
-            lines: RowLines::new(alloc),
             spare_rows: None,
             spare_messages: None,
             origin_widths: self.origin_widths.clone()?,
@@ -332,18 +318,6 @@ impl Past {
         }
     }
 
-    /// Whether a tick with this action saw the rows of the tick before: it would draw others.
-    pub(crate) fn rows_stay(&self, action: Action, show: bool) -> bool
-        ensures { (printed : Bool) (rows : List PathRow)
-            → action ≡ tick_action self.now show printed rows
-            → result ≡ true → self.now.last_rows ≡ Some rows }
-    {
-        match action {
-            Action::Leave => show && self.options.output_is_terminal,
-            Action::Redraw | Action::Erase | Action::Close => false,
-        }
-    }
-
     /// Returns what the frame of a resize does: it draws the rows of the latest tick if rows are
     /// shown on a terminal.
     pub(crate) fn resize_action(&self, show: bool) -> Action
@@ -418,44 +392,6 @@ impl Past {
         }
     }
 
-    /// Returns the lines that the rows at the latest accepted tick were drawn in, if the next frame
-    /// brings their values to the same midpoint.
-    pub(crate) fn earlier_lines(&self) -> EarlierLines<'_>
-        ensures left { AreLeft self.now.options result }
-        ensures midpoint { result.midpoint ≡ self.now.midpoint }
-    {
-        let midpoint = self.last_progress_midpoint;
-        if self.lines.midpoint != midpoint {
-            return EarlierLines {
-                midpoint,
-                rows: &[],
-                lines: &[],
-                bytes: &[],
-            };
-        }
-        EarlierLines {
-            midpoint,
-            rows: self.latest_rows(),
-            lines: self.lines.lines.as_slice(),
-            bytes: self.lines.writer.bytes(),
-        }
-    }
-
-    /// Whether some of a few rows, spread over all, have the progress of those in their places at the
-    /// latest accepted tick. If not, most rows have changed, and lines aren't worth keeping.
-    pub(crate) fn sees_some_again(&self, rows: &[Row]) -> bool {
-        let earlier = self.latest_rows();
-        let step = rows.len() / SAMPLES + 1;
-        let mut n = 0;
-        while n < rows.len() && n < earlier.len() {
-            if rows[n].progress == earlier[n].progress {
-                return true;
-            }
-            n += step;
-        }
-        false
-    }
-
     /// Records whether the cursor is hidden once a frame is written.
     pub(crate) fn keep_cursor(&mut self)
         ensures { self.new ≡ record self.old { cursor_hidden = is_cursor_hidden self.old } }
@@ -469,22 +405,16 @@ impl Past {
     pub(crate) fn remember_tick(
         &mut self,
         frame: Composed,
-        lines: &mut RowLines,
         rows: Rows,
         messages: Messages,
         seen: MessageCopyState,
     ) -> Answer
-        requires lines { HoldsLines self.old.options rows lines.old }
-        requires rows { RowsStay frame self.old rows }
         ensures state { self.new ≡ remembering frame rows seen self.old }
         ensures answer { result ≡ answer_of frame.drawn.action }
     {
         let action = frame.drawn.action;
-        self.spare_rows = self.last_rows.replace(rows);
-        if !frame.rows_stay {
-            mem::swap(&mut self.lines, lines);
-        }
         self.keep_drawn(frame.drawn);
+        self.spare_rows = self.last_rows.replace(rows);
         self.spare_messages = Some(messages);
         self.origin_widths = frame.origin_widths;
         self.seen = Some(seen);
@@ -507,12 +437,11 @@ impl Past {
         self.rows_erased = drawn.rows_erased;
     }
 
-    /// Sets the size of the terminal, and records what the written frame left. No line is kept.
+    /// Sets the size of the terminal, and records what the written frame left.
     pub(crate) fn set_size(&mut self, size: (u16, u16), drawn: Drawn)
         ensures { self.new ≡ keeping drawn (resized self.old size.0 size.1) }
     {
         self.options.terminal_dimensions = size;
-        self.lines.clear();
         self.keep_drawn(drawn);
         keep_latest(&mut self.origin_widths, usize::from(size.1));
     }

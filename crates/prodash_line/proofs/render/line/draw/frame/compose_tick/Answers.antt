@@ -18,48 +18,48 @@ use Rattle.prodash_line.specs.Renderer.{Renderer, Drawing, remember, frame_at, d
 use Rattle.prodash_line.proofs.OverwriteBytes.{action_starts, action_ends, begun_with, has_by_length, frame_bytes_of, length-message_lines}
 use Rattle.prodash_line.proofs.render.line.draw.frame.compose_tick.Goals as goal
 
-printed : (c : goal.After-rows_stay) → length c.as_slice-messages.result.now ≡ length (message_lines c.args.past.now.options c.args.past.now.origin_widths c.args.seen.now.1)
+printed : (c : goal.In_ok-end_frame) → length c.as_slice-messages.result.now ≡ length (message_lines c.args.past.now.options c.args.past.now.origin_widths c.args.seen.now.1)
 printed c = ap length c.as_slice-messages.ensures ∙ sym (length-message_lines c.args.past.now.options c.args.past.now.origin_widths c.args.seen.now.1)
 
-left_is : (c : goal.After-rows_stay) → c.widths_below-left.result.now ≡ drop (length c.as_slice-messages.result.now) c.args.past.now.widths
+left_is : (c : goal.In_ok-end_frame) → c.widths_below-left.result.now ≡ drop (length c.as_slice-messages.result.now) c.args.past.now.widths
 left_is c = search rules
 
-abbrev input : goal.After-rows_stay → Input
+abbrev input : goal.In_ok-end_frame → Input
 input c = Tick c.args.at c.args.show (Some c.args.seen.now)
 
 -- the renderer
-abbrev whole : goal.After-rows_stay → Renderer
+abbrev whole : goal.In_ok-end_frame → Renderer
 whole c = tracked c.args.past.now c.args.tracker.now
 
-abbrev drawing : goal.After-rows_stay → Drawing
+abbrev drawing : goal.In_ok-end_frame → Drawing
 drawing c = drawing_of (record (whole c) { options = c.past.inside.options; timer = c.in_ok-timer.timer }) c.args.at (rows_of c.as_slice-rows.result.now)
 
 -- the timer has seen the rows of the tick
-timer_is : (c : goal.After-rows_stay) → c.in_ok-timer.timer ≡ (remember (whole c) (input c)).timer
+timer_is : (c : goal.In_ok-end_frame) → c.in_ok-timer.timer ≡ (remember (whole c) (input c)).timer
 timer_is c = c.in_ok-timer.ensures.ok ∙ ap (λ rows. option_map (λ t. timer_after t c.args.at rows) c.args.past.now.timer) c.as_slice-rows.ensures
 
-drawing_is : (c : goal.After-rows_stay) → drawing c ≡ drawing_at (whole c) (input c)
+drawing_is : (c : goal.In_ok-end_frame) → drawing c ≡ drawing_at (whole c) (input c)
 drawing_is c =
     ap (λ (x : Renderer). drawing_of (record (whole c) { options = x.options; timer = c.in_ok-timer.timer }) c.args.at (rows_of c.as_slice-rows.result.now)) c.past.view_is
     ∙ ap (λ timer. drawing_of (record (whole c) { timer = timer }) c.args.at (rows_of c.as_slice-rows.result.now)) (timer_is c)
     ∙ ap (λ rows. drawing_of (remember (whole c) (input c)) c.args.at rows) c.as_slice-rows.ensures
 
-action_is : (c : goal.After-rows_stay) → c.tick_action-action.result ≡ action_at c.args.past.now (input c)
+action_is : (c : goal.In_ok-end_frame) → c.tick_action-action.result ≡ action_at c.args.past.now (input c)
 action_is c =
     c.tick_action-action.ensures
     ∙ ap (λ (empty : Bool). tick_action c.args.past.now c.args.show (not empty) c.args.seen.now.0)
     (c.is_empty-has_messages.ensures ∙ ap (λ (messages : List Message). nat_eq (length messages) 0) c.as_slice-messages.ensures)
 
-layout_is : (c : goal.After-rows_stay) → c.layout-layout.result ≡ layout_of c.args.past.now.options
+layout_is : (c : goal.In_ok-end_frame) → c.layout-layout.result ≡ layout_of c.args.past.now.options
 layout_is c = search rules
 
-covered_is : (c : goal.After-rows_stay) → c.covered_widths.result.now ≡ covered (layout_of c.args.past.now.options) c.args.past.now.widths
+covered_is : (c : goal.In_ok-end_frame) → c.covered_widths.result.now ≡ covered (layout_of c.args.past.now.options) c.args.past.now.widths
 covered_is c =
     c.covered_widths.ensures
     ∙ ap (λ (l : Layout). covered l c.deref-2.result.now) (layout_is c)
     ∙ ap (covered (layout_of c.args.past.now.options)) (c.deref-2.ensures.value ∙ ap (λ (x : Renderer). x.widths) c.past.view_is)
 
-over : (c : goal.After-rows_stay) → c.write_messages.new.out.bytes
+over : (c : goal.In_ok-end_frame) → c.write_messages.new.out.bytes
     ≡ c.start_messages.new.out.bytes ++ lines_bytes (message_layout (layout_of c.args.past.now.options)) (covered (layout_of c.args.past.now.options) c.args.past.now.widths) (printed_at c.args.past.now (input c))
 over c =
     let r = c.args.past.now in
@@ -74,11 +74,11 @@ over c =
     ∙ ap (λ (os : List ℕ). before ++ lines_bytes (message_layout (layout_of r.options)) widths (message_lines r.options os messages)) kept
     ∙ ap (λ (ms : List Message). before ++ lines_bytes (message_layout (layout_of r.options)) widths (message_lines r.options r.origin_widths ms)) c.as_slice-messages.ensures
 
-has_is : (c : goal.After-rows_stay) → not c.is_empty-has_messages.result ≡ has_lines (printed_at c.args.past.now (input c))
+has_is : (c : goal.In_ok-end_frame) → not c.is_empty-has_messages.result ≡ has_lines (printed_at c.args.past.now (input c))
 has_is c = ap not (c.is_empty-has_messages.ensures ∙ ap (λ (n : ℕ). nat_eq n 0) (printed c)) ∙ has_by_length (printed_at c.args.past.now (input c))
 
 -- what the frame begins with, up to its messages
-begins : (c : goal.After-rows_stay) → let r = whole c in
+begins : (c : goal.In_ok-end_frame) → let r = whole c in
     let layout = c.layout-layout.result in
     action_start layout c.tick_action-action.result ++ messages_start layout (not c.is_empty-has_messages.result)
     ≡ frame_begin (layout_of r.options) (printed_at r (input c)) (body_of (action_at r (input c)) (drawing_at r (input c)) (ending_of r))
