@@ -1,5 +1,5 @@
 -- The bytes of lists of signs, and the signs of what is left of a grid.
-use Rattle.std.proofs.Common.{◌≡◌, ℕ, ◌+◌, ◌<◌, Bool, true, false, cond, ◌||◌, Option, None, List, [], ◌∷◌, ◌++◌, length, get_or, map, drop, inl, inr, refl, sym, ap, ◌∙◌, append_assoc, arith}
+use Rattle.std.proofs.Common.{◌≡◌, ℕ, ◌+◌, ◌<◌, Bool, true, false, cond, ◌||◌, Option, None, List, [], ◌∷◌, ◌++◌, length, get_or, map, drop, drop-cons, suc, not, inl, inr, refl, sym, ap, ◌∙◌, append_assoc, arith}
 use Rattle.std.specs.Prelude.{min, replicate}
 use Rattle.std.specs.List.{AllByRecursion}
 use Rattle.std.proofs.lemmas.Bool.{cases_lt}
@@ -176,3 +176,20 @@ over_blank_grid g is =
     let rows = blank_rows g.width g.rows (recursion_from_All (λ (row : List Cell). length row ≡ g.width) g.rows is.each) in
     ap (λ (blank : List (List Cell)). SetStyle plain ∷ EraseScreen ∷ rows_signs 0 blank g.rows None)
     (rows ∙ ap (λ (n : ℕ). replicate n (blank_cells g.width)) is.high)
+
+-- ---- a cell that stays
+
+-- it has no signs, and the cursor stays
+pub no_signs : (row k : ℕ) (a b : Cell) (others : List Cell) (cursor : Option Cursor) → same_cell a b ≡ true → signs_at row k a (b ∷ others) cursor ≡ []
+no_signs row k a b others cursor same = ap (λ (is : Bool). cond is [] (change_signs row k (b ∷ half_of others) cursor)) same
+
+pub no_motion : (row k : ℕ) (a b : Cell) (others : List Cell) (cursor : Option Cursor) → same_cell a b ≡ true → cursor_past row k a (b ∷ others) cursor ≡ cursor
+no_motion row k a b others cursor same = ap (λ (is : Bool). cond is cursor (cursor_behind row k (b ∷ half_of others) cursor)) same
+
+pub is_same : (is : Bool) → false ≡ not is → is ≡ true
+is_same true h = refl
+is_same false h = cc
+
+-- what is left of a row from a cell on
+pub cells_from : (k : ℕ) (b : Cell) (new : List Cell) → k < length new → get_or new k blank_cell ≡ b → drop k new ≡ b ∷ drop (suc k) new
+cells_from k b new within first = drop-cons new k blank_cell within ∙ ap (λ (c : Cell). c ∷ drop (suc k) new) first

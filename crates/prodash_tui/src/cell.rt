@@ -64,8 +64,9 @@ impl PartialEq for Joined {
 
     ghost laws = { partial_equiv_from_equiv nat_list_eq_equiv };
 
+    #[inline(always)]
     fn eq(&self, other: &Joined) -> bool {
-        self.as_slice() == other.as_slice()
+        (self.count == 0 && other.count == 0) || self.as_slice() == other.as_slice()
     }
 }
 

@@ -114,7 +114,9 @@ fn push_row(
     ensures kept { IsPrefix out.old.items out.new.items }
 {
     for k in 0..old.len().min(new.len()) {
-        push_changed(out, y, k as u16, &old[k], &new[k..], cursor)?;
+        if old[k] != new[k] {
+            push_changed(out, y, k as u16, &old[k], &new[k..], cursor)?;
+        }
     }
     Ok(())
 }
