@@ -18,13 +18,35 @@ fn is_printable(byte: u8) -> bool
     0x20 <= byte && byte <= 0x7e
 }
 
+/// Whether the bytes are all printable ASCII characters. No branch stands between them, so that many
+/// are compared at once.
+#[inline(always)]
+fn is_block_printable(block: &[u8]) -> bool
+    ensures { result ≡ is_printable block.now }
+{
+    let mut printable = true;
+    for byte in block {
+        printable &= is_printable(*byte);
+    }
+    printable
+}
+
+/// How many bytes of a text are compared at once.
+const BLOCK: usize = 32;
+
 /// Whether the bytes are all printable ASCII characters.
 fn is_all_printable(text: &[u8]) -> bool
     ensures { result ≡ is_printable text.now }
 {
     let mut left = text;
-    // eight at a time without a branch between them, so that they can be compared at once
-    while let [a, b, c, d, e, f, g, h, others @ ..] = left {
+    'blocks: while left.len() >= BLOCK {
+        let (block, others) = left.split_at(BLOCK);
+        if !is_block_printable(block) {
+            return false;
+        }
+        left = others;
+    }
+    'eights: while let [a, b, c, d, e, f, g, h, others @ ..] = left {
         let first = is_printable(*a) & is_printable(*b) & is_printable(*c) & is_printable(*d);
         let second = is_printable(*e) & is_printable(*f) & is_printable(*g) & is_printable(*h);
         if !(first & second) {
