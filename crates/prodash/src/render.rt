@@ -1,4 +1,5 @@
 //! Renderers.
 pub mod line;
 pub mod plain;
+mod threads;
 pub mod tui;

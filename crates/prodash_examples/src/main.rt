@@ -4,6 +4,7 @@
 mod audit;
 mod batch;
 mod colors;
+mod dashboard;
 mod primes;
 mod threads;
 mod workers;
@@ -14,16 +15,17 @@ use std::rt::Env;
 
 /// The fault of a first argument that names no example.
 const USAGE: Fault = Fault::Usage(
-    "prodash-examples threads | primes | workers SECONDS [messages] | batch JOBS \
+    "prodash-examples threads | dashboard | primes | workers SECONDS [messages] | batch JOBS \
      | audit [check] | colors colored|plain",
 );
 
 /// The bytes of the longest name.
-const LONGEST: usize = 7;
+const LONGEST: usize = 9;
 
 fn main(rt: HostRuntime) -> anyhow::Result<ExitCode> {
     let ended = match example(&rt, &mut [0; LONGEST]) {
         Some("threads") => Ok(threads::run(rt, rt.stderr())?),
+        Some("dashboard") => Ok(dashboard::run(rt, rt.stdout())?),
         Some("primes") => Ok(primes::run(rt, rt.stderr())?),
         Some("workers") => workers::run(&rt, rt.stderr()),
         Some("batch") => batch::run(rt, rt.stderr()),

@@ -76,7 +76,7 @@ const PIECE_SIZE: usize = 4096;
 /// nothing to the screen.
 ///
 /// `Broken`: the screen is broken. It has taken a prefix of the frame.
-pub(crate) fn write_frame<S: Screen>(screen: &mut S, frame: &[u8]) -> Result<(), Refusal>
+pub fn write_frame<S: Screen>(screen: &mut S, frame: &[u8]) -> Result<(), Refusal>
     ensures ok { OnOk result (WritesFrame frame.now (S.state screen.old) (S.state screen.new)) }
     ensures err { OnErr result (BreaksDuring frame.now (S.state screen.old) (S.state screen.new)) }
     ensures reason { IsOkUnless result Refusal.Broken }
