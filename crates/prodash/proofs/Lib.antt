@@ -1,4 +1,5 @@
 pub mod EngineSteps
+pub mod DashboardSteps
 mod HistoryLaws
 mod HistorySteps
 mod JournalLaws

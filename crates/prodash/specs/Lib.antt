@@ -2,6 +2,7 @@ pub mod Items
 pub mod Locks
 pub mod Turns
 pub mod Engines
+pub mod DashboardEngines
 pub mod Logs
 pub mod Wrappers
 pub mod Reporters
@@ -57,3 +58,5 @@ pub use Rattle.prodash_core.specs.Runs
 pub use Rattle.prodash_core.specs.Dashboard
 pub use Rattle.prodash_core.specs.Prefixes
 pub use Rattle.prodash_core.specs.Traits
+pub use Rattle.prodash_tui.specs.Boards
+pub use Rattle.prodash_tui.specs.BoardRuns

@@ -1,5 +1,6 @@
 pub mod CountedTurns
 pub mod LockedCalls
 pub mod EngineFrames
+pub mod DashboardSteps
 pub mod Histories
 pub mod Recordings

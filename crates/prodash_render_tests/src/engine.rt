@@ -19,25 +19,25 @@ use std::thread;
 use std::time::Duration;
 
 /// A weak root that finds its root.
-const FINDS: u64 = 0;
+pub(crate) const FINDS: u64 = 0;
 
-const FINDS_NONE: u64 = 1;
+pub(crate) const FINDS_NONE: u64 = 1;
 
 /// The root has as many owners as there can be.
-const IS_FULL: u64 = 2;
+pub(crate) const IS_FULL: u64 = 2;
 
 /// There is no memory for one more owner.
-const HAS_NO_MEMORY: u64 = 3;
+pub(crate) const HAS_NO_MEMORY: u64 = 3;
 
 /// What a weak root does next, and how often it was asked.
 #[derive(Drop)]
-struct Orders {
+pub(crate) struct Orders {
     next: AtomicU64,
     asked: AtomicU64,
 }
 
 impl Orders {
-    fn new(rt: &impl Abort, alloc: Global, next: u64) -> Arc<Orders> {
+    pub(crate) fn new(rt: &impl Abort, alloc: Global, next: u64) -> Arc<Orders> {
         let orders = Orders {
             next: AtomicU64::new(next),
             asked: AtomicU64::new(0),
@@ -45,20 +45,20 @@ impl Orders {
         arc(rt, alloc, orders)
     }
 
-    fn set_next(&self, next: u64) {
+    pub(crate) fn set_next(&self, next: u64) {
         self.next.store(next, Ordering::SeqCst);
     }
 }
 
 /// A weak root that finds the root of a tree, or does what it is told to do.
 #[derive(Drop)]
-struct Told<R: Host> {
+pub(crate) struct Told<R: Host> {
     weak: WeakHandle<R>,
     orders: Arc<Orders>,
 }
 
 impl<R: Host> Told<R> {
-    fn new(rt: &R, root: &TreeRoot<R>, orders: &Arc<Orders>) -> Told<R> {
+    pub(crate) fn new(rt: &R, root: &TreeRoot<R>, orders: &Arc<Orders>) -> Told<R> {
         Told {
             weak: downgrade(rt, root),
             orders: share(rt, orders),
@@ -433,7 +433,7 @@ fn a_wait_ends_nothing(rt: HostRuntime) {
 }
 
 /// Waits until the root has been looked for this many times.
-fn assert_asked<R: Host>(rt: &R, orders: &Orders, count: u64) {
+pub(crate) fn assert_asked<R: Host>(rt: &R, orders: &Orders, count: u64) {
     assert_soon(rt, &Reaches(&orders.asked, count), "looked for a root");
 }
 
@@ -478,8 +478,8 @@ fn the_last_frame_is_tried_again(rt: HostRuntime) {
 
 /// A writer that takes a number of bytes and then fails.
 #[derive(Drop)]
-struct Breaking {
-    left: usize,
+pub(crate) struct Breaking {
+    pub left: usize,
 }
 
 impl Write for Breaking {

@@ -5,6 +5,8 @@
 #[cfg(test)]
 mod crowds;
 #[cfg(test)]
+mod dashboard;
+#[cfg(test)]
 mod detection;
 #[cfg(test)]
 mod engine;

@@ -206,6 +206,16 @@ impl<R: Wait> Awaited for Holds<'_, R> {
     }
 }
 
+/// What is collected, and the bytes that it is.
+#[derive(Drop)]
+pub(crate) struct HoldsBytes<'a, R: Wait>(pub &'a R, pub &'a Collected, pub &'a [u8]);
+
+impl<R: Wait> Awaited for HoldsBytes<'_, R> {
+    fn holds(&self) -> bool {
+        self.1.bytes.lock(self.0).as_slice() == self.2
+    }
+}
+
 /// Whether bytes are those of these texts.
 fn are_texts(bytes: &[u8], texts: &[&str]) -> bool {
     let mut rest = bytes;

@@ -7,7 +7,10 @@ use std::thread::Threads;
 
 /// Ends a renderer that draws from a thread of its own, and waits for it. Dropping it requests a
 /// last frame and the closing frame, and waits until the event loop has ended.
-pub(crate) struct RendererHandle<R: Wait + Threads + Clone + Drop, Q: Requests<Request: Drop> + Drop> {
+pub(crate) struct RendererHandle<
+    R: Wait + Threads + Clone + Drop,
+    Q: Requests<Request: Drop> + Drop,
+> {
     rt: R,
     mailbox: Arc<Mailbox<Q>>,
     /// The event loop, if its end is to be waited for.
@@ -72,7 +75,8 @@ impl<R: Wait + Threads + Clone + Drop, Q: Requests<Request: Drop> + Drop> Render
     }
 }
 
-impl<R: Wait + Threads + Clone + Drop, Q: Requests<Request: Drop> + Drop> Drop for RendererHandle<R, Q> {
+impl<R: Wait + Threads + Clone + Drop, Q: Requests<Request: Drop> + Drop> Drop
+    for RendererHandle<R, Q> {
     /// Does what `shutdown` and `join` do.
     fn drop(mut self) {
         self.shutdown();

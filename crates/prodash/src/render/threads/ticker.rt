@@ -66,7 +66,9 @@ pub(crate) fn start_ticker<
 }
 
 /// Requests a frame and sleeps for the frame interval, in turn, until the event loop has ended.
-fn run_ticker<R: Wait + Drop, Q: Requests<Request: Drop> + Drop, K: Clock + Drop>(shared: Shared<R, Q, K>) {
+fn run_ticker<R: Wait + Drop, Q: Requests<Request: Drop> + Drop, K: Clock + Drop>(
+    shared: Shared<R, Q, K>,
+) {
     if !shared.mailbox.wait_until_started(&shared.rt) {
         return;
     }

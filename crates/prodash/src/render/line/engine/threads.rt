@@ -1,14 +1,15 @@
 //! The threads of a renderer: its event loop, its ticker, and the delay before rows are shown.
-ghost use Rattle.std.specs.Prelude.{IfErr, IsOkUnless};
+ghost use Rattle.std.specs.Prelude.{IfErr};
 ghost use Rattle.prodash_base.specs.Refusals.{RefusesThread};
 
 use crate::render::line::draw::{Answer, OverWrite, Screen};
 use crate::render::line::engine::event::EngineEvent;
 use crate::render::line::engine::handle::JoinHandle;
-use crate::render::line::engine::mailbox::{Mailbox, Request};
+use crate::render::line::engine::mailbox::{Pending, Request};
 use crate::render::line::engine::options::Options;
 use crate::render::line::engine::step::Engine;
-use crate::time::Clock;
+use crate::render::threads::{RendererHandle, Shared, start_ticker};
+use crate::time::{Clock, Moment};
 use prodash_base::Refusal;
 use prodash_core::traits::{Root, WeakRoot};
 use std::alloc::Global;
@@ -110,45 +111,6 @@ pub fn render_with_stacks<
     start_threads(rt, alloc, engine, clock, options, stacks)
 }
 
-/// What the threads of a renderer share.
-#[derive(Drop)]
-struct Shared<R: Wait + Drop, K: Clock + Drop> {
-    rt: R,
-    mailbox: Arc<Mailbox>,
-    clock: Arc<K>,
-    /// Whether rows are shown.
-    shown: Arc<AtomicBool>,
-    /// The interval between frames, in nanoseconds.
-    interval: u64,
-}
-
-impl<R: Wait + Clone + Drop, K: Clock + Drop> Shared<R, K> {
-    fn new(rt: R, alloc: Global, clock: Arc<K>, options: &Options) -> Result<Shared<R, K>, Refusal>
-        ensures { IsOkUnless result Refusal.Memory }
-    {
-        let delay = options.initial_delay.unwrap_or(0);
-        Ok(Shared {
-            rt,
-            mailbox: Arc::new(alloc, Mailbox::new())?,
-            clock,
-            shown: Arc::new(alloc, AtomicBool::new(delay == 0))?,
-            interval: options.nanoseconds_per_frame,
-        })
-    }
-
-    fn try_clone(&self) -> Result<Shared<R, K>, Refusal>
-        ensures { IsOkUnless result Refusal.Memory }
-    {
-        Ok(Shared {
-            rt: self.rt.clone()?,
-            mailbox: Arc::try_clone(&self.mailbox)?,
-            clock: Arc::try_clone(&self.clock)?,
-            shown: Arc::try_clone(&self.shown)?,
-            interval: self.interval,
-        })
-    }
-}
-
 /// Starts the threads of a renderer, which wait until all of them have been started.
 fn start_threads<
     R: Wait + Threads + Clone + Drop + Send + Sync + 'static,
@@ -166,16 +128,24 @@ fn start_threads<
 ) -> Result<JoinHandle<R>, Refusal>
     ensures { IfErr result RefusesThread }
 {
-    let shared = Shared::new(rt, alloc, clock, &options)?;
-    let event_loop = start_event_loop(&shared, engine, stacks.event_loop)?;
-    if let Err(refusal) = start_timers(&shared, options.initial_delay, stacks) {
+    let delay = options.initial_delay.unwrap_or(0);
+    let shown = Arc::new(alloc, AtomicBool::new(delay == 0))?;
+    let shared = Shared::new(
+        rt,
+        alloc,
+        clock,
+        Pending::new(),
+        options.nanoseconds_per_frame,
+    )?;
+    let event_loop = start_event_loop(&shared, &shown, engine, stacks.event_loop)?;
+    if let Err(refusal) = start_timers(&shared, &shown, delay, stacks) {
         shared.mailbox.mark_cancelled(&shared.rt);
         event_loop.join(&shared.rt);
         return Err(refusal);
     }
     shared.mailbox.mark_running(&shared.rt);
     let Shared { rt, mailbox, .. } = shared;
-    Ok(JoinHandle::new(rt, mailbox, event_loop))
+    Ok(JoinHandle::new(RendererHandle::new(rt, mailbox, event_loop)))
 }
 
 /// Starts the thread that draws.
@@ -186,16 +156,18 @@ fn start_event_loop<
     W: WeakRoot<Root = T> + Drop + Send + 'static,
     K: Clock + Drop + Send + Sync + 'static,
 >(
-    shared: &Shared<R, K>,
+    shared: &Shared<R, Pending, K>,
+    shown: &Arc<AtomicBool>,
     engine: Engine<S, W>,
     stack: usize,
 ) -> Result<thread::JoinHandle<()>, Refusal>
     ensures { IfErr result RefusesThread }
 {
     let for_loop = shared.try_clone()?;
+    let shown = Arc::try_clone(shown)?;
     Builder::new()
         .stack_size(stack)
-        .spawn(&shared.rt, move || run_event_loop(for_loop, engine))
+        .spawn(&shared.rt, move || run_event_loop(for_loop, shown, engine))
         .or(Err(Refusal::NoThread))
 }
 
@@ -204,15 +176,19 @@ fn start_event_loop<
 fn start_timers<
     R: Wait + Threads + Clone + Drop + Send + Sync + 'static,
     K: Clock + Drop + Send + Sync + 'static,
->(shared: &Shared<R, K>, delay: Option<u64>, stacks: StackSizes) -> Result<(), Refusal>
+>(
+    shared: &Shared<R, Pending, K>,
+    shown: &Arc<AtomicBool>,
+    delay: u64,
+    stacks: StackSizes,
+) -> Result<(), Refusal>
     ensures { IfErr result RefusesThread }
 {
     let ticker = start_ticker(shared, stacks.ticker)?;
-    let delay = delay.unwrap_or(0);
     if delay == 0 {
         return Ok(());
     }
-    let started = start_delay(shared, delay, stacks.delay);
+    let started = start_delay(shared, shown, delay, stacks.delay);
     if started.is_err() {
         shared.mailbox.mark_cancelled(&shared.rt);
         ticker.join(&shared.rt);
@@ -220,31 +196,23 @@ fn start_timers<
     started
 }
 
-/// Starts the thread that requests frames.
-fn start_ticker<
-    R: Wait + Threads + Clone + Drop + Send + Sync + 'static,
-    K: Clock + Drop + Send + Sync + 'static,
->(shared: &Shared<R, K>, stack: usize) -> Result<thread::JoinHandle<()>, Refusal>
-    ensures { IfErr result RefusesThread }
-{
-    let for_ticker = shared.try_clone()?;
-    Builder::new()
-        .stack_size(stack)
-        .spawn(&shared.rt, move || run_ticker(for_ticker))
-        .or(Err(Refusal::NoThread))
-}
-
 /// Starts the thread that shows the rows after a delay.
 fn start_delay<
     R: Wait + Threads + Clone + Drop + Send + Sync + 'static,
     K: Clock + Drop + Send + Sync + 'static,
->(shared: &Shared<R, K>, delay: u64, stack: usize) -> Result<(), Refusal>
+>(
+    shared: &Shared<R, Pending, K>,
+    shown: &Arc<AtomicBool>,
+    delay: u64,
+    stack: usize,
+) -> Result<(), Refusal>
     ensures { IfErr result RefusesThread }
 {
-    let for_delay = shared.try_clone()?;
+    let clock = Arc::try_clone(&shared.clock)?;
+    let shown = Arc::try_clone(shown)?;
     let started = Builder::new().stack_size(stack).spawn(&shared.rt, move || {
-        for_delay.clock.sleep(delay);
-        for_delay.shown.store(true, Ordering::SeqCst);
+        clock.sleep(delay);
+        shown.store(true, Ordering::SeqCst);
     });
     match started {
         Ok(_) => Ok(()),
@@ -260,13 +228,13 @@ fn run_event_loop<
     S: Screen + Drop,
     T: Root + Drop,
     W: WeakRoot<Root = T> + Drop,
->(shared: Shared<R, K>, mut engine: Engine<S, W>) {
+>(shared: Shared<R, Pending, K>, shown: Arc<AtomicBool>, mut engine: Engine<S, W>) {
     for _ in shared.rt.forever() {
-        let request = shared.mailbox.wait_for_request(&shared.rt);
-        let Some(event) = event_for(&shared, request) else {
+        let Some(request) = shared.mailbox.wait_for_request(&shared.rt) else {
             break;
         };
-        match engine.step(event) {
+        let (at, show) = (shared.clock.now(), shown.load(Ordering::SeqCst));
+        match engine.step(event_for(request, at, show)) {
             Ok(Answer::Drawn) => {}
             Err(Refusal::Memory | Refusal::TooManyHandles) => {
                 if shared.mailbox.request_again(&shared.rt, request) {
@@ -279,37 +247,16 @@ fn run_event_loop<
     shared.mailbox.mark_ended(&shared.rt);
 }
 
-/// Returns the event for a request, at the current moment of the clock, or `None` if the event loop
-/// is to end.
-fn event_for<R: Wait + Drop, K: Clock + Drop>(
-    shared: &Shared<R, K>,
-    request: Request,
-) -> Option<EngineEvent> {
-    let at = shared.clock.now();
-    let show = shared.shown.load(Ordering::SeqCst);
+/// Returns the event for a request at this moment, at which rows are shown or hidden.
+fn event_for(request: Request, at: Moment, show: bool) -> EngineEvent {
     match request {
-        Request::Resize(columns, rows) => Some(EngineEvent::Resize {
+        Request::Resize(columns, rows) => EngineEvent::Resize {
             at,
             show,
             columns,
             rows,
-        }),
-        Request::Tick => Some(EngineEvent::Tick { at, show }),
-        Request::Quit => Some(EngineEvent::Quit { at }),
-        Request::Cancel => None,
-    }
-}
-
-/// Requests a frame and sleeps for the frame interval, in turn, until the event loop has ended.
-fn run_ticker<R: Wait + Drop, K: Clock + Drop>(shared: Shared<R, K>) {
-    if !shared.mailbox.wait_until_started(&shared.rt) {
-        return;
-    }
-    for _ in shared.rt.forever() {
-        if !shared.mailbox.is_running(&shared.rt) {
-            break;
-        }
-        shared.mailbox.request_tick(&shared.rt);
-        shared.clock.sleep(shared.interval);
+        },
+        Request::Tick => EngineEvent::Tick { at, show },
+        Request::Quit => EngineEvent::Quit { at },
     }
 }

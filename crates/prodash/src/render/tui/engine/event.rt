@@ -5,8 +5,8 @@ use crate::time::Moment;
 /// An event for which an engine takes a step.
 #[derive(Clone, Debug, Drop)]
 pub enum EngineEvent {
-    /// Hands an event to the dashboard. `Redraw` draws a frame, `Skip` nothing, and `Stop` closes
-    /// the dashboard.
+    /// Hands an event to the dashboard. If it answers `Redraw`, a frame is drawn; if `Skip`,
+    /// nothing; and if `Stop`, the terminal is left.
     Handle {
         /// The moment of the frame.
         at: Moment,
@@ -22,8 +22,11 @@ pub enum EngineEvent {
         /// The rows of the terminal.
         rows: u16,
     },
-    /// Closes the dashboard.
-    Quit,
+    /// Leaves the terminal.
+    Quit {
+        /// The moment at which it is left.
+        at: Moment,
+    },
 }
 
 /// What an engine has done for an event.

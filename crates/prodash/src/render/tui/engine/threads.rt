@@ -203,6 +203,6 @@ fn event_for(request: Request, at: Moment) -> EngineEvent {
             at,
             event: Event::Tick,
         },
-        Request::Quit => EngineEvent::Quit,
+        Request::Quit => EngineEvent::Quit { at },
     }
 }
