@@ -20,7 +20,7 @@ use std::alloc::Global;
 use std::io::Write;
 use std::process::Abort;
 use std::sync::Arc;
-use std::thread::Threads;
+use std::sync::atomic::Ordering;
 
 /// The columns and rows of the terminal.
 const SIZE: (u16, u16) = (40, 8);
@@ -364,6 +364,8 @@ fn a_key_ends_it(rt: HostRuntime) {
 #[test]
 fn a_drop_leaves(rt: HostRuntime) {
     let mut it = make_drawn(&rt, rt.alloc(), true);
+    let length = it.clock.length.load(Ordering::SeqCst);
+    assert_same(&rt, length, FRAME, "length of a sleep");
     it.item.set(4);
     it.clock.end(1);
     it.want.draw(&rt, 4);

@@ -5,7 +5,7 @@ ghost use Rattle.std.specs.Map.{keys_of};
 ghost use Rattle.prodash_base.specs.Adjacency.{IsAscending};
 ghost use Rattle.prodash_base.specs.Refusals.{RefusesHandle};
 ghost use Rattle.prodash_tui.specs.Boards.{is_closed, is_running};
-ghost use Rattle.prodash.specs.DashboardEngines.{EngineSees, EngineSteps, IsNewEngine};
+ghost use Rattle.prodash.specs.DashboardEngines.{EngineSees, EngineSteps, IsNewEngine, moment_of, told};
 ghost use Rattle.prodash.specs.plumbing.DashboardSteps.{EngineDoes, EngineHasLeft, EngineLeaves, EngineShows, KeepsRest, sized};
 
 use crate::messages::{MessageCopyState, Messages};
@@ -133,17 +133,31 @@ where
         if self.screen.is_broken() {
             return Err(Refusal::Broken);
         }
+        let at = moment_of(&event);
+        match self.take(event) {
+            Answer::Redraw => self.draw(at),
+            Answer::Skip => Ok(EngineAnswer::Skipped),
+            Answer::Stop => self.close(),
+        }
+    }
+
+    /// Has the dashboard take an event or a size, and returns what to do then.
+    #[tactic(auto, using(crate::proofs::DashboardSteps::telling))]
+    fn take(&mut self, event: EngineEvent) -> Answer
+        ensures told { (self.new.board, result) ≡ told self.old.board event }
+        ensures screen { self.new.screen ≡ self.old.screen }
+        ensures rest { KeepsRest self.old self.new }
+    {
         match event {
-            EngineEvent::Handle { at, event } => match self.dashboard.handle(event) {
-                Answer::Redraw => self.draw(at),
-                Answer::Skip => Ok(EngineAnswer::Skipped),
-                Answer::Stop => self.close(),
-            },
-            EngineEvent::Resize { at, columns, rows } if self.dashboard.is_running() => {
+            EngineEvent::Handle { event, .. } => self.dashboard.handle(event),
+            EngineEvent::Resize { columns, rows, .. } => {
+                if !self.dashboard.is_running() {
+                    return Answer::Stop;
+                }
                 self.size = Some((columns, rows));
-                self.draw(at)
+                Answer::Redraw
             }
-            EngineEvent::Resize { .. } | EngineEvent::Quit { .. } => self.close(),
+            EngineEvent::Quit { .. } => Answer::Stop,
         }
     }
 
@@ -156,14 +170,15 @@ where
             self.old result self.new }
         ensures rest { KeepsRest self.old self.new }
     {
-        match self.look()? {
-            Some((rows, messages, _)) if self.is_shown(&rows) => {
-                let answer = self.draw_frame(at, &rows, &messages);
-                self.spare = Some((rows, messages));
-                answer
-            }
-            _ => self.close(),
+        let Some((rows, messages, _)) = self.look()? else {
+            return self.close();
+        };
+        if !self.is_shown(&rows) {
+            return self.close();
         }
+        let answer = self.draw_frame(at, &rows, &messages);
+        self.spare = Some((rows, messages));
+        answer
     }
 
     /// Returns whether a frame shows these rows: it isn't to stop without rows, or there are any.
@@ -239,6 +254,17 @@ where
         self.dashboard.close(&mut self.bytes)?;
         write_frame(&mut self.screen, &self.bytes)?;
         Ok(EngineAnswer::Ended)
+    }
+}
+
+/// Returns the moment of an event.
+fn moment_of(event: &EngineEvent) -> Moment
+    ensures { result ≡ moment_of event.now }
+{
+    match event {
+        EngineEvent::Handle { at, .. }
+        | EngineEvent::Resize { at, .. }
+        | EngineEvent::Quit { at } => *at,
     }
 }
 
