@@ -321,21 +321,23 @@ module _ (sees : Seen → Type 0) (stops : Bool) where
 
 module _ {S W Root : Type 0} (state : S → ScreenState) (finds : W → Option Root → Type 0) (looks : Looks Root) where
   -- what is seen has no rows, and it is to stop then
-  pub engine_ends : (e e' : DashboardEngine S W) (at : ℕ) (seen : List PathRow × List Message × ℕ) (result : Result EngineAnswer Refusal)
-      → is_running e.board ≡ true → EngineSees finds looks e (Some seen) → (e.stops_without_rows && nat_eq (length seen.0) 0) ≡ true
-      → (is_closed e.board ≡ false → EngineLeaves state e result e') → EngineDoes state finds looks Redraw at e result e'
-  engine_ends e e' at seen result running saw ends leaves =
-      does_end_seen (EngineSees finds looks e) e.stops_without_rows seen e.board at (state e.screen) result e'.board (state e'.screen)
-      saw ends (leaves (runs_open e.board.phase running))
+  pub engine_ends : (e e₁ e' : DashboardEngine S W) (at : ℕ) (seen : List PathRow × List Message × ℕ) (result : Result EngineAnswer Refusal)
+      → e₁ ≡ e → is_running e.board ≡ true → EngineSees finds looks e (Some seen) → (e.stops_without_rows && nat_eq (length seen.0) 0) ≡ true
+      → (is_closed e₁.board ≡ false → EngineLeaves state e₁ result e') → EngineDoes state finds looks Redraw at e result e'
+  engine_ends e e₁ e' at seen result kept running saw ends leaves =
+      does_end_seen (EngineSees finds looks e) e.stops_without_rows seen e.board at (state e.screen) result e'.board (state e'.screen) saw ends
+      (subst (λ (x : DashboardEngine S W). is_closed x.board ≡ false → EngineLeaves state x result e') kept leaves (runs_open e.board.phase running))
 
   -- what is seen is shown
-  pub engine_shows : (e e₁ e' : DashboardEngine S W) (at : ℕ) (seen : List PathRow × List Message × ℕ) (result : Result EngineAnswer Refusal)
-      → e'.board ≡ e₁.board → e'.screen ≡ e₁.screen → EngineSees finds looks e (Some seen) → (e.stops_without_rows && nat_eq (length seen.0) 0) ≡ false
-      → EngineShows state e at seen.0 seen.1 result e₁ → EngineDoes state finds looks Redraw at e result e'
-  engine_shows e e₁ e' at seen result board screen saw shown frame =
+  pub engine_shows : (e e₁ e₂ e' : DashboardEngine S W) (at : ℕ) (seen : List PathRow × List Message × ℕ) (result : Result EngineAnswer Refusal)
+      → e₁ ≡ e → e'.board ≡ e₂.board → e'.screen ≡ e₂.screen → EngineSees finds looks e (Some seen)
+      → (e.stops_without_rows && nat_eq (length seen.0) 0) ≡ false
+      → EngineShows state e₁ at seen.0 seen.1 result e₂ → EngineDoes state finds looks Redraw at e result e'
+  engine_shows e e₁ e₂ e' at seen result kept board screen saw shown frame =
       does_frame (EngineSees finds looks e) e.stops_without_rows seen e.board at (state e.screen) result e'.board (state e'.screen) saw shown
       (subst (λ (b : Board). Outputs (IsFrame e.board at seen.0 seen.1) e.board (state e.screen) result b (state e'.screen)) (sym board)
-      (subst (λ (x : S). Outputs (IsFrame e.board at seen.0 seen.1) e.board (state e.screen) result e₁.board (state x)) (sym screen) frame))
+      (subst (λ (x : S). Outputs (IsFrame e.board at seen.0 seen.1) e.board (state e.screen) result e₂.board (state x)) (sym screen)
+      (subst (λ (x : DashboardEngine S W). EngineShows state x at seen.0 seen.1 result e₂) kept frame)))
 
   -- the dashboard is to stop
   pub engine_stops : (e e₁ e' : DashboardEngine S W) (event : EngineEvent) (answer : Answer) (result : Result EngineAnswer Refusal)
