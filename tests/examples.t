@@ -50,13 +50,13 @@ Arguments that an example doesn't take, and arguments that name no example.
   usage: prodash-examples colors colored|plain
   [2]
   $ prodash-examples
-  usage: prodash-examples threads | primes | workers SECONDS [messages] | batch JOBS | audit [check] | colors colored|plain
+  usage: prodash-examples threads | dashboard | primes | workers SECONDS [messages] | batch JOBS | audit [check] | colors colored|plain
   [2]
   $ prodash-examples thread
-  usage: prodash-examples threads | primes | workers SECONDS [messages] | batch JOBS | audit [check] | colors colored|plain
+  usage: prodash-examples threads | dashboard | primes | workers SECONDS [messages] | batch JOBS | audit [check] | colors colored|plain
   [2]
   $ prodash-examples threads.
-  usage: prodash-examples threads | primes | workers SECONDS [messages] | batch JOBS | audit [check] | colors colored|plain
+  usage: prodash-examples threads | dashboard | primes | workers SECONDS [messages] | batch JOBS | audit [check] | colors colored|plain
   [2]
 
 An output that can't be written.

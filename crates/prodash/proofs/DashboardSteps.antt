@@ -329,13 +329,13 @@ module _ {S W Root : Type 0} (state : S → ScreenState) (finds : W → Option R
       (subst (λ (x : DashboardEngine S W). is_closed x.board ≡ false → EngineLeaves state x result e') kept leaves (runs_open e.board.phase running))
 
   -- what is seen is shown
-  pub engine_shows : (e e₁ e₂ e' : DashboardEngine S W) (at : ℕ) (seen : List PathRow × List Message × ℕ) (result : Result EngineAnswer Refusal)
-      → e₁ ≡ e → e'.board ≡ e₂.board → e'.screen ≡ e₂.screen → EngineSees finds looks e (Some seen)
-      → (e.stops_without_rows && nat_eq (length seen.0) 0) ≡ false
-      → EngineShows state e₁ at seen.0 seen.1 result e₂ → EngineDoes state finds looks Redraw at e result e'
-  engine_shows e e₁ e₂ e' at seen result kept board screen saw shown frame =
-      does_frame (EngineSees finds looks e) e.stops_without_rows seen e.board at (state e.screen) result e'.board (state e'.screen) saw shown
-      (subst (λ (b : Board). Outputs (IsFrame e.board at seen.0 seen.1) e.board (state e.screen) result b (state e'.screen)) (sym board)
+  pub engine_shows : (e e₁ e₂ : DashboardEngine S W) (b' : Board) (screen' : S) (at : ℕ) (seen : List PathRow × List Message × ℕ) (result : Result EngineAnswer Refusal)
+      → e₁ ≡ e → b' ≡ e₂.board → screen' ≡ e₂.screen → EngineSees finds looks e (Some seen)
+      → (e.stops_without_rows && nat_eq (length seen.0) 0) ≡ false → EngineShows state e₁ at seen.0 seen.1 result e₂
+      → Does (EngineSees finds looks e) e.stops_without_rows Redraw e.board at (state e.screen) result b' (state screen')
+  engine_shows e e₁ e₂ b' screen' at seen result kept board screen saw shown frame =
+      does_frame (EngineSees finds looks e) e.stops_without_rows seen e.board at (state e.screen) result b' (state screen') saw shown
+      (subst (λ (b : Board). Outputs (IsFrame e.board at seen.0 seen.1) e.board (state e.screen) result b (state screen')) (sym board)
       (subst (λ (x : S). Outputs (IsFrame e.board at seen.0 seen.1) e.board (state e.screen) result e₂.board (state x)) (sym screen)
       (subst (λ (x : DashboardEngine S W). EngineShows state x at seen.0 seen.1 result e₂) kept frame)))
 

@@ -1,46 +1,14 @@
-//! Four threads work on parts of a job, which a dashboard shows.
+//! The four threads of `threads` work on parts of a job, which a dashboard shows.
+use crate::threads::work_on_parts;
 use prodash::progress::Reporter;
 use prodash::render::tui::{Event, Line, Options, render};
-use prodash::time::{Clock, SystemClock};
+use prodash::time::SystemClock;
 use prodash::tree::Root;
-use prodash::{NestedProgress, Progress, Refusal};
 use std::alloc::Global;
 use std::io::Write;
 use std::rt;
 use std::sync::{Arc, Wait};
-use std::thread::{self, Threads};
-
-/// Takes twenty steps. The row of the part goes at the end, since the part is dropped.
-fn work<P: Progress + Drop, K: Clock + Drop>(mut part: Reporter<P, K>) -> Result<(), Refusal> {
-    part.init(Some(20), None);
-    for _ in 0..20u32 {
-        part.sleep(50_000_000);
-        part.inc();
-    }
-    part.done("is done")
-}
-
-/// Works on the four parts of a job, each in a thread and on a child of its own.
-fn work_on_parts<R, P, K>(rt: &R, job: &mut Reporter<P, K>) -> anyhow::Result<()>
-where
-    R: Wait + Threads + AllocGlobal,
-    P: NestedProgress + Drop,
-    P::SubProgress: Progress + Drop + Send + 'static,
-    K: Clock + Drop + Send + Sync + 'static,
-{
-    job.init(Some(4), None);
-    let mut workers = Vec::new(rt.alloc());
-    for name in ["compress", "fetch", "index", "verify"] {
-        let part = job.add_child(name)?;
-        workers.push(thread::spawn(rt, move || work(part))?)?;
-    }
-    for worker in workers {
-        worker.join(rt)?;
-        job.inc();
-    }
-    job.done("is done")?;
-    Ok(())
-}
+use std::thread::Threads;
 
 /// The lines beside the tasks.
 fn information(alloc: Global) -> anyhow::Result<Event> {

@@ -77,8 +77,8 @@ impl<R: Wait + Threads + Clone + Drop> JoinHandle<R> {
         self.renderer.forget();
     }
 
-    /// Waits until the event loop has ended by itself: the dashboard was left, its root is gone, its
-    /// output is broken, or it saw no rows and is to stop then.
+    /// Waits until the event loop has ended by itself: the dashboard was left, its root is gone,
+    /// its output is broken, or it saw no rows and is to stop then.
     pub fn wait(mut self) {
         self.renderer.join();
     }

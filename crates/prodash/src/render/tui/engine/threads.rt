@@ -36,9 +36,9 @@ impl Default for StackSizes {
 }
 
 /// Draws the dashboard of the tree of a weak root onto a writer, on a terminal of so many columns
-/// and rows, from threads of its own: one frame immediately, one more after each frame interval, and
-/// one at once for each event and size that the handle sends, unless the event changes nothing. The
-/// first frame enters the alternate screen.
+/// and rows, from threads of its own: one frame immediately, one more after each frame interval,
+/// and one at once for each event and size that the handle sends, unless the event changes nothing.
+/// The first frame enters the alternate screen.
 ///
 /// It ends when an event makes it stop, when the root has no owner, when the writer fails, when a
 /// frame sees no rows and the dashboard is to stop then, or when the handle ends it. It then leaves
