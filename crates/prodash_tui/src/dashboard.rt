@@ -1,6 +1,7 @@
 //! A dashboard on a terminal: its state, and the frames that show it.
 ghost use Rattle.std.specs.Prelude.{◌≡◌, true, false, [], ◌++◌, Err, IfOk, IsOkUnless, OnErr, OnOk};
 ghost use Rattle.prodash_base.specs.Adjacency.{IsAscending, paths_of};
+ghost use Rattle.prodash_tui.specs.Grids.{blank_sheet};
 ghost use Rattle.prodash_tui.specs.Screens.{drawn, enter, frame};
 ghost use Rattle.prodash_tui.specs.Boards.{after_frame, area_of, closed, closing, counted, first_state, frame_signs, framed, handled, input_of, is_closed, is_measured, is_running, new_board, resized, shown, signs_of, tree_in_frame};
 ghost use Rattle.prodash_tui.specs.plumbing.Appended.{Spells};
@@ -36,6 +37,8 @@ pub struct Dashboard {
     height: u16,
     /// The alternate screen, once it was entered.
     screen: Option<Screen>,
+    /// The grid of the next frame, once there was one. What it holds is written over.
+    spare: Option<Grid>,
     /// Memory for texts, which is written over.
     text: String,
     /// How many columns the tree is taken to have; 0 if that isn't known.
@@ -68,9 +71,10 @@ impl Model for Dashboard {
 /// Enters the alternate screen and draws a grid on it. Returns that screen.
 ///
 /// `Memory`: out of memory. The buffer is then as it was.
-fn open(alloc: Global, grid: Grid, out: &mut Vec<u8>) -> Result<Screen, Refusal>
-    ensures ok { Spells result out.old.items (enter ++ frame (first_buffers grid)) out.new.items }
-    ensures screen { IfOk result (λ screen. screen ≡ drawn (first_buffers grid)) }
+fn open(alloc: Global, grid: &mut Grid, out: &mut Vec<u8>) -> Result<Screen, Refusal>
+    ensures ok { Spells result out.old.items (enter ++ frame (first_buffers grid.old))
+        out.new.items }
+    ensures screen { IfOk result (λ screen. screen ≡ drawn (first_buffers grid.old)) }
     ensures err { OnErr result (out.new.items ≡ out.old.items) }
     ensures reason { IsOkUnless result Refusal.Memory }
 {
@@ -110,6 +114,7 @@ impl Dashboard {
             width,
             height,
             screen: None,
+            spare: None,
             text: String::new(alloc),
             tree_columns: 0,
             frames: 0,
@@ -202,13 +207,14 @@ impl Dashboard {
         self.state.window_size.unwrap_or(terminal)
     }
 
-    /// Appends what shows a grid. Before the first one the alternate screen is entered.
+    /// Appends what shows a grid. Before the first one the alternate screen is entered. The grid
+    /// may then be another one.
     ///
     /// `Memory`: out of memory. The buffer and the dashboard are then as they were.
-    fn show(&mut self, alloc: Global, grid: Grid, out: &mut Vec<u8>) -> Result<(), Refusal>
-        requires size { HasTerminalSize self.old grid }
-        ensures ok { Spells result out.old.items (signs_of self.old grid) out.new.items }
-        ensures shown { OnOk result (self.new ≡ shown grid self.old) }
+    fn show(&mut self, alloc: Global, grid: &mut Grid, out: &mut Vec<u8>) -> Result<(), Refusal>
+        requires size { HasTerminalSize self.old grid.old }
+        ensures ok { Spells result out.old.items (signs_of self.old grid.old) out.new.items }
+        ensures shown { OnOk result (self.new ≡ shown grid.old self.old) }
         ensures err { OnErr result (out.new.items ≡ out.old.items) }
         ensures stays { OnErr result (self.new ≡ self.old) }
         ensures reason { IsOkUnless result Refusal.Memory }
@@ -222,8 +228,55 @@ impl Dashboard {
         }
     }
 
+    /// Returns a blank grid of the size of the terminal: the one that is kept, if it has that size.
+    ///
+    /// `Memory`: out of memory.
+    fn take_grid(&mut self, alloc: Global) -> Result<Grid, Refusal>
+        ensures ok { IfOk result (λ grid. grid ≡ blank_sheet self.old.width self.old.height) }
+        ensures same { self.new ≡ self.old }
+        ensures reason { IsOkUnless result Refusal.Memory }
+    {
+        if let Some(mut grid) = self.spare.take() {
+            if grid.width() == self.width && grid.height() == self.height {
+                grid.clear();
+                return Ok(grid);
+            }
+        }
+        Grid::new(alloc, self.width, self.height)
+    }
+
+    /// Draws the next frame on a blank grid, which is then kept for the frame after it.
+    ///
+    /// `Memory`: out of memory. The buffer is then as it was, and so is the dashboard but for its
+    /// offsets.
+    fn draw_on(
+        &mut self,
+        alloc: Global,
+        contents: &Contents<'_>,
+        grid: &mut Grid,
+        out: &mut Vec<u8>,
+    ) -> Result<u16, Refusal>
+        requires sorted { IsAscending (paths_of contents.now.rows.now) }
+        requires blank { grid.old ≡ blank_sheet self.old.width self.old.height }
+        ensures ok { Spells result out.old.items (frame_signs self.old contents.now)
+            out.new.items }
+        ensures drawn { OnOk result (self.new ≡ framed self.old contents.now) }
+        ensures tree { IfOk result (λ n. n ≡ tree_in_frame self.old contents.now) }
+        ensures err { OnErr result (out.new.items ≡ out.old.items) }
+        ensures stays { OnErr result (self.new ≡ scrolled_to
+            self.new.state.task_offset self.new.state.message_offset self.old) }
+        ensures reason { IsOkUnless result Refusal.Memory }
+    {
+        let input = self.input(contents);
+        let area = self.area();
+        let columns = all(alloc, &mut self.text, &mut self.state, &input, area, grid)?;
+        self.show(alloc, grid, out)?;
+        Ok(columns)
+    }
+
     /// Draws the next frame on a grid of its own, so that a refused one leaves the screen as it
-    /// was. Returns how many columns the tree has in it.
+    /// was. Returns how many columns the tree has in it. After the first frame the grid takes no
+    /// memory.
     ///
     /// `Memory`: out of memory. The buffer is then as it was, and so is the dashboard but for its
     /// offsets.
@@ -243,19 +296,10 @@ impl Dashboard {
             self.new.state.task_offset self.new.state.message_offset self.old) }
         ensures reason { IsOkUnless result Refusal.Memory }
     {
-        let mut grid = Grid::new(alloc, self.width, self.height)?;
-        let input = self.input(contents);
-        let area = self.area();
-        let columns = all(
-            alloc,
-            &mut self.text,
-            &mut self.state,
-            &input,
-            area,
-            &mut grid,
-        )?;
-        self.show(alloc, grid, out)?;
-        Ok(columns)
+        let mut grid = self.take_grid(alloc)?;
+        let drawn = self.draw_on(alloc, contents, &mut grid, out);
+        self.spare = Some(grid);
+        drawn
     }
 
     /// Counts a frame in which the tree has so many columns.
@@ -331,6 +375,7 @@ impl Dashboard {
             screen.leave(out)?;
         }
         self.screen = None;
+        self.spare = None;
         self.phase = Phase::Closed;
         Ok(())
     }

@@ -142,20 +142,24 @@ impl Screen {
         Ok(())
     }
 
-    /// Takes a grid as the one that is drawn next, and draws it.
+    /// Takes a grid as the one that is drawn next, and draws it. It is then the one that would have
+    /// been drawn next.
     ///
-    /// `Memory`: out of memory. The buffer and the screen are then as they were.
-    pub(crate) fn draw_grid(&mut self, grid: Grid, out: &mut Vec<u8>) -> Result<(), Refusal>
-        ensures ok { Spells result out.old.items (frame (with_next grid self.old)) out.new.items }
-        ensures screen { OnOk result (self.new ≡ drawn (with_next grid self.old)) }
+    /// `Memory`: out of memory. The buffer, the screen and the grid are then as they were.
+    pub(crate) fn draw_grid(&mut self, grid: &mut Grid, out: &mut Vec<u8>) -> Result<(), Refusal>
+        ensures ok { Spells result out.old.items (frame (with_next grid.old self.old))
+            out.new.items }
+        ensures screen { OnOk result (self.new ≡ drawn (with_next grid.old self.old)) }
+        ensures traded { OnOk result (grid.new ≡ self.old.back) }
         ensures err { OnErr result (out.new.items ≡ out.old.items) }
         ensures stays { OnErr result (self.new ≡ self.old) }
+        ensures kept { OnErr result (grid.new ≡ grid.old) }
         ensures reason { IsOkUnless result Refusal.Memory }
     {
-        let before = mem::replace(&mut self.back, grid);
+        mem::swap(&mut self.back, grid);
         let drawn = self.draw(out);
         if drawn.is_err() {
-            self.back = before;
+            mem::swap(&mut self.back, grid);
         }
         drawn
     }
