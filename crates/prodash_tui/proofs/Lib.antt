@@ -16,6 +16,7 @@ pub mod WorkedDisplays
 pub mod WorkedScreens
 pub mod BorderCells
 pub mod ColoredCells
+pub mod PackedCells
 pub mod PaneRows
 pub mod WorkedBars
 pub mod WorkedProgress

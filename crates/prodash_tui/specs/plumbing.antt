@@ -1,5 +1,6 @@
 pub mod Appended
 pub mod SameCells
+pub mod PackedCells
 pub mod Writing
 pub mod GridInside
 pub mod BoardParts

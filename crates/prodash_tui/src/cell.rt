@@ -1,5 +1,5 @@
 //! The cells of a grid.
-ghost use Rattle.std.specs.Prelude.{◌≡◌, ◌↔◌, ◌∷◌, ◌++◌, [], IsTrue, nat_eq, take};
+ghost use Rattle.std.specs.Prelude.{◌≡◌, ◌↔◌, ◌≤◌, ◌∷◌, ◌++◌, [], IsTrue, length, nat_eq, take};
 ghost use Rattle.std.specs.Cmp.Lexicographic.{pointwise, nat_list_eq_equiv};
 ghost use Rattle.std.specs.Cmp.{partial_equiv_from_equiv};
 ghost use Rattle.prodash_tui.specs.Cells.{same_cell};
@@ -53,7 +53,8 @@ impl Joined {
 
     /// Returns the characters, in the order in which they were written.
     pub fn as_slice(&self) -> &[char]
-        ensures { result.now ≡ self.now }
+        ensures value { result.now ≡ self.now }
+        ensures few { length result.now ≤ MOST_JOINED }
     {
         &self.chars[..self.count]
     }

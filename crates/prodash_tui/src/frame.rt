@@ -2,7 +2,7 @@
 //!
 //! A private call that runs out of memory may have appended a part of its bytes, and leaves what
 //! the buffer held before.
-ghost use Rattle.std.specs.Prelude.{◌≡◌, ◌+◌, ◌^◌, ◌<◌, ◌∷◌, length, map, take, None, IsOkUnless, OnErr, OnOk};
+ghost use Rattle.std.specs.Prelude.{◌≡◌, ◌+◌, ◌^◌, ◌<◌, ◌∷◌, ◌++◌, length, map, take, None, IsOkUnless, OnErr, OnOk};
 ghost use Rattle.prodash_base.specs.Appending.{IsPrefix};
 ghost use Rattle.prodash_tui.specs.Cells.{plain};
 ghost use Rattle.prodash_tui.specs.Frames.{difference, first_frame, motion, rows_signs, style_change};
@@ -12,7 +12,8 @@ ghost use Rattle.prodash_tui.specs.plumbing.Appended.{AreCounted, Spells, all_ov
 use crate::cell::Cell;
 use crate::cursor::Cursor;
 use crate::grid::Grid;
-use crate::row::{Row, blank_cell};
+use crate::packed::{PackedCell, blank_cell, is_half};
+use crate::row::Row;
 use crate::sign::{Sign, push_sign};
 use crate::style::{Style, same_style};
 use prodash_base::Refusal;
@@ -60,14 +61,35 @@ fn push_chars(out: &mut Vec<u8>, chars: &[char]) -> Result<(), AllocError>
     Ok(())
 }
 
+/// Appends a character in row `y` and column `x`, with those that have joined it.
+fn push_cell(
+    out: &mut Vec<u8>,
+    y: u16,
+    x: u16,
+    c: char,
+    joined: &[char],
+    style: Style,
+    cursor: Option<Cursor>,
+) -> Result<(), AllocError>
+    ensures ok { Spells result out.old.items
+        (motion y x cursor ++ (style_change style cursor ++ map Char (c ∷ joined.now)))
+        out.new.items }
+    ensures kept { IsPrefix out.old.items out.new.items }
+{
+    push_motion(out, y, x, cursor)?;
+    push_style(out, style, cursor)?;
+    push_sign(out, Sign::Char(c))?;
+    push_chars(out, joined)
+}
+
 /// Appends the character that the cells begin with, unless the cell before was the same. It is in
 /// row `y` and column `x`. Moves the cursor behind it.
 fn push_changed(
     out: &mut Vec<u8>,
     y: u16,
     x: u16,
-    old: &Cell,
-    cells: &[Cell],
+    old: &PackedCell,
+    cells: &[PackedCell],
     cursor: &mut Option<Cursor>,
 ) -> Result<(), AllocError>
     requires { x + length cells.now < 2 ^ 16 }
@@ -83,18 +105,18 @@ fn push_changed(
     if old == new {
         return Ok(());
     }
-    let Cell::Holds(c, joined, style) = new else {
+    let Cell::Holds(c, joined, style) = new.get() else {
         return Ok(());
     };
-    push_motion(out, y, x, *cursor)?;
-    push_style(out, *style, *cursor)?;
-    push_sign(out, Sign::Char(*c))?;
-    push_chars(out, joined.as_slice())?;
-    let wide = matches!(cells.get(1), Some(Cell::Half));
+    push_cell(out, y, x, c, joined.as_slice(), style, *cursor)?;
+    let wide = match cells.get(1) {
+        Some(cell) => is_half(cell),
+        None => false,
+    };
     *cursor = Some(Cursor {
         row: y,
         column: x + 1 + u16::from(wide),
-        style: *style,
+        style,
     });
     Ok(())
 }
@@ -103,8 +125,8 @@ fn push_changed(
 fn push_row(
     out: &mut Vec<u8>,
     y: u16,
-    old: &[Cell],
-    new: &[Cell],
+    old: &[PackedCell],
+    new: &[PackedCell],
     cursor: &mut Option<Cursor>,
 ) -> Result<(), AllocError>
     requires { length new.now < 2 ^ 16 }
@@ -144,7 +166,7 @@ fn push_rows(out: &mut Vec<u8>, old: &[Row], new: &[Row]) -> Result<(), AllocErr
 fn push_row_over_blank(
     out: &mut Vec<u8>,
     y: u16,
-    new: &[Cell],
+    new: &[PackedCell],
     cursor: &mut Option<Cursor>,
 ) -> Result<(), AllocError>
     requires { length new.now < 2 ^ 16 }

@@ -6,7 +6,7 @@ ghost use Rattle.prodash_tui.specs.Grids.{IsRow, IsSheet, blank_sheet, left_of, 
 ghost use Rattle.prodash_tui.specs.plumbing.Appended.{AreCounted};
 ghost use Rattle.prodash_tui.specs.plumbing.GridInside.{colored_rows, filled_rows};
 
-use crate::cell::Cell;
+use crate::packed::PackedCell;
 use crate::rect::{bottom_of, left_side_of, right_side_of, top_of};
 use crate::row::Row;
 use crate::style::{Color, Style};
@@ -126,7 +126,7 @@ impl Grid {
     }
 
     /// Returns the cells of row `y`, or `None` if there are fewer rows.
-    pub fn row(&self, y: u16) -> Option<&[Cell]>
+    pub fn row(&self, y: u16) -> Option<&[PackedCell]>
         ensures { MatchOption result (self.now.height ≤ y) (λ row. IsRow self.now y row.now) }
     {
         let row = self.rows.get(usize::from(y))?;

@@ -1,12 +1,12 @@
 //! The cells of a row of a grid.
 ghost use Rattle.std.specs.Prelude.{◌≡◌, ◌+◌, ◌-◌, ◌^◌, ◌<◌, ◌≤◌, ◌++◌, length, take, drop, replicate, IfOk};
 ghost use Rattle.prodash_line.specs.CellRows.{char_columns};
-ghost use Rattle.prodash_tui.specs.Cells.{blank_cell, blank_cells, cell_of, is_half, joined_by, on_background};
+ghost use Rattle.prodash_tui.specs.Cells.{blank_cells, on_background};
 ghost use Rattle.prodash_tui.specs.Rows.{front, healed, in_part, splice};
 ghost use Rattle.prodash_tui.specs.Texts.{filling, text_cut, text_shortened};
 ghost use Rattle.prodash_tui.specs.plumbing.Writing.{IsInside, after_char, pen_at};
 
-use crate::cell::{Cell, Joined};
+use crate::packed::{PackedCell, blank_cell, cell_of, color_cell, half_cell, is_half, join_cell};
 use crate::style::{Color, Style};
 use crate::text::text_columns;
 use prodash_line::render::line::draw::safe_char;
@@ -27,7 +27,7 @@ struct Pen {
 /// The cells of a row. Contracts see their list.
 #[derive(Drop)]
 pub(crate) struct Row {
-    cells: Vec<Cell>,
+    cells: Vec<PackedCell>,
 }
 
 impl Model for Row {
@@ -39,52 +39,8 @@ impl Model for Row {
     ghost view = { λ row. row.cells.items };
 }
 
-/// Returns a cell with a character by itself.
-fn cell_of(c: char, style: Style) -> Cell
-    ensures { result ≡ cell_of style c }
-{
-    Cell::Holds(c, Joined::new(), style)
-}
-
-/// Returns a blank cell.
-pub(crate) fn blank_cell() -> Cell
-    ensures { result ≡ blank_cell }
-{
-    cell_of(' ', Style::new())
-}
-
-/// Whether a cell is the second half of a character.
-fn is_half(cell: &Cell) -> bool
-    ensures { result ≡ is_half cell.now }
-{
-    match cell {
-        Cell::Holds(..) => false,
-        Cell::Half => true,
-    }
-}
-
-/// Joins a character to the one in a cell.
-fn join_cell(cell: &mut Cell, c: char)
-    ensures { cell.new ≡ joined_by c cell.old }
-{
-    match cell {
-        Cell::Holds(_, joined, _) => joined.push(c),
-        Cell::Half => {}
-    }
-}
-
-/// Changes the background of a cell's character.
-fn color_cell(cell: &mut Cell, color: Color)
-    ensures { cell.new ≡ on_background color cell.old }
-{
-    match cell {
-        Cell::Holds(_, _, style) => *style = style.bg(color),
-        Cell::Half => {}
-    }
-}
-
 /// Changes the background of the cells from `first` up to `last`.
-fn color_cells(cells: &mut Vec<Cell>, first: usize, last: usize, color: Color)
+fn color_cells(cells: &mut Vec<PackedCell>, first: usize, last: usize, color: Color)
     requires order { first ≤ last }
     requires last { last ≤ length cells.old.items }
     ensures { cells.new.items
@@ -108,7 +64,7 @@ impl Row {
     }
 
     /// Returns the cells.
-    pub(crate) fn as_slice(&self) -> &[Cell]
+    pub(crate) fn as_slice(&self) -> &[PackedCell]
         ensures { result.now ≡ self.now }
     {
         self.cells.as_slice()
@@ -155,7 +111,7 @@ impl Row {
         }
         self.cells[pen.at] = cell_of(c, style);
         if columns == 2 {
-            self.cells[pen.at + 1] = Cell::Half;
+            self.cells[pen.at + 1] = half_cell();
         }
         pen.last = Some(pen.at);
         pen.at += columns;
