@@ -365,3 +365,10 @@ cut_first false n cells whole = take_first n cells whole
 -- cells that are cut begin with no second half either
 pub whole_cut : (n : ℕ) (cells : List Cell) → is_half (cell_at cells 0) ≡ false → is_half (cell_at (cut n cells) 0) ≡ false
 whole_cut n cells whole = cut_first (is_half (cell_at cells n)) n cells whole
+
+-- ---- more than two columns count as two
+
+pub after_char-two : (style : Style) (n c : ℕ) (s : List Cell × Pen) → after_char style (min n 2) c s ≡ after_char style n c s
+after_char-two style zero c s = refl
+after_char-two style (suc zero) c s = refl
+after_char-two style (suc (suc n)) c s = ap (λ (m : ℕ). after_char style m c s) (let e : min (suc (suc n)) 2 ≡ 2 = omega arith in e)

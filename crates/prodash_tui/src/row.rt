@@ -8,9 +8,8 @@ ghost use Rattle.prodash_tui.specs.plumbing.Writing.{IsInside, after_char, pen_a
 
 use crate::packed::{PackedCell, blank_cell, cell_of, color_cell, half_cell, is_half, join_cell};
 use crate::style::{Color, Style};
-use crate::text::text_columns;
+use crate::text::{columns_of, text_columns};
 use prodash_line::render::line::draw::safe_char;
-use prodash_line::render::line::page::{CharColumns, UnicodeWidth};
 use std::alloc::{AllocError, Global};
 use std::marker::Model;
 
@@ -97,7 +96,17 @@ impl Row {
             ≡ after_char style (char_columns c) c (self.old, pen.old) }
         ensures inside { IsInside self.new pen.new }
     {
-        let columns = UnicodeWidth.columns(c).min(2);
+        self.push_columns(pen, columns_of(c), c, style);
+    }
+
+    /// Writes a character of so many columns, at most 2, where it has room.
+    #[inline(always)]
+    fn push_columns(&mut self, pen: &mut Pen, columns: usize, c: char, style: Style)
+        requires inside { IsInside self.old pen.old }
+        requires few { columns ≤ 2 }
+        ensures step { (self.new, pen.new) ≡ after_char style columns c (self.old, pen.old) }
+        ensures inside { IsInside self.new pen.new }
+    {
         if columns == 0 {
             if let Some(last) = pen.last {
                 join_cell(&mut self.cells[last], c);
@@ -157,10 +166,11 @@ impl Row {
         ensures width { length self.new ≡ length self.old }
     {
         let c = safe_char(c);
+        let columns = columns_of(c);
         let room = end - x;
         let mut pen = self.begin(x, end);
         for _ in 0..room {
-            self.push(&mut pen, c, style);
+            self.push_columns(&mut pen, columns, c, style);
         }
         self.heal_behind(pen.at);
     }

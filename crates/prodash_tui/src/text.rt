@@ -1,10 +1,19 @@
 //! How many columns a text has.
-ghost use Rattle.std.specs.Prelude.{◌≡◌, min};
+ghost use Rattle.std.specs.Prelude.{◌≡◌, ◌≤◌, min};
 ghost use Rattle.prodash_line.specs.CellRows.{char_columns, text_columns};
 ghost use Rattle.prodash_tui.specs.Texts.{block_width, drawn_text};
 
 use prodash_line::render::line::draw::safe_char;
 use prodash_line::render::line::page::{CharColumns, UnicodeWidth};
+
+/// Returns how many columns a character has, at most 2.
+#[inline(always)]
+pub(crate) fn columns_of(c: char) -> usize
+    ensures value { result ≡ min (char_columns c) 2 }
+    ensures few { result ≤ 2 }
+{
+    UnicodeWidth.columns(c).min(2)
+}
 
 /// Returns how many columns a text has, at most 65536.
 pub(crate) fn text_columns(text: &str) -> u32
@@ -12,7 +21,7 @@ pub(crate) fn text_columns(text: &str) -> u32
 {
     let mut columns = 0;
     for c in text.chars() {
-        let more = UnicodeWidth.columns(safe_char(c)).min(2) as u32;
+        let more = columns_of(safe_char(c)) as u32;
         columns = (columns + more).min(65536);
     }
     columns

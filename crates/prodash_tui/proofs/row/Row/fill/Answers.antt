@@ -8,7 +8,7 @@ use Rattle.prodash_tui.specs.Rows.{front}
 use Rattle.prodash_tui.specs.Texts.{filling, text_cells}
 use Rattle.prodash_tui.specs.plumbing.Writing.{pen_at, after_char, after_text}
 use Rattle.prodash_tui.proofs.SplicedRows.{length-splice}
-use Rattle.prodash_tui.proofs.WrittenTexts.{after_text-last, drawn_row, length-cut}
+use Rattle.prodash_tui.proofs.WrittenTexts.{after_char-two, after_text-last, drawn_row, length-cut}
 use Rattle.prodash_tui.proofs.row.Row.fill.Goals as goal
 
 pub loop-preserved : goal.loop-preserved
@@ -18,11 +18,13 @@ loop-preserved c =
     let d = c.safe_char-c.result in
     let start : List Cell × Pen = (front c.args.x self ++ drop c.args.x self, pen_at c.args.x c.args.end) in
     record {
-      written = c.push.ensures.step
+      written = c.push_columns.ensures.step
+          ∙ ap (λ (n : ℕ). after_char style n d (c.loop.self, c.loop.pen)) c.columns_of-columns.ensures.value
+          ∙ after_char-two style (char_columns d) d (c.loop.self, c.loop.pen)
           ∙ ap (after_char style (char_columns d) d) c.loop.invariant.written
           ∙ sym (after_text-last char_columns style (replicate c.loop.counter d) d start)
           ∙ ap (λ (t : List ℕ). after_text char_columns style t start) (replicate-append-replicate c.loop.counter 1 d);
-      inside = c.push.ensures.inside;
+      inside = c.push_columns.ensures.inside;
     }
 
 pub returns-clause-cells : goal.returns-clause-cells
