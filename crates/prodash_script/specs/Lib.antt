@@ -1,4 +1,5 @@
 pub mod Commands
+pub mod DashboardLines
 pub mod EventLines
 pub mod Lines
 pub mod Mistakes

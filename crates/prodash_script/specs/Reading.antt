@@ -142,8 +142,8 @@ without_text handle moment =
     ∷ (codes "quit", quit_of moment)
     ∷ []
 
--- the event of a first word and the words after it, by a table
-abbrev pub read_by : List (List ℕ × Reader Event) → List ℕ → Reader Event
+-- what a first word and the words after it are read as, by a table
+abbrev pub read_by : {A : Type 0} → List (List ℕ × Reader A) → List ℕ → Reader A
 read_by table word rest = option_and_then (λ read. read rest) (lookup table word)
 
 -- how the words after the first are read as an event, by the first word

@@ -4,6 +4,7 @@
 
 mod change;
 mod command;
+mod dashboard_line;
 mod event_line;
 mod labels;
 mod mistake;
@@ -19,6 +20,7 @@ mod writing;
 
 pub use change::{Change, REASON, StepChange};
 pub use command::Command;
+pub use dashboard_line::{DashboardLine, parse_dashboard_line};
 pub use event_line::EventLine;
 pub use labels::Labels;
 pub use mistake::{Argument, Mistake};
