@@ -1,0 +1,112 @@
+use crate::replay::command::DashboardOptions;
+use crate::replay::lines::Input;
+use prodash_base::Refusal;
+use prodash_base::time::{Moment, format_now_datetime_seconds};
+use prodash_core::render::tui::{Answer, Line, Options};
+use prodash_core::tree::{Event, RootOptions, TreeState};
+use prodash_programs::Fault;
+use prodash_tui::{Contents, Dashboard};
+use std::alloc::Global;
+
+/// A dashboard, the tree that it shows, and the bytes of its frames.
+#[derive(Drop)]
+struct Replayed {
+    tree: TreeState,
+    dashboard: Dashboard,
+    /// The lines beside the tasks.
+    information: Vec<Line>,
+    /// The moment of the next frame, which is that of the latest line that has one.
+    at: Moment,
+    bytes: Vec<u8>,
+}
+
+/// Returns the bytes of all frames of a dashboard that gets these lines. It is closed by a line
+/// that stops it, by a frame without a root, or after the last line.
+pub(super) fn drawn(
+    alloc: Global,
+    options: &DashboardOptions,
+    lines: Vec<Input>,
+) -> Result<Vec<u8>, Fault> {
+    let mut replayed = Replayed::new(alloc, options)?;
+    for line in lines {
+        match replayed.apply(alloc, line)? {
+            Answer::Skip => {}
+            Answer::Redraw => {
+                if !replayed.draw(alloc)? {
+                    break;
+                }
+            }
+            Answer::Stop => break,
+        }
+    }
+    replayed.dashboard.close(&mut replayed.bytes)?;
+    Ok(replayed.bytes)
+}
+
+impl Replayed {
+    /// Returns a dashboard of an empty tree. It has drawn no frame.
+    fn new(alloc: Global, options: &DashboardOptions) -> Result<Replayed, Fault> {
+        let mut shown = Options::create(alloc)?;
+        shown.nanoseconds_per_frame = u64::from(options.milliseconds_per_frame) * 1_000_000;
+        Ok(Replayed {
+            tree: TreeState::new(alloc, &RootOptions::default())?,
+            dashboard: Dashboard::new(alloc, shown, options.columns, options.rows),
+            information: Vec::new(alloc),
+            at: 0,
+            bytes: Vec::new(alloc),
+        })
+    }
+
+    /// Applies a line, and returns what to do next.
+    fn apply(&mut self, alloc: Global, line: Input) -> Result<Answer, Fault> {
+        match line {
+            Input::Tree(event) => self.apply_event(alloc, &event),
+            Input::Dashboard(line) => {
+                let event = line.into_event(alloc, &mut self.information)?;
+                Ok(self.dashboard.handle(event))
+            }
+        }
+    }
+
+    /// Applies an event of the tree, or of its frames.
+    fn apply_event(&mut self, alloc: Global, event: &Event) -> Result<Answer, Fault> {
+        match event {
+            Event::Tick { at, show } => {
+                self.at = *at;
+                Ok(if *show { Answer::Redraw } else { Answer::Skip })
+            }
+            Event::Resize {
+                at,
+                columns,
+                rows,
+                ..
+            } => {
+                self.at = *at;
+                self.dashboard.resize(alloc, *columns, *rows)?;
+                Ok(Answer::Redraw)
+            }
+            Event::Quit { .. } => Ok(Answer::Stop),
+            _ => match self.tree.apply(alloc, event) {
+                Err(Refusal::Memory) => Err(Fault::Memory),
+                _ => Ok(Answer::Skip),
+            },
+        }
+    }
+
+    /// Draws a frame of the tree as it is now. Returns whether there is a root; without one nothing
+    /// is drawn.
+    fn draw(&mut self, alloc: Global) -> Result<bool, Fault> {
+        let Some((rows, messages, _)) = self.tree.snapshot_and_new_messages(alloc, None)? else {
+            return Ok(false);
+        };
+        let time = format_now_datetime_seconds(alloc, self.at)?;
+        let contents = Contents {
+            rows: rows.as_slice(),
+            messages: messages.as_slice(),
+            at: self.at,
+            time: time.as_str(),
+        };
+        self.dashboard.draw(alloc, &contents, &mut self.bytes)?;
+        Ok(true)
+    }
+}

@@ -1,0 +1,96 @@
+ghost use Rattle.std.specs.Prelude.{◌<◌};
+
+use crate::replay::command::FrameOptions;
+use prodash_base::Refusal;
+use prodash_core::tree::{Event, Reply, RootOptions, SessionOptions, run};
+use prodash_line::render::line::draw::{self, MemoryScreen};
+use prodash_line::render::line::page::{Cell, Page, UnicodeWidth, read};
+use prodash_programs::Fault;
+use std::alloc::{AllocError, Global};
+
+/// Returns a screen with the bytes of all frames that the events draw.
+pub(super) fn drawn(
+    alloc: Global,
+    options: &FrameOptions,
+    events: &[Event],
+) -> Result<MemoryScreen, Fault> {
+    let session = SessionOptions {
+        root: RootOptions::default(),
+        draw: draw::Options {
+            level_filter: None,
+            terminal_dimensions: (options.columns, options.rows),
+            keep_running_if_progress_is_empty: true,
+            output_is_terminal: true,
+            colored: options.colored,
+            timestamp: false,
+            hide_cursor: false,
+            defensive: options.defensive,
+            synchronized: false,
+            whole_messages: false,
+            bare_without_origin: false,
+            bar_columns: None,
+            ascii: false,
+            times: options.times,
+            prefer_running: options.prefer_running,
+        },
+        throughput: true,
+    };
+    let mut screen = MemoryScreen::new(alloc, 0)?;
+    let replies = run(alloc, &session, events, &mut screen)?;
+    if replies.iter().any(is_out_of_memory) {
+        return Err(Fault::Memory);
+    }
+    Ok(screen)
+}
+
+/// Whether an event ran out of memory. A `MemoryScreen` breaks only if it can't grow.
+fn is_out_of_memory(reply: &Reply) -> bool {
+    matches!(
+        reply,
+        Reply::Refused(Refusal::Memory) | Reply::Refused(Refusal::Broken)
+    )
+}
+
+/// Plays the bytes on a new page, and returns its rows, each with a line feed.
+pub(super) fn rows_written(
+    alloc: Global,
+    options: &FrameOptions,
+    bytes: &[u8],
+) -> Result<Vec<u8>, Fault> {
+    let mut page = Page::new(alloc, options.columns, options.rows)?;
+    for sign in &read(alloc, bytes)? {
+        page.apply(alloc, &UnicodeWidth, sign)?;
+    }
+    let mut text = String::new(alloc);
+    for n in 0..page.rows() {
+        if let Some(row) = page.row(n) {
+            push_trimmed(&mut text, row)?;
+        }
+    }
+    Ok(text.into_bytes())
+}
+
+/// Appends a row without trailing blanks, and a line feed.
+fn push_trimmed(out: &mut String, row: &[Cell]) -> Result<(), AllocError> {
+    let shown = row
+        .iter()
+        .rposition(|cell| !is_blank(cell))
+        .map_or(0, |last| last + 1);
+    for cell in &row[..shown] {
+        if let Cell::Holds(c, joined) = cell {
+            out.push(*c)?;
+            for other in joined.as_slice() {
+                out.push(*other)?;
+            }
+        }
+    }
+    out.push('\n')
+}
+
+/// Whether a cell is blank.
+fn is_blank(cell: &Cell) -> bool {
+    match cell {
+        Cell::Holds(c, joined) => *c == ' ' && joined.as_slice().is_empty(),
+        Cell::Half => false,
+    }
+}
