@@ -1,9 +1,10 @@
 use crate::replay::command::DashboardOptions;
 use crate::replay::lines::Input;
 use prodash_base::Refusal;
+use prodash_base::messages::Messages;
 use prodash_base::time::{Moment, format_now_datetime_seconds};
 use prodash_core::render::tui::{Answer, Line, Options};
-use prodash_core::tree::{Event, RootOptions, TreeState};
+use prodash_core::tree::{Event, Reply, RootOptions, TreeState};
 use prodash_programs::Fault;
 use prodash_tui::{Contents, Dashboard};
 use std::alloc::Global;
@@ -93,12 +94,23 @@ impl Replayed {
         }
     }
 
+    /// Returns the messages that are kept, or `None` if the root was dropped.
+    fn messages(&mut self, alloc: Global) -> Result<Option<Messages>, Fault> {
+        match self.tree.apply(alloc, &Event::CopyMessages) {
+            Ok(Reply::Messages(messages)) => Ok(Some(messages)),
+            Err(Refusal::Memory) => Err(Fault::Memory),
+            _ => Ok(None),
+        }
+    }
+
     /// Draws a frame of the tree as it is now. Returns whether there is a root; without one nothing
     /// is drawn.
+    #[tactic(auto, using(prodash_core::proofs::AscendingRows::ascending_list))]
     fn draw(&mut self, alloc: Global) -> Result<bool, Fault> {
-        let Some((rows, messages, _)) = self.tree.snapshot_and_new_messages(alloc, None)? else {
+        let Some(messages) = self.messages(alloc)? else {
             return Ok(false);
         };
+        let rows = self.tree.rows(alloc)?;
         let time = format_now_datetime_seconds(alloc, self.at)?;
         let contents = Contents {
             rows: rows.as_slice(),
