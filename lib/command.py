@@ -49,7 +49,7 @@ SHORT = {
     "picture": "makes an animated picture of a recording",
 }
 # Words by which prodash-replay writes frames; without one a file is played.
-FRAMES = ("bytes", "page", "--help", "-h", "--version", "-V")
+FRAMES = ("bytes", "page", "dashboard", "--help", "-h", "--version", "-V")
 # What a script loads, below the folder of the libraries.
 LIBRARIES = {"sh": "/prodash.sh", "python": ""}
 

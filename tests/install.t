@@ -97,7 +97,7 @@ A script finds the libraries, and the shells their completions.
   >     "prodash live --term" "prodash live --terminal n" "prodash live --terminal = n" \
   >     "prodash live --record x" "prodash replay p" "prodash replay page 80 24 --d" \
   >     "prodash --lib p" "prodash-live --marks --str" "prodash-replay p" \
-  >     "prodash-replay page 80 24 --d"; do
+  >     "prodash-replay page 80 24 --d" "prodash-replay d"; do
   >     COMP_WORDS=($words) COMP_CWORD=$(wc -w <<<"$words") && ((COMP_CWORD--))
   >     _prodash "${COMP_WORDS[0]}"
   >     echo "$words: $(printf '%s\n' "${COMPREPLY[@]}" | sort -u | xargs)"
@@ -123,6 +123,7 @@ A script finds the libraries, and the shells their completions.
   prodash-live --marks --str: --strict
   prodash-replay p: page
   prodash-replay page 80 24 --d: --defensive
+  prodash-replay d: dashboard
   $ cat >complete.fish <<'.'
   > source moved/share/fish/vendor_completions.d/prodash.fish
   > for words in "prodash r" "prodash run --pt" "prodash run --pty -- seq" "prodash run seq" \

@@ -114,25 +114,25 @@ Arguments other than a command and two dimensions. They are checked before the i
   > tick 0
   > END
   $ prodash-replay <one_task >>written
-  usage: prodash-replay bytes|page COLUMNS ROWS
+  usage: prodash-replay bytes|page|dashboard COLUMNS ROWS
   [2]
   $ prodash-replay bytes 40 <one_task >>written
-  usage: prodash-replay bytes|page COLUMNS ROWS
+  usage: prodash-replay bytes|page|dashboard COLUMNS ROWS
   [2]
   $ prodash-replay bytes 0 4 <one_task >>written
-  usage: prodash-replay bytes|page COLUMNS ROWS
+  usage: prodash-replay bytes|page|dashboard COLUMNS ROWS
   [2]
   $ prodash-replay page 40 65536 <one_task >>written
-  usage: prodash-replay bytes|page COLUMNS ROWS
+  usage: prodash-replay bytes|page|dashboard COLUMNS ROWS
   [2]
   $ prodash-replay rows 40 4 <one_task >>written
-  usage: prodash-replay bytes|page COLUMNS ROWS
+  usage: prodash-replay bytes|page|dashboard COLUMNS ROWS
   [2]
   $ prodash-replay bytes 40 20 4 <. >>written
-  usage: prodash-replay bytes|page COLUMNS ROWS
+  usage: prodash-replay bytes|page|dashboard COLUMNS ROWS
   [2]
   $ prodash-replay "$(printf '\377')" 40 4 <one_task >>written
-  usage: prodash-replay bytes|page COLUMNS ROWS
+  usage: prodash-replay bytes|page|dashboard COLUMNS ROWS
   [2]
 
 A folder can't be read as input.
@@ -156,22 +156,29 @@ An output that can't be written.
   $ prodash-replay bytes 0 --wrong --help
   Replays event lines from standard input, and writes the frames that they draw
   
-  Usage: prodash-replay bytes|page COLUMNS ROWS [OPTIONS]
+  Usage: prodash-replay bytes|page|dashboard COLUMNS ROWS [OPTIONS]
   
   Arguments:
     bytes          write the bytes of all frames
     page           write the rows that the frames leave on a page
+    dashboard      write the bytes of all frames of a dashboard, which fills the terminal
     COLUMNS        columns of the terminal, 1 to 65535
     ROWS           rows of the terminal, 1 to 65535
   
   Options:
+    --any-unit  take units of any name, as recordings of prodash-live have
+    --help      print help
+    --version   print version
+  
+  Options of bytes and page:
     --defensive       erase the rows that frames write on, as prodash-live does
     --colored         write colours
-    --any-unit        take units of any name, as recordings of prodash-live have
     --times           rows with the times of their tasks, as prodash-live draws them
     --prefer-running  with --defensive, the rows of running tasks first where not all fit
-    --help            print help
-    --version         print version
+  
+  Options of dashboard:
+    --interval <MILLISECONDS>  how often a frame is drawn, which the headline says if that is less
+                               than once a second, 1 to 65535 [default: 100]
   $ prodash-replay --help | head -n 1
   Replays event lines from standard input, and writes the frames that they draw
   $ prodash-replay page --version

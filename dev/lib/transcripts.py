@@ -24,6 +24,7 @@ COMMAND, MORE, OUTPUT = "  $ ", "  > ", "  "
 TOP = os.path.dirname(os.path.dirname(os.path.dirname(os.path.realpath(__file__))))
 SCRIPTS = {
     "build-failures": f"{TOP}/dev/lib/build-failures",
+    "dashboard": f"{TOP}/tests/scripts/dashboard.py",
     "install-prodash": f"{TOP}/bin/install",
     "live": f"{TOP}/tests/scripts/live.py",
     "many-hosts": f"{TOP}/examples/many_hosts.sh",

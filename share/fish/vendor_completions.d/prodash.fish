@@ -74,8 +74,8 @@ for name in (prodash help | string match -rg '^  ([a-z]+) {2,}')
     or __prodash_add prodash "__fish_seen_subcommand_from $name" (prodash $name --help)
 end
 complete -c prodash -n "__fish_seen_subcommand_from live" -f
-complete -c prodash -n "__fish_seen_subcommand_from replay" -a "bytes page"
+complete -c prodash -n "__fish_seen_subcommand_from replay" -a "bytes dashboard page"
 __prodash_add prodash-live true (prodash-live --help)
 complete -c prodash-live -f
 __prodash_add prodash-replay true (prodash-replay --help)
-complete -c prodash-replay -xa "bytes page"
+complete -c prodash-replay -xa "bytes dashboard page"

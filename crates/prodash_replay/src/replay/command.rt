@@ -14,14 +14,14 @@ Usage: prodash-replay bytes|page|dashboard COLUMNS ROWS [OPTIONS]
 Arguments:
   bytes          write the bytes of all frames
   page           write the rows that the frames leave on a page
-  dashboard      write the bytes of a dashboard that fills the terminal
+  dashboard      write the bytes of all frames of a dashboard, which fills the terminal
   COLUMNS        columns of the terminal, 1 to 65535
   ROWS           rows of the terminal, 1 to 65535
 
 Options:
-  --any-unit        take units of any name, as recordings of prodash-live have
-  --help            print help
-  --version         print version
+  --any-unit  take units of any name, as recordings of prodash-live have
+  --help      print help
+  --version   print version
 
 Options of bytes and page:
   --defensive       erase the rows that frames write on, as prodash-live does
@@ -30,8 +30,8 @@ Options of bytes and page:
   --prefer-running  with --defensive, the rows of running tasks first where not all fit
 
 Options of dashboard:
-  --interval MS     milliseconds between frames, 1 to 65535, which its headline says if that is
-                    more than a second; without the option 100
+  --interval <MILLISECONDS>  how often a frame is drawn, which the headline says if that is less
+                             than once a second, 1 to 65535 [default: 100]
 ";
 
 /// What a command line asks for.
