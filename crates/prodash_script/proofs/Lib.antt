@@ -6,4 +6,5 @@ mod Numerals
 mod ScriptLines
 mod StepLines
 mod UnitWords
+mod WorkedDashboardLines
 mod WrittenLines
