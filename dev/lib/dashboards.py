@@ -37,21 +37,22 @@ def percentage(p):
     return f"[{min(hundredths, 2**64 - 1)}%]"
 
 
+# How numbers of a kind of unit are shown, and what stands before a bound.
+KINDS = {
+    "steps": (str, " of "),
+    "bytes": (lambda n: scaled(n, 1, "B"), "/"),
+    "duration": (lasting, " of "),
+    "objects": (lambda n: scaled(n, 2, ""), "/"),
+}
+
+
 def amount_of(p):
     """Returns a progress in its unit; throughput isn't measured."""
-    name = p.unit.replace("/s", "").strip("%")
-    show, separator, shift = str, "/", 0
-    if name == "steps":
-        separator, shift = " of ", 1
-    elif name == "bytes":
-        name, show = "", lambda n: scaled(n, 1, "B")
-    elif name == "duration":
-        name, separator, show = "", " of ", lasting
-    elif name == "objects":
-        show = lambda n: scaled(n, 2, "")
-    elif name == "label:steps":
-        name = "steps"
-    text = show(p.step + shift) + ("" if p.bound is None else separator + show(p.bound))
+    kind = p.unit.replace("/s", "").strip("%")
+    show, separator = KINDS.get(kind, (str, "/"))
+    name = {"bytes": "", "duration": "", "label:steps": "steps"}.get(kind, kind)
+    bound = "" if p.bound is None else separator + show(p.bound)
+    text = show(p.step + (kind == "steps")) + bound
     done = percentage(p) if "%" in p.unit else ""
     parts = (done, text, name) if p.unit.startswith(("%", "/")) else (text, name, done)
     return " ".join(filter(None, parts))
@@ -141,7 +142,8 @@ class Dashboard:
 
     def __init__(self, columns, height, interval):
         self.columns, self.height, self.interval = columns, height, interval
-        self.tree, self.title, self.window, self.information = Tree(), "Progress Dashboard", None, []
+        self.tree, self.title, self.window = Tree(), "Progress Dashboard", None
+        self.information = []
         self.at = self.tasks = self.messages = self.tree_columns = 0
         self.hides = collections.defaultdict(bool)
         self.is_deferred = self.is_requested = self.is_closed = False
@@ -296,9 +298,9 @@ class Dashboard:
             grid.short(place, label)
             room = behind(line, amount_columns)
             spinner = behind(room, (p.step + n) % max(room.width, 1))
-            grid.paint(spinner._replace(width=min(spinner.width, 5)), WHITE if waits is None else waits)
+            grid.paint(spinner._replace(width=min(spinner.width, 5)), waits or WHITE)
             return
-        ink = waits if waits is not None else GREEN if 4 * p.bound <= 5 * p.step else YELLOW
+        ink = waits or (GREEN if 4 * p.bound <= 5 * p.step else YELLOW)
         draw_bar(grid, place, p.step, p.bound, ink)
         filled = bar_columns(place.width, p.step, p.bound)
         grid.text(place, label, PLAIN)
@@ -306,9 +308,8 @@ class Dashboard:
 
     def draw_overflow(self, grid, line, tree, first, hidden):
         """Draws how many rows are hidden, over a bar that says how much of them is done."""
-        shares = [share_of(it.progress, 10**6) for it in hidden if it.progress and
-                  it.progress.bound is not None]
-        share = sum(shares) // max(1, len(hidden))
+        bounded = [it.progress for it in hidden if it.progress and it.progress.bound is not None]
+        share = sum(share_of(p, 10**6) for p in bounded) // max(1, len(hidden))
         draw_bar(grid, line, share, 10**6, GREEN)
         filled = bar_columns(line.width, share, 10**6)
         grid.paint(behind(line, max(filled - 1, 0)), RED)
@@ -318,7 +319,8 @@ class Dashboard:
         for column, it in ((tree, text), (max(line.width - width_of(keys), 0), keys)):
             place, columns = behind(line, column), max(filled - column, 0)
             grid.text(place, it, Style(False, BLACK, RED))
-            grid.text(place._replace(width=min(place.width, columns)), it, Style(False, BLACK, GREEN))
+            place = place._replace(width=min(place.width, columns))
+            grid.text(place, it, Style(False, BLACK, GREEN))
 
     def draw_head(self, grid, area, title, keys):
         """Draws the first row of a pane."""
