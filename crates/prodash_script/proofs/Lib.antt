@@ -1,9 +1,11 @@
+mod CopiedLines
 mod KeptNames
 mod LineFeeds
 mod LinesRead
 mod NamedItems
 mod Numerals
 mod ScriptLines
+mod SingleCharacters
 mod StepLines
 mod UnitWords
 mod WorkedDashboardLines

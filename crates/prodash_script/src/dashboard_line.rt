@@ -63,10 +63,13 @@ fn join(information: &mut Vec<Line>, line: Line) -> Result<Event, AllocError>
 {
     information.push(line)?;
     let copy: Result<_, _> = information.clone();
-    if copy.is_err() {
-        information.pop();
+    match copy {
+        Ok(lines) => Ok(Event::SetInformation(lines)),
+        Err(error) => {
+            information.pop();
+            Err(error)
+        }
     }
-    Ok(Event::SetInformation(copy?))
 }
 
 /// Parses a line for a dashboard. Returns `None` if the line isn't one.
