@@ -19,7 +19,7 @@ unfolding cut_at_space chars
 space = refl
 
 pub accented : read_dashboard_line (encode_utf8_all (codes "key é")) ≡ Some (lines.Press (pressed false (Character (code "é"))))
-unfolding cut_at_space chars
+unfolding cut_at_space chars lib.Utf8.encode
 accented = refl
 
 -- or it has a word

@@ -1,6 +1,5 @@
-use Rattle.std.proofs.Common.{◌≡◌, refl}
+use Rattle.std.proofs.Common.{refl}
 use Rattle.prodash_script.proofs.CopiedLines.{plain_copies}
-use Rattle.prodash_script.specs.DashboardLines.{plain_lines}
 use Rattle.prodash_script.proofs.dashboard_line.join.Goals as goal
 
 pub returns-in-Ok-clause-event : goal.returns-in-Ok-clause-event
