@@ -35,6 +35,8 @@ pub enum UsageError<'a> {
         /// Its value.
         value: &'a str,
     },
+    /// The first of these options is given without the second, on which it depends.
+    Alone(&'static str, &'static str),
 }
 
 /// The help of the program.
@@ -64,6 +66,10 @@ Options:
       --summary               at the end, how each item of the first two levels has come out
       --no-summary            no such messages [default]
       --fail-unfinished       status 3 if one of these ended below its maximum, and a message of it
+      --dashboard             fill the terminal with a dashboard, which is scrolled by keys;
+                              its key ? shows them
+      --leave-on-interrupt    with --dashboard: q, Esc and Ctrl-C leave the dashboard at once, and
+                              messages are written from then on
       --record <FILE>         record the run, for prodash-replay
       --marks                 a NUL once the options are right, and one behind each frame
   -h, --help                  print help
@@ -105,6 +111,9 @@ pub fn parse<'a>(words: &'a [String], env: Environment) -> Result<Command<'a>, U
     }
     match awaits_value {
         Some(option) => Err(UsageError::NoValue(option)),
+        None if options.leaves_on_interrupt && !options.has_dashboard => {
+            Err(UsageError::Alone("--leave-on-interrupt", "--dashboard"))
+        }
         None => Ok(Command::Run(options)),
     }
 }
@@ -128,6 +137,8 @@ fn set_flag(options: &mut Options<'_>, flag: &str) -> bool {
         "--summary" => options.has_summary = true,
         "--no-summary" => options.has_summary = false,
         "--fail-unfinished" => options.fails_unfinished = true,
+        "--dashboard" => options.has_dashboard = true,
+        "--leave-on-interrupt" => options.leaves_on_interrupt = true,
         "--marks" => options.has_marks = true,
         _ => return false,
     }
@@ -230,6 +241,7 @@ impl fmt::Display for UsageError<'_> {
                     "unexpected value '{value}' for '{option}', which takes none"
                 )
             }
+            UsageError::Alone(option, other) => write!(f, "'{option}' needs '{other}'"),
             UsageError::BadValue { option, value } => {
                 let values = values_of(option);
                 write!(

@@ -8,10 +8,12 @@ use crate::summary::{End, Ended, Summary};
 use prodash::Text;
 use prodash::messages::MessageLevel;
 use prodash::progress::Row;
-use prodash::time::Clock;
+use prodash::time::{Clock, Moment};
 use prodash::tree::Handle;
-use prodash_script::{Change, Command, Labels, Lines, Next, parse_command};
-use std::alloc::Global;
+use prodash_script::{
+    Change, Command, DashboardLine, Labels, Lines, Next, parse_command, parse_dashboard_line,
+};
+use std::alloc::{AllocError, Global};
 use std::io::{self, Read, Write};
 use std::str;
 use std::sync::Wait;
@@ -96,7 +98,8 @@ impl<'a, R: Wait + Threads + Clone + Drop, O: Write + Drop, W: Write + Drop, K: 
     ) -> Result<Outcome, Failure> {
         let mut lines = Lines::new(self.alloc, input);
         let mut faults: u64 = 0;
-        for number in 1..u64::MAX {
+        let mut number: u64 = 0;
+        for _ in 1..u64::MAX {
             if self.display.is_broken() {
                 break;
             }
@@ -106,6 +109,10 @@ impl<'a, R: Wait + Threads + Clone + Drop, O: Write + Drop, W: Write + Drop, K: 
             }
             let line = without_return(lines.line());
             let text = str::from_utf8(line).ok();
+            if self.serve_relayed(next, text)? {
+                continue;
+            }
+            number = number.saturating_add(1);
             if self.change_step(next, text)? {
                 continue;
             }
@@ -124,7 +131,7 @@ impl<'a, R: Wait + Threads + Clone + Drop, O: Write + Drop, W: Write + Drop, K: 
     /// Reads the next line, and records a frame that was due before it. What is recorded is written
     /// before more input is awaited.
     fn advance<I: Read + Drop>(&mut self, lines: &mut Lines<I>) -> Result<Next, Failure> {
-        if self.display.is_plain() && !lines.has_line() {
+        if !lines.has_line() {
             self.display.write_messages(self.clock)?;
         }
         let recording = self.items.recording();
@@ -137,6 +144,35 @@ impl<'a, R: Wait + Threads + Clone + Drop, O: Write + Drop, W: Write + Drop, K: 
         };
         recording.append_due_frame(self.clock)?;
         Ok(next)
+    }
+
+    /// Does what a line says that comes from the program between a script and a dashboard, a key or
+    /// the size of the terminal, if it is such a line. Returns whether it is.
+    fn serve_relayed(&mut self, next: Next, text: Option<&str>) -> Result<bool, Failure> {
+        let Some(line) = text.and_then(|text| text.strip_prefix(RELAYED)) else {
+            return Ok(false);
+        };
+        if next != Next::Line || !self.display.is_dashboard() {
+            return Ok(false);
+        }
+        let now = self.clock.now();
+        if let Some(DashboardLine::Press(key)) = parse_dashboard_line(self.alloc, line)? {
+            self.display.press(key, now)?;
+        } else if let Command::Size { columns, rows } = self.parse(now, line)? {
+            self.set_size(now, columns, rows)?;
+        }
+        Ok(true)
+    }
+
+    /// Parses a line of a script.
+    fn parse<'l>(&mut self, now: Moment, line: &'l str) -> Result<Command<'l>, AllocError> {
+        parse_command(self.alloc, self.items.names(), &mut self.labels, now, line)
+    }
+
+    /// Sets the columns and the rows of the terminal, and records them.
+    fn set_size(&mut self, now: Moment, columns: u16, rows: u16) -> Result<(), Failure> {
+        self.display.resize(columns, rows)?;
+        Ok(self.items.recording().append_resize(now, columns, rows)?)
     }
 
     /// Changes the step of an item, if a line is UTF-8 and asks for that, as most do. Returns
@@ -201,12 +237,9 @@ impl<'a, R: Wait + Threads + Clone + Drop, O: Write + Drop, W: Write + Drop, K: 
     /// Does what a whole line asks for.
     fn serve_line<'l>(&mut self, line: &'l str) -> Result<(), Unserved<'l>> {
         let (alloc, now) = (self.alloc, self.clock.now());
-        match parse_command(alloc, self.items.names(), &mut self.labels, now, line)? {
+        match self.parse(now, line)? {
             Command::Comment => Ok(()),
-            Command::Size { columns, rows } => {
-                self.display.resize(columns, rows);
-                Ok(self.items.recording().append_resize(now, columns, rows)?)
-            }
+            Command::Size { columns, rows } => Ok(self.set_size(now, columns, rows)?),
             Command::Add { word, parent, name } => {
                 self.items.add(alloc, word, parent, name)?;
                 self.note_drop()?;
@@ -218,6 +251,7 @@ impl<'a, R: Wait + Threads + Clone + Drop, O: Write + Drop, W: Write + Drop, K: 
                 Ok(self.note_drop()?)
             }
             Command::DropRoot => {
+                self.display.leave(now)?;
                 self.display.write_messages(self.clock)?;
                 self.items.drop_root()
             }
@@ -232,7 +266,10 @@ impl<'a, R: Wait + Threads + Clone + Drop, O: Write + Drop, W: Write + Drop, K: 
                 self.items.change(alloc, item, change)?;
                 Ok(self.note_change(item)?)
             }
-            Command::Fault(mistake) => Err(Unserved::Fault(LineFault::Mistake(mistake))),
+            Command::Fault(mistake) => match parse_dashboard_line(alloc, line)? {
+                Some(line) if is_for_scripts(&line) => Ok(self.display.serve_dashboard(line)?),
+                _ => Err(Unserved::Fault(LineFault::Mistake(mistake))),
+            },
         }
     }
 
@@ -387,6 +424,24 @@ impl<'a, R: Wait + Threads + Clone + Drop, O: Write + Drop, W: Write + Drop, K: 
         display.close(clock)?;
         items.recording().finish(clock)?;
         Ok((is_unfinished, items.recording().error()))
+    }
+}
+
+/// What a line begins with that comes from the program between a script and a dashboard, and not
+/// from the script.
+static RELAYED: char = '\0';
+
+/// Returns whether a script may have this line. Keys are the user's, and the window is the whole
+/// terminal.
+fn is_for_scripts(line: &DashboardLine) -> bool {
+    match line {
+        DashboardLine::SetTitle(_)
+        | DashboardLine::AddTitle(_)
+        | DashboardLine::AddText(_)
+        | DashboardLine::ClearInformation => true,
+        DashboardLine::Press(_)
+        | DashboardLine::SetWindow(_)
+        | DashboardLine::SetInterruptMode(_) => false,
     }
 }
 

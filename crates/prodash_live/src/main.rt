@@ -2,6 +2,7 @@
 #![tactic(auto)]
 
 mod command_line;
+mod dashboard;
 mod display;
 mod failure;
 mod feed;
@@ -52,10 +53,12 @@ fn main(rt: HostRuntime) -> ExitCode {
     let input = rt.reader();
     let ended = if options.to_stdout {
         let is_terminal = rt.stdout().is_terminal();
-        live(rt, input, rt.stdout(), file, clock, options, is_terminal)
+        let outputs = (rt.stdout(), rt.stdout());
+        live(rt, input, outputs, file, clock, options, is_terminal)
     } else {
         let is_terminal = rt.stderr().is_terminal();
-        live(rt, input, rt.stderr(), file, clock, options, is_terminal)
+        let outputs = (rt.stderr(), rt.stderr());
+        live(rt, input, outputs, file, clock, options, is_terminal)
     };
     match ended {
         Ok(outcome) => report_outcome(&rt, outcome),

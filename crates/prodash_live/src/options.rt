@@ -2,8 +2,13 @@
 ghost use Rattle.std.specs.Prelude.{◌≡◌, Some};
 ghost use Rattle.prodash_line.specs.Environments.{is_colored};
 
-use prodash::render::line;
+use prodash::Refusal;
+use prodash::render::{line, tui};
 use prodash_programs::{ColorChoice, Environment};
+use std::alloc::Global;
+
+/// The title of a dashboard whose script gives it none.
+static TITLE: &str = "Progress (? = keys)";
 
 /// Whether the output is a terminal.
 #[derive(Clone, Copy, Debug, PartialEq, Eq)]
@@ -50,6 +55,10 @@ pub struct Options<'a> {
     pub has_summary: bool,
     /// Whether an item of the first two levels that hasn't finished is a failure.
     pub fails_unfinished: bool,
+    /// Whether a terminal has a dashboard in place of rows.
+    pub has_dashboard: bool,
+    /// Whether a request to interrupt leaves the dashboard at once.
+    pub leaves_on_interrupt: bool,
     /// Whether the output has a mark at its beginning and behind each frame.
     pub has_marks: bool,
     /// Whether the output is a terminal.
@@ -79,6 +88,8 @@ impl<'a> Options<'a> {
             plain: None,
             has_summary: false,
             fails_unfinished: false,
+            has_dashboard: false,
+            leaves_on_interrupt: false,
             has_marks: false,
             terminal: Terminal::Auto,
             shows_frames: env.shows_frames,
@@ -113,8 +124,27 @@ impl<'a> Options<'a> {
             whole_messages: true,
             bare_without_origin: true,
             initial_delay: Some(self.delay.saturating_mul(1_000_000)),
-            nanoseconds_per_frame: 1_000_000_000 / self.frames.max(1),
+            nanoseconds_per_frame: self.nanoseconds_per_frame(),
             ..line::Options::default()
         }
+    }
+    /// Returns the options of the dashboard.
+    ///
+    /// # Errors
+    ///
+    /// `Memory`, if there is no memory for its title.
+    pub fn dashboard(&self, alloc: Global) -> Result<tui::Options, Refusal> {
+        Ok(tui::Options {
+            title: String::from_str(alloc, TITLE)?,
+            nanoseconds_per_frame: self.nanoseconds_per_frame(),
+            throughput: true,
+            stop_if_progress_missing: false,
+            ..tui::Options::create(alloc)?
+        })
+    }
+
+    /// Returns the nanoseconds between frames.
+    fn nanoseconds_per_frame(&self) -> u64 {
+        1_000_000_000 / self.frames.max(1)
     }
 }

@@ -18,7 +18,7 @@ use std::thread::{Builder, Threads};
 
 /// What is written, of which each line is written whole.
 #[derive(Drop)]
-struct Lines<R: Wait + Clone + Drop, O: Write + Drop> {
+pub struct Lines<R: Wait + Clone + Drop, O: Write + Drop> {
     alloc: Global,
     root: WeakHandle<R>,
     out: OverWrite<Watched<O>>,
@@ -31,7 +31,7 @@ struct Lines<R: Wait + Clone + Drop, O: Write + Drop> {
 
 impl<R: Wait + Clone + Drop, O: Write + Drop> Lines<R, O> {
     /// Returns what writes on an output from now on, with the lines of messages as in frames.
-    fn new(
+    pub fn new(
         alloc: Global,
         root: WeakHandle<R>,
         out: Watched<O>,
@@ -58,7 +58,11 @@ impl<R: Wait + Clone + Drop, O: Write + Drop> Lines<R, O> {
     }
 
     /// Writes the messages of the tree that are new.
-    fn write_messages(&mut self, at: Moment) -> Result<(), Refusal> {
+    ///
+    /// # Errors
+    ///
+    /// `Memory`, if there is no memory for their lines, and `Broken`, if the output is broken.
+    pub fn write_messages(&mut self, at: Moment) -> Result<(), Refusal> {
         let Some(root) = self.root.upgrade()? else {
             return Ok(());
         };
@@ -281,7 +285,7 @@ impl<R: Wait + Clone + Drop, O: Write + Drop> PlainDisplay<R, O> {
 }
 
 /// Returns what a write returned, unless the output is broken, which its state says, too.
-fn unless_broken(written: Result<(), Refusal>) -> Result<(), Refusal> {
+pub fn unless_broken(written: Result<(), Refusal>) -> Result<(), Refusal> {
     match written {
         Err(Refusal::Broken) => Ok(()),
         other => other,

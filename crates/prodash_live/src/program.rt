@@ -1,15 +1,17 @@
 //! The whole program over a reader, a writer and a clock.
+use crate::dashboard::Dashboard;
 use crate::display::{Display, MESSAGES};
 use crate::failure::Failure;
 use crate::feed::{Feed, Outcome};
 use crate::items::Items;
 use crate::options::Options;
 use crate::output::{OutputState, PromptClock, Watched};
-use crate::plain_display::PlainDisplay;
+use crate::plain_display::{Lines, PlainDisplay};
 use crate::recording::Recording;
 use crate::shown::Shown;
 use crate::signs::Signs;
 use prodash::render::line::{self, render};
+use prodash::render::tui;
 use prodash::time::Clock;
 use prodash::tree::{Root, root};
 use std::alloc::Global;
@@ -17,8 +19,9 @@ use std::io::{Read, Write};
 use std::sync::{Arc, Wait};
 use std::thread::Threads;
 
-/// Shows the events of `input` on `out` until the input ends, and writes a recording of the run if
-/// there is something to write it to. Returns how far the input was read.
+/// Shows the events of `input` on an output until the input ends, and writes a recording of the run
+/// if there is something to write it to. Returns how far the input was read. `outputs` are two
+/// writers of the output, of which the second writes what a dashboard leaves behind.
 ///
 /// # Errors
 ///
@@ -32,7 +35,7 @@ pub fn live<
 >(
     rt: R,
     input: I,
-    out: O,
+    outputs: (O, O),
     recording: Option<W>,
     clock: Arc<K>,
     options: Options<'_>,
@@ -48,6 +51,7 @@ pub fn live<
     let rendering = options.render(is_terminal);
     let interval = rendering.nanoseconds_per_frame;
     let recording = Recording::new(alloc, recording, clock.now(), interval)?;
+    let (out, later) = outputs;
     let mut out = Watched::new(out, Arc::try_clone(&output)?, options.has_marks);
     // what fails here is told below
     let _ = out.mark();
@@ -56,6 +60,14 @@ pub fn live<
             let out = (out, Arc::try_clone(&output)?);
             let display = PlainDisplay::start(&rt, alloc, out, &root, &clock, &rendering, seconds)?;
             Shown::Plain(display)
+        }
+        _ if options.has_dashboard && rendering.output_is_terminal => {
+            let later = Watched::new(later, Arc::try_clone(&output)?, options.has_marks);
+            let lines = Lines::new(alloc, root.downgrade()?, later, &rendering, clock.now());
+            let handle = start_dashboard(&rt, alloc, out, &root, &clock, &options)?;
+            let output = Arc::try_clone(&output)?;
+            let leaves = options.leaves_on_interrupt;
+            Shown::Dashboard(Dashboard::new(alloc, handle, lines, output, leaves))
         }
         _ => Shown::Frames(show(&rt, alloc, out, &root, &clock, rendering, &output)?),
     };
@@ -107,4 +119,32 @@ fn show<
         rendering,
     )?;
     Ok(Display::new(handle, Arc::try_clone(output)?))
+}
+
+/// Begins to draw a dashboard of a tree on `out`.
+///
+/// # Errors
+///
+/// If there is no memory or no thread for it.
+fn start_dashboard<
+    R: Wait + Threads + Clone + Drop + Send + Sync + 'static,
+    O: Write + Drop + Send + 'static,
+    K: Clock + Drop + Send + Sync + 'static,
+>(
+    rt: &R,
+    alloc: Global,
+    out: Watched<O>,
+    root: &Root<R>,
+    clock: &Arc<K>,
+    options: &Options<'_>,
+) -> Result<tui::JoinHandle<R>, Failure> {
+    Ok(tui::render(
+        rt.clone()?,
+        alloc,
+        out,
+        root.downgrade()?,
+        Arc::try_clone(clock)?,
+        options.dashboard(alloc)?,
+        options.dimensions,
+    )?)
 }

@@ -1,9 +1,12 @@
-//! What shows the items: frames, or on an output that is no terminal plain lines.
+//! What shows the items: frames, a dashboard, or on an output that is no terminal plain lines.
+use crate::dashboard::Dashboard;
 use crate::display::Display;
 use crate::failure::Failure;
 use crate::plain_display::PlainDisplay;
 use prodash::progress::Row;
+use prodash::render::tui::Key;
 use prodash::time::{Clock, Moment};
+use prodash_script::DashboardLine;
 use std::io::Write;
 use std::sync::Wait;
 use std::thread::Threads;
@@ -13,6 +16,8 @@ use std::thread::Threads;
 pub enum Shown<R: Wait + Threads + Clone + Drop, O: Write + Drop> {
     /// Frames, from threads of their own.
     Frames(Display<R>),
+    /// A dashboard, from threads of its own, and messages once it has left the terminal.
+    Dashboard(Dashboard<R, O>),
     /// Messages and plain lines.
     Plain(PlainDisplay<R, O>),
 }
@@ -22,6 +27,7 @@ impl<R: Wait + Threads + Clone + Drop, O: Write + Drop> Shown<R, O> {
     pub fn is_broken(&self) -> bool {
         match self {
             Shown::Frames(display) => display.is_broken(),
+            Shown::Dashboard(display) => display.is_broken(),
             Shown::Plain(display) => display.is_broken(),
         }
     }
@@ -31,11 +37,59 @@ impl<R: Wait + Threads + Clone + Drop, O: Write + Drop> Shown<R, O> {
         matches!(self, Shown::Plain(_))
     }
 
+    /// Returns whether a dashboard is or was shown.
+    pub fn is_dashboard(&self) -> bool {
+        matches!(self, Shown::Dashboard(_))
+    }
+
     /// Sets the columns and the rows of the terminal.
-    pub fn resize(&self, columns: u16, rows: u16) {
-        if let Shown::Frames(display) = self {
-            display.resize(columns, rows);
+    ///
+    /// # Errors
+    ///
+    /// `Memory`, if there is no memory to tell a dashboard.
+    pub fn resize(&self, columns: u16, rows: u16) -> Result<(), Failure> {
+        match self {
+            Shown::Frames(display) => display.resize(columns, rows),
+            Shown::Dashboard(display) => display.resize(columns, rows)?,
+            Shown::Plain(_) => {}
         }
+        Ok(())
+    }
+
+    /// Does what a line of a script says that is for a dashboard, if there is one.
+    ///
+    /// # Errors
+    ///
+    /// `Memory`, if there is no memory for it.
+    pub fn serve_dashboard(&mut self, line: DashboardLine) -> Result<(), Failure> {
+        if let Shown::Dashboard(display) = self {
+            display.serve(line)?;
+        }
+        Ok(())
+    }
+
+    /// Does what a key says, if there is a dashboard.
+    ///
+    /// # Errors
+    ///
+    /// `Memory`, if there is no memory for it.
+    pub fn press(&mut self, key: Key, now: Moment) -> Result<(), Failure> {
+        if let Shown::Dashboard(display) = self {
+            display.press(key, now)?;
+        }
+        Ok(())
+    }
+
+    /// Leaves the terminal to messages, if there is a dashboard.
+    ///
+    /// # Errors
+    ///
+    /// `Memory`, if there is no memory for their lines.
+    pub fn leave(&mut self, now: Moment) -> Result<(), Failure> {
+        if let Shown::Dashboard(display) = self {
+            display.leave(now)?;
+        }
+        Ok(())
     }
 
     /// Waits until one more message can be kept.
@@ -46,6 +100,7 @@ impl<R: Wait + Threads + Clone + Drop, O: Write + Drop> Shown<R, O> {
     pub fn make_room<K: Clock>(&mut self, rt: &R, clock: &K) -> Result<(), Failure> {
         match self {
             Shown::Frames(display) => display.make_room(rt, clock),
+            Shown::Dashboard(display) => display.make_room(clock.now())?,
             Shown::Plain(display) => display.make_room(clock.now())?,
         }
         Ok(())
@@ -57,8 +112,10 @@ impl<R: Wait + Threads + Clone + Drop, O: Write + Drop> Shown<R, O> {
     ///
     /// `Memory`, if there is no memory for their lines.
     pub fn write_messages<K: Clock>(&mut self, clock: &K) -> Result<(), Failure> {
-        if let Shown::Plain(display) = self {
-            display.write_messages(clock.now())?;
+        match self {
+            Shown::Frames(_) => {}
+            Shown::Dashboard(display) => display.write_messages(clock.now())?,
+            Shown::Plain(display) => display.write_messages(clock.now())?,
         }
         Ok(())
     }
@@ -95,6 +152,7 @@ impl<R: Wait + Threads + Clone + Drop, O: Write + Drop> Shown<R, O> {
     pub fn close<K: Clock>(self, clock: &K) -> Result<(), Failure> {
         match self {
             Shown::Frames(display) => display.close(),
+            Shown::Dashboard(display) => display.close(clock.now())?,
             Shown::Plain(display) => display.close(clock.now())?,
         }
         Ok(())
