@@ -5,6 +5,8 @@ import select
 # How many bytes are read at a time, as many as a pipe has.
 READ = 65536
 MARK = b"\0"
+# What a line for a dashboard begins with that no script has written.
+LINE_OF_RELAY = b"\0"
 # A line of more bytes is faulty, whatever they are.
 LONGEST = 65536 + len("\r\n")
 
@@ -59,10 +61,14 @@ class Display:
             self.lines += whole + feed
             self.rest = rest[:LONGEST]
 
+    def tell(self, line):
+        """Takes a line of the relay, between two lines."""
+        if self.is_alive():
+            self.lines += line
+
     def resize(self, columns, rows):
         """Takes a size, between two lines."""
-        if self.is_alive():
-            self.lines += b"size %d %d\n" % (columns, rows)
+        self.tell(b"size %d %d\n" % (columns, rows))
 
     def drop_rest(self):
         """Leaves out a line that isn't whole."""

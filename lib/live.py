@@ -22,6 +22,11 @@ from screen import Messages, Screen
 
 # Signals that the terminal sends to the script as well, and those that end the input.
 KEYS, ENDS = (signals.SIGINT, signals.SIGQUIT), (signals.SIGTERM, signals.SIGHUP)
+# The option of a dashboard, and what is said if the lines would be typed below it.
+DASHBOARD = "--dashboard"
+TYPED = """\
+error: '--dashboard' takes the keys of the terminal, so no lines can be typed: pipe them in, as in
+  script | prodash-live --dashboard"""
 # How prodash-live ends at a faulty line, with --strict before the end of the input.
 FAULTY = 2
 
@@ -31,6 +36,13 @@ class Marked(Messages):
 
     def take(self, frame):
         return frame + MARK
+
+
+class Bytes(Messages):
+    """Frames of a dashboard as they are, for what is no terminal."""
+
+    def take(self, frame):
+        return frame
 
 
 class Live(Relay):
@@ -78,6 +90,9 @@ class Live(Relay):
         self.display.drop_rest()
         self.events, self.is_ended = None, True
 
+    def leave(self):
+        """Gives the terminal back, if it was taken whole."""
+
     def is_over(self):
         """Returns whether all lines are read, or no more are to be."""
         return self.events is None or self.is_faulty()
@@ -124,9 +139,16 @@ def begin(program, words):
     """Starts the display."""
     stream = stream_of(words)
     terminal, draws = Terminal(stream), relay.draws_on(stream, words)
+    if draws and terminal.is_terminal and DASHBOARD in words:
+        # no other display needs it
+        import dashboard
+
+        return dashboard.begin(program, words, terminal)
     columns, rows = terminal.size() or (80, 24)
     if draws and terminal.is_terminal:
         screen = Screen(columns, rows, True)
+    elif DASHBOARD in words and "--marks" not in words:
+        screen = Bytes(columns, rows)
     else:
         screen = (Marked if "--marks" in words else Messages)(columns, rows)
     return relay.begin(Live, program, words, terminal, screen, draws)
@@ -153,13 +175,24 @@ def follow(live, frames):
         live.paint(MARK)
     live.take(frames)
     signals.pthread_sigmask(signals.SIG_UNBLOCK, job.PASSED)
-    live.go_on()
-    live.finish()
+    try:
+        live.go_on()
+        live.finish()
+    finally:
+        live.leave()
     return live.status()
+
+
+def is_typed(words):
+    """Returns whether the lines of a dashboard would be typed on the terminal."""
+    return DASHBOARD in words and os.isatty(0) and relay.draws_on(stream_of(words), words)
 
 
 def try_to_run(program, words):
     """Runs the program. Returns the status, and whether no line is to be read any more."""
+    if is_typed(words):
+        relay.say(2, TYPED)
+        return FAULTY, True
     reason = closed_input()
     job.open_streams()
     try:

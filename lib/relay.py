@@ -359,12 +359,17 @@ def size_to_draw_on(columns, rows):
     return columns, max(rows - 2, 1)
 
 
+def said_sizes(options):
+    """Returns the columns and the rows that options or the environment say, or empty texts."""
+    return [value_of(options, name) or os.environ.get(other, "") for name, other in SIZES]
+
+
 def size_options(options, size):
     """Returns the options of a size, and whether the terminal's is followed: if none was said.
 
     Rows that wouldn't fit are none, so no more are drawn than there are, whatever was said.
     """
-    said = [value_of(options, name) or os.environ.get(other, "") for name, other in SIZES]
+    said = said_sizes(options)
     if size is None:
         return [], False
     columns, rows = size_to_draw_on(*size)

@@ -40,6 +40,10 @@ ALONE, QUIET = 0.05, 0.2
 VALUED = "--columns --rows --bar-columns --fps --delay --terminal --record --plain".split()
 # After how many seconds plain lines say what has changed, on no terminal.
 PLAIN = 30
+# What is said if a dashboard is asked for.
+NO_DASHBOARD = """\
+error: '--dashboard' is an option of prodash live alone: what a job writes stands above its rows,
+and a dashboard fills the terminal"""
 # The status of a display that found a task unfinished.
 UNFINISHED = 3
 # What the job's output is: a terminal, that of a session of its own, or a pipe.
@@ -460,6 +464,9 @@ def main(program, words):
     if "-h" in options or "--help" in options:
         os.write(1, HELP.encode())
         return 0
+    if "--dashboard" in options:
+        os.write(2, f"{NO_DASHBOARD}\n".encode())
+        return 2
     if not command:
         os.write(2, b"prodash run: no command\n\n")
         os.write(2, b"Usage: prodash run [OPTIONS] [--] COMMAND [WORD ..]\n")

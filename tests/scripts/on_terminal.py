@@ -18,6 +18,8 @@ The steps are lines of standard input:
   kill NAME P    sends a signal to the first child of the job's process whose words begin with P
   updates        says whether all rows were drawn in synchronized updates, which have ended
   modes          says whether the modes of the terminal are those of the start
+  page           says which page is shown, and whether the cursor, wrapping or, on the main page,
+                 the style aren't as at the start
   raw            waits until it passes on each key at once, or `cooked` until it passes on lines
   file NAME      waits until there is a file
   close          closes the window
@@ -199,10 +201,10 @@ class Play:
             self.wait(lambda: words in "\n".join(self.window.lines()), f"shown: {words}")
         elif name == "gone":
             self.wait(lambda: words not in "\n".join(self.window.lines()), f"gone: {words}")
-        elif name in ("screen", "all", "style", "updates", "modes"):
+        elif name in ("screen", "all", "style", "updates", "modes", "page"):
             self.show(name, words)
         elif name == "keys":
-            os.write(self.ours, words.encode().decode("unicode_escape").encode())
+            os.write(self.ours, words.encode().decode("unicode_escape").encode("latin-1"))
         elif name == "tell":
             self.wait(lambda: told(first, rest), f"read: {first}")
         elif name == "size":
@@ -237,6 +239,9 @@ class Play:
             print("in updates" if is_whole else "not in updates")
         elif name == "modes":
             print(self.same_modes())
+        elif name == "page":
+            self.settle()
+            print(self.window.state())
         else:
             self.settle()
             lines = self.window.lines if name == "screen" else self.window.all_lines

@@ -23,7 +23,8 @@ class Terminal:
         self.columns, self.height = columns, rows
         self.rows, self.above, self.other = [[] for _ in range(rows)], [], None
         self.row = self.column = 0
-        self.kept, self.wraps, self.rest, self.style = (0, 0, ""), True, "", ""
+        self.kept, self.rest, self.style = (0, 0, ""), "", ""
+        self.wraps = self.has_cursor = True
         self.decoder = codecs.getincrementaldecoder("utf-8")("replace")
         # whether a synchronized update goes on, and whether wrapping was off outside of one
         self.is_updating, self.flickers = False, False
@@ -50,7 +51,8 @@ class Terminal:
         elif short == "8":
             self.row, self.column, self.style = self.kept
         elif name == "m":
-            self.style = "" if words in ("", "0") else f"{self.style};{words}".lstrip(";")
+            first, _, others = words.partition(";")
+            self.style = others if first in ("", "0") else f"{self.style};{words}".lstrip(";")
         elif short == "D":
             self.feed()
         elif name == "A":
@@ -67,6 +69,8 @@ class Terminal:
         elif words == "?7":
             self.wraps = name == "h"
             self.flickers = self.flickers or not (self.wraps or self.is_updating)
+        elif words == "?25":
+            self.has_cursor = name == "h"
         elif words == "?2026":
             self.is_updating = name == "h"
         elif words == FULL:
@@ -90,11 +94,12 @@ class Terminal:
 
     def change_page(self, is_full):
         """Goes to the page of full screens, or back."""
-        if is_full:
+        if is_full and not self.other:
             self.other = (self.rows, self.row, self.column)
             self.rows, self.row, self.column = [[] for _ in self.rows], 0, 0
-        elif self.other:
-            self.rows, self.row, self.column = self.other
+        elif self.other and not is_full:
+            (self.rows, self.row, self.column), self.other = self.other, None
+            self.fit()
 
     def feed(self):
         """Goes down a row, and scrolls at the last."""
@@ -130,13 +135,24 @@ class Terminal:
     def resize(self, columns, rows):
         """Changes the size. Rows are cut or blank ones added at the end, as far as that goes."""
         self.columns, self.height = columns, rows
-        while len(self.rows) > rows:
-            if self.row < rows:
+        self.fit()
+
+    def fit(self):
+        """Has as many rows as the window."""
+        while len(self.rows) > self.height:
+            if self.row < self.height:
                 self.rows.pop()
             else:
                 self.above.append(self.rows.pop(0))
                 self.row -= 1
-        self.rows += [[] for _ in range(rows - len(self.rows))]
+        self.rows += [[] for _ in range(self.height - len(self.rows))]
+
+    def state(self):
+        """Returns which page is shown, and what isn't as at first."""
+        parts = ["full page" if self.other else "main page"]
+        parts += ["no cursor"] * (not self.has_cursor) + ["no wrap"] * (not self.wraps)
+        parts += [f"style {self.style}"] * (bool(self.style) and not self.other)
+        return ", ".join(parts)
 
     def lines(self):
         """Returns the rows of the window without trailing blanks."""
