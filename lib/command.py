@@ -32,6 +32,8 @@ Lines:
                            number has a - before it, as info @all - 3 files
   print TEXT               prints a line above the rows
   drop @WORD               removes it, and its word is free again
+  title TEXT, info_title TEXT, info_text TEXT, info_clear
+                           for prodash live --dashboard: its title, and lines of information
 
 Libraries that write them, and do nothing where nobody shows them:
   . "$(prodash --lib sh)"  prodash_task, prodash_step and others, for sh

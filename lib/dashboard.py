@@ -7,6 +7,7 @@ back by one call, `leave`.
 """
 import _signal as signals
 import os
+import re
 import time
 
 import relay
@@ -20,6 +21,8 @@ from screen import NO_WRAP, PLAIN, at_once
 OPEN, CLOSE, WHOLE = b"\x1b[?1049h", b"\x1b[?1049l", b"\x1b[2J"
 HIDE_CURSOR, SHOW_CURSOR, WRAP = b"\x1b[?25l", b"\x1b[?25h", b"\x1b[?7h"
 ENTER, LEAVE = OPEN + HIDE_CURSOR + NO_WRAP, PLAIN + CLOSE + WRAP + SHOW_CURSOR
+# A style, whose colours have codes behind that of bold characters.
+STYLE = re.compile(rb"\x1b\[0(;1)?[0-9;]*m")
 # The keys that are a wish to interrupt, but for the signal itself, and the one that redraws.
 INTERRUPTS, REDRAW = ("q", "esc", "ctrl-c"), "ctrl-l"
 
@@ -27,8 +30,8 @@ INTERRUPTS, REDRAW = ("q", "esc", "ctrl-c"), "ctrl-l"
 class Board:
     """The frames of a dashboard on the alternate screen, and then messages on the main one."""
 
-    def __init__(self, columns, rows):
-        self.columns, self.height = columns, rows
+    def __init__(self, columns, rows, is_colored):
+        self.columns, self.height, self.is_colored = columns, rows, is_colored
         # whether the alternate screen may be shown, and is
         self.is_shown, self.is_drawn = True, False
         # whether the display has begun its dashboard and not ended it, and whether the terminal
@@ -55,6 +58,8 @@ class Board:
         self.is_known = self.is_shown and (self.is_known or WHOLE in drawn)
         if not self.is_known:
             return b""
+        if not self.is_colored:
+            drawn = STYLE.sub(b"\x1b[0\\1m", drawn)
         begin = b"" if self.is_drawn else ENTER
         self.is_drawn = True
         return at_once(begin + drawn)
@@ -195,6 +200,16 @@ class Dashboard(Live):
         self.release()
 
 
+def is_colored(words):
+    """Returns whether a terminal has colours by these options and the environment."""
+    read = os.environ.get
+    if "--no-color" in words or read("NO_COLOR"):
+        return False
+    forced = read("CLICOLOR_FORCE", "") not in ("", "0")
+    forced |= read("FORCE_COLOR", "") not in ("", "0", "false")
+    return forced or read("CLICOLOR") != "0"
+
+
 def numbers_of(texts):
     """Returns the number from 1 to 65535 that each text is, or None."""
     numbers = [int(it) if it.isascii() and it.isdecimal() else 0 for it in texts]
@@ -212,6 +227,6 @@ def begin(program, words, terminal):
     said = numbers_of(relay.said_sizes(words))
     options = [f"{name}={n}" for (name, _), n in zip(relay.SIZES, size_to_fill(said, size))]
     display = Display(program, ["--marks", *words, *options, "--terminal", "always"])
-    found = Dashboard(terminal, display, Board(*size), False)
-    found.said = said
+    found = Dashboard(terminal, display, Board(*size, is_colored(words)), False)
+    found.said, found.screen.is_shown = said, found.may_draw()
     return found

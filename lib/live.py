@@ -173,9 +173,9 @@ def follow(live, frames):
     live.handle([*handled, signals.SIGWINCH])
     if isinstance(live.screen, Marked):
         live.paint(MARK)
-    live.take(frames)
-    signals.pthread_sigmask(signals.SIG_UNBLOCK, job.PASSED)
     try:
+        live.take(frames)
+        signals.pthread_sigmask(signals.SIG_UNBLOCK, job.PASSED)
         live.go_on()
         live.finish()
     finally:

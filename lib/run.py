@@ -30,8 +30,8 @@ Options:
       --pty      the command has a whole terminal of its own, also for keys
       --no-pty   the output of the command is a pipe, not a terminal
   -h, --help     print help
-  and those of prodash-live: prodash live --help. Off a terminal --plain=30
-  and --summary are the default
+  and those of prodash-live but --dashboard: prodash live --help. Off a terminal
+  --plain=30 and --summary are the default
 """
 # How many seconds: until a signal was for this process alone; without anything of a job that has
 # ended, until what others still write is left.

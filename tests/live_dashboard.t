@@ -32,6 +32,7 @@ and its cursor. The messages are below.
 
   $ play <<'.'
   > until 3/10 files
+  > until Build
   > raw
   > page
   > screen
@@ -75,6 +76,30 @@ and its cursor. The messages are below.
   same modes
   script: 0
 
+It is there before any item is, with a title of its own, and has no colours if none are wanted.
+
+  $ printf '. ./begin >/dev/null; next; echo add @b 0 one; echo init @b 10; echo set @b 3; next\n' >later
+  $ script=later
+  $ for it in '' --no-color; do
+  >   play "$it" <<'.'
+  > until Progress (? = keys)
+  > tell go
+  > until 3/10
+  > style 3/10
+  > style Progress
+  > tell go
+  > ended
+  > .
+  > done
+  30;43
+  1
+  status 0
+  script: 0
+  plain
+  1
+  status 0
+  script: 0
+
 Keys
 ====
 
@@ -83,7 +108,7 @@ come back.
 
   $ cat >says <<'.'
   > . ./begin
-  > echo info_title About; echo info_text this script; next; echo info_text and more; next
+  > echo info_title About; echo info_text this script; next; echo info_text and more; echo set @b 4; next
   > .
   $ script=says size='90 14'
   $ play <<'.'
@@ -92,6 +117,8 @@ come back.
   > until hide these keys
   > screen
   > tell go
+  > until 4/10
+  > until hide these keys
   > keys [
   > gone hide these keys
   > keys ?
@@ -176,15 +203,17 @@ Ctrl-L draws all of it anew, over what the script has written to the terminal by
 
   $ cat >writes <<'.'
   > . ./begin
-  > next; echo torn >&2; next
+  > next; printf '\r\ntorn\r\n' >&2; next
   > .
   $ { echo "run sh -c 'sh writes | live --dashboard'"; cat <<'.'; } | on-terminal 60 8
   > until 3/10
+  > until Build
   > tell go
   > until torn
   > keys \x0c
   > gone torn
   > until 3/10
+  > until Build
   > tell go
   > ended
   > page
@@ -236,14 +265,14 @@ With `--leave-on-interrupt` the dashboard is left at once, and messages come as 
 rows.
 
   $ cat >goes_on <<'.'
-  > trap 'echo info @b - interrupted' INT
+  > trap : INT
   > . ./begin
   > echo info @b - begun; next; echo info @b - still at it; next
   > .
   $ { echo "run sh -c 'trap : INT; sh goes_on | live --dashboard --leave-on-interrupt'"; cat <<'.'; } |
   > until begun
   > keys q
-  > until one interrupted
+  > until one begun
   > page
   > modes
   > tell go
@@ -257,15 +286,21 @@ rows.
   main page
   same modes
    one begun
-   one interrupted
    one still at it
   status 0
   same modes
+
+None of them is lost, however many come at once.
+
+  $ { printf '\0key q\n'; yes 'print ' | head -n 20000; } |
+  >   live --dashboard --leave-on-interrupt --stdout --terminal always | wc -l
+  20000
 
 A script that ends at it ends the dashboard.
 
   $ { echo "run sh -c 'trap : INT; sh script | live --dashboard'"; cat <<'.'; } | on-terminal 60 10
   > until 3/10
+  > until Build
   > tell go
   > until first
   > keys q
@@ -287,6 +322,7 @@ The dashboard follows the size of the terminal, down to three by three and back.
   $ script=script size='60 10'
   $ play <<'.'
   > until 3/10
+  > until Build
   > size 3 3
   > gone 3/10
   > until B
@@ -295,6 +331,7 @@ The dashboard follows the size of the terminal, down to three by three and back.
   > gone B
   > size 60 10
   > until 3/10 files
+  > until Build
   > screen
   > tell go
   > until first
@@ -323,6 +360,7 @@ One that an option or the environment says stays, as far as the terminal has it.
 
   $ cat >steps <<'.'
   > until 3/10
+  > until Build
   > screen
   > size 20 4
   > gone first
@@ -422,7 +460,7 @@ Other options, and other commands
   [2]
 
 The lines for a dashboard do nothing without one. Keys are the user's: no script has lines for them.
-A key counts as no line of the script, nor does a size.
+A key counts as no line of the script, nor does a size. Messages are written also without the root.
 
   $ printf 'title a\ninfo_title b\ninfo_text c\ninfo_clear\nadd @a 0 a\ninfo @a - one\nkey q\nwindow 0 0 3 3\n' | live
    a one
@@ -437,6 +475,9 @@ A key counts as no line of the script, nor does a size.
    \xe2\x9c\x97 input line 4: unknown command "\xef\xbf\xbdkey", in: \xef\xbf\xbdkey (esc)
    \xe2\x9c\x97 input line 5: unknown command "bar", in: bar (esc)
   [2]
+  $ printf 'add @a 0 a\ninfo @a - one\ndroproot\n' | live --dashboard --no-color --terminal always 2>&1 |
+  >   sed 's/.*\[?25h//'
+   a one
   $ live --dashboard --no-color --terminal always <keys 2>&1 | grep -ao ' input line.*'
    input line 1: unknown command "foo", in: foo
    input line 2: unknown command "bar", in: bar

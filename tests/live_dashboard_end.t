@@ -41,6 +41,7 @@ the terminal has then.
 
   $ play <<'.'
   > until 3/10
+  > until Build
   > keys \x1a
   > stopped
   > screen
@@ -48,6 +49,7 @@ the terminal has then.
   > modes
   > fg
   > until 3/10
+  > until Build
   > raw
   > page
   > tell go
@@ -93,6 +95,7 @@ In the background nothing is drawn and no key is read, also if it was begun ther
 
   $ play <<'.'
   > until 3/10
+  > until Build
   > keys \x1a
   > stopped
   > bg
@@ -178,7 +181,7 @@ A program that is killed, and one that is stuck. Their messages are lost.
   >   { echo until 3/10; echo kill $it prodash-live; cat <<'.'; } | play
   > tell go
   > tell go
-  > gone Build
+  > gone all
   > page
   > modes
   > ended
@@ -256,7 +259,7 @@ A fault of the script that writes the frames.
   > import dashboard, live
   > take = dashboard.Board.take
   > def broken(self, frame):
-  >     if self.is_known and b"4" in frame:
+  >     if b"first" in frame:
   >         raise ValueError("no such frame")
   >     return take(self, frame)
   > dashboard.Board.take = broken
@@ -264,8 +267,9 @@ A fault of the script that writes the frames.
   > .
   $ sh script >lines & { echo "run python3 faulty.py $scripts <lines"; cat <<'.'; } | on-terminal 60 10
   > until 3/10
+  > until Build
   > tell go
-  > gone Build
+  > gone all
   > page
   > modes
   > tell go
@@ -276,11 +280,13 @@ A fault of the script that writes the frames.
   same modes
   status 137
   prodash live: ValueError: no such frame
+  $ wait $!
 
 A window that is closed.
 
   $ play <<'.'
   > until 3/10
+  > until Build
   > close
   > tell go
   > tell go

@@ -50,6 +50,10 @@ The version, the help, and what is refused.
         --summary               at the end, how each item of the first two levels has come out
         --no-summary            no such messages [default]
         --fail-unfinished       status 3 if one of these ended below its maximum, and a message of it
+        --dashboard             fill the terminal with a dashboard, which is scrolled by keys;
+                                its key ? shows them
+        --leave-on-interrupt    with --dashboard: q, Esc and Ctrl-C leave the dashboard at once, and
+                                messages are written from then on
         --record <FILE>         record the run, for prodash-replay
         --marks                 a NUL once the options are right, and one behind each frame
     -h, --help                  print help

@@ -36,3 +36,33 @@ If it is refused memory it is drawn later, so that there is always a row of 3000
   $ hidden=86400000
   $ refuse_each 0
   $ refuse_each $hidden
+
+A dashboard leaves the terminal, whatever it is refused, and then writes the message.
+
+  $ enter=$(printf '\033[?1049h') leave=$(printf '\033[?1049l\033[?7h\033[?25h')
+  $ printf '\0key ?\nadd 0 task\ninit 1 10\ninfo_text one\ntitle two\n\0size 21 7\ninfo 1 three\n\0key q\n' \
+  >   >lines
+  $ run() {
+  >   timeout 60 env REFUSED=$number MARK=9 LD_PRELOAD=./failures.so prodash-live --dashboard --no-color \
+  >     --columns 20 --rows 6 --fps 1000 --terminal always <lines 2>written 9>refused
+  > }
+  $ refuse_from() {
+  >   number=$1
+  >   until [ "$number" -gt "$2" ]; do
+  >     number=$((number + 1)) status=0
+  >     run || status=$?
+  >     case "status $status: $(cat written)" in
+  >     "status 0: $enter"*"$leave task three") ;;
+  >     "status 1: $enter"*"$leave"*"no memory" | "status 1: no memory" | "status 1: no thread") ;;
+  >     "status 2: error: out of memory") ;;
+  >     *) echo "allocation $number: status $status" && cat written && break ;;
+  >     esac
+  >     [ -s refused ] || break
+  >   done
+  > }
+  $ refuse_from 0 150
+  $ refuse_from 150 300
+  $ refuse_from 300 450
+  $ refuse_from 450 5000
+  $ [ -s refused ]
+  [1]

@@ -68,7 +68,9 @@ complete -c prodash -n __fish_use_subcommand -xa "(__prodash_commands)"
 complete -c prodash -n __fish_use_subcommand -l lib -xa "python sh" -d "prints where a library is"
 complete -c prodash -n __fish_use_subcommand -l version -d "prints the version"
 complete -c prodash -n __prodash_is_job -xa "(__prodash_job)"
-__prodash_add prodash __prodash_is_before_job (prodash run --help) (prodash live --help)
+# all options but those of a dashboard
+__prodash_add prodash __prodash_is_before_job (prodash run --help) \
+    (prodash live --help | string match -v '*dashboard*')
 for name in (prodash help | string match -rg '^  ([a-z]+) {2,}')
     contains $name run help
     or __prodash_add prodash "__fish_seen_subcommand_from $name" (prodash $name --help)
