@@ -8,9 +8,10 @@ import page
 WIDTH, HEIGHT, MARGIN, TITLE = 8.4, 19, 16, 30
 PAPER, BAR, INK = "#161b22", "#2b323b", "#c9d1d9"
 COLOURS = {31: "#ff6b62", 32: "#56d364", 33: "#e3b341", 36: "#4fc3d9", 37: "#f0f3f6"}
+COLOURS |= {30: "#0d1117", 91: "#ffa198"}
 DOTS = ("#ff6b62", "#e3b341", "#56d364")
-GROUNDS = {43: "#e3b341"}
-DARK = {31: "#a40e26", 32: "#0b5c24", 37: "#3d2f00"}
+GROUNDS = {41: "#ff6b62", 42: "#56d364", 43: "#e3b341", 47: "#f0f3f6", 101: "#ffa198"}
+DARK = {30: "#0d1117", 31: "#a40e26", 32: "#0b5c24", 37: "#3d2f00"}
 
 
 def run_drawn(row, column, cells, style):

@@ -5,6 +5,7 @@ import unicodedata
 # The signs that a renderer writes. docs/FORMATS.md says what each does.
 SIGN = re.compile(
     r"(?P<feed>\n)|(?P<return>\r)|\x1b\[(?:(?P<up>[1-9]\d*)A|(?P<line>2K)|(?P<below>J)"
+    r"|(?P<move>[1-9]\d*;[1-9]\d*)H|(?P<clear>2J)|\?1049(?P<alternate>[hl])"
     r"|\?(?:25|2026)[hl]|\?7(?P<wrap>[hl])|(?P<codes>\d+(?:;\d+)*)m)"
     r"|(?P<char>[^\x00-\x1f\x7f-\x9f])"
 )
@@ -85,6 +86,29 @@ class Page:
             row[self.column - 1] = (" ", ())
         row[self.column : self.column + width] = [(char, self.style), ("", self.style)][:width]
         self.column += width
+
+
+class Display(Page):
+    """The rows of a terminal of a size, on which a dashboard is drawn."""
+
+    def __init__(self, columns, rows):
+        super().__init__(columns, rows)
+        self.blank()
+
+    def blank(self):
+        self.rows = [[] for _ in range(self.height)]
+
+    def step(self, sign):
+        if sign["move"]:
+            self.row, self.column = (int(it) - 1 for it in sign["move"].split(";"))
+        elif sign["clear"] or sign["alternate"]:
+            self.blank()
+        else:
+            super().step(sign)
+
+    def resize(self, columns, rows):
+        super().resize(columns, rows)
+        self.blank()
 
 
 def width_of(char):
