@@ -20,7 +20,9 @@ from screen import NO_WRAP, PLAIN, at_once
 # What a display sends before its first frame and behind its last one, and in a whole frame.
 OPEN, CLOSE, WHOLE = b"\x1b[?1049h", b"\x1b[?1049l", b"\x1b[2J"
 HIDE_CURSOR, SHOW_CURSOR, WRAP = b"\x1b[?25l", b"\x1b[?25h", b"\x1b[?7h"
-ENTER, LEAVE = OPEN + HIDE_CURSOR + NO_WRAP, PLAIN + CLOSE + WRAP + SHOW_CURSOR
+ENTER = OPEN + HIDE_CURSOR + NO_WRAP
+# some terminals that have grown show rows of the alternate screen below the main one
+LEAVE = PLAIN + WHOLE + CLOSE + WRAP + SHOW_CURSOR
 # A style, whose colours have codes behind that of bold characters.
 STYLE = re.compile(rb"\x1b\[0(;1)?[0-9;]*m")
 # The keys that are a wish to interrupt, but for the signal itself, and the one that redraws.

@@ -11,7 +11,7 @@ what differs. At the end it leaves that screen.
   > title b
   > END
   $ tr '\033' E <frames | sed 's/[┌┐└┘]/./g; s/─/-/g; s/│/|/g'
-  E[?1049hE[?25lE[?7lE[0mE[2JE[1;1HE[0m.E[0;1mabE[0m-.E[2;1H|E[2;5H|E[3;1H.---.E[1;2HE[0;1mbE[0m-E[?1049lE[?7hE[?25h (no-eol)
+  E[?1049hE[?25lE[?7lE[0mE[2JE[1;1HE[0m.E[0;1mabE[0m-.E[2;1H|E[2;5H|E[3;1H.---.E[1;2HE[0;1mbE[0m-E[0mE[2JE[?1049lE[?7hE[?25h (no-eol)
 
 Nothing is drawn without a line that draws, nor while rows are hidden.
 

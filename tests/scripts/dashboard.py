@@ -20,8 +20,9 @@ def main():
     written = subprocess.run(words, input=lines, stdout=subprocess.PIPE, check=True).stdout
     sizes = re.findall(rb"^resize \d+ (\d+) (\d+)$", lines, re.MULTILINE)
     terminal = Terminal(*map(int, sizes[-1] if sizes else sys.argv[1:3]))
-    # the last frame that is written whole, and those after it
-    terminal.play(written.split(b"\x1b[2J")[-1].split(b"\x1b[?1049l")[0])
+    # the last frame that is written whole, and those after it, up to what leaves the screen
+    drawn = written.split(b"\x1b[0m\x1b[2J\x1b[?1049l")[0]
+    terminal.play(drawn.split(b"\x1b[2J")[-1])
     print("\n".join(terminal.lines()).translate(ASCII))
 
 

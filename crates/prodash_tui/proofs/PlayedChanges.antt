@@ -1,26 +1,26 @@
 -- What a display shows after the signs of changes.
 use Rattle.std.proofs.Common.{◌≡◌, ℕ, zero, suc, ◌+◌, ◌-◌, ◌<◌, ◌≤◌, Bool, true, false, cond, ◌&&◌, nat_eq, nat_lt, Option, Some, None, List, [], ◌∷◌, ◌++◌, length, map, set, get_or, drop, refl, sym, ap, subst, ◌∙◌, append_assoc, append-nil, arith}
-use Rattle.std.specs.Prelude.{min, ⊤}
+use Rattle.std.specs.Prelude.{min, replicate, ⊤}
 use Rattle.std.specs.List.{AllByRecursion}
 use Rattle.std.proofs.lemmas.Bool.{and_parts}
 use Rattle.std.proofs.lemmas.Bool.Decides.{nat_tests}
-use Rattle.std.proofs.lemmas.List.{get_or_at, get_or-append-add, get_or-set_same, length-set, set-get_or, set-set, set_at}
+use Rattle.std.proofs.lemmas.List.{get_or_at, get_or-append-add, get_or-set_same, length-replicate, length-set, set-get_or, set-set, set_at}
 use Rattle.prodash_tui.specs.declared.cell.Cell.{Cell}
 use Rattle.prodash_tui.specs.declared.cell.Cell.TheVariants.{Holds, Half}
 use Rattle.prodash_tui.specs.declared.cursor.Cursor.{Cursor}
 use Rattle.prodash_tui.specs.declared.sign.Sign.{Sign}
 use Rattle.prodash_tui.specs.declared.sign.Sign.TheVariants.{Char, MoveTo, SetStyle}
 use Rattle.prodash_tui.specs.declared.style.Style.{Style}
-use Rattle.prodash_tui.specs.Cells.{blank_cell, cell_at, is_half, same_style}
+use Rattle.prodash_tui.specs.Cells.{blank_cell, cell_at, cell_of, is_half, same_style}
 use Rattle.prodash_tui.specs.Rows.{front, healed, splice}
 use Rattle.prodash_tui.specs.Texts.{cells_with, cut}
 use Rattle.prodash_tui.specs.Grids.{Sheet}
 use Rattle.prodash_tui.specs.Differences.{redrawn}
 use Rattle.prodash_tui.specs.Displays.{Display, after_char, after_sign, after_signs, at_next_row, goes_on, in_cursor_row, join_before, more_joined, with_wrapped, with_written}
-use Rattle.prodash_tui.specs.Frames.{change_signs, cursor_behind, is_at, motion, row_cursor, row_signs, style_change}
+use Rattle.prodash_tui.specs.Frames.{are_certain, change_signs, clearing, cursor_behind, is_at, motion, row_cursor, row_signs, style_change}
 use Rattle.prodash_base.specs.plumbing.EqualityTests.{numbers, sound}
 use Rattle.prodash_tui.specs.plumbing.SameCells.{styles}
-use Rattle.prodash_tui.proofs.SplicedRows.{length-front, length-splice}
+use Rattle.prodash_tui.proofs.SplicedRows.{length-front, length-splice, splice_again, splice_more}
 use Rattle.prodash_tui.proofs.WrittenTexts.{cut_all}
 
 -- signs, and then others
@@ -205,59 +205,144 @@ pub record IsReady (row : ℕ) (k : Option Cursor) (d : Display) : Type 0 where
   pub inside : row < length d.grid.rows
   pub width : length (get_or d.grid.rows row []) ≡ d.grid.width
 
-change_played : (columns : ℕ → ℕ) (w : Bool) (c : ℕ) (js : List ℕ) (style : Style) (row column : ℕ) (k : Option Cursor) (d : Display)
+-- a blank in the row of the cursor
+blank_written : (columns : ℕ → ℕ) → columns 32 ≡ 1 → (row column : ℕ) (style : Style) (cells : List Cell) (e : Display) → get_or e.grid.rows row [] ≡ cells → column < e.grid.width
+    → after_sign columns (Char 32) (written_at_rows row column e.grid.rows style e) ≡ written_at row column 1 (splice column (cell_of style 32 ∷ []) cells) style e
+blank_written columns space row column style cells e shown room =
+    let there = written_at_rows row column e.grid.rows style e in
+    char_written false (columns 32) 32 there space (omega arith) ∙ ap (λ (r : List Cell). written_at row column 1 (splice column (cell_of style 32 ∷ []) r) style e) shown
+
+-- blanks in the cells of a character, narrow or wide, and the cursor back at the first of them
+cleared : (columns : ℕ → ℕ) → columns 32 ≡ 1 → (w : Bool) (row column : ℕ) (style : Style) (d : Display) → row < d.grid.height → row < length d.grid.rows
+    → length (get_or d.grid.rows row []) ≡ d.grid.width → column + (suc (length (half w))) ≤ d.grid.width
+    → after_signs columns (map Char (replicate (suc (length (half w))) 32) ++ MoveTo row column ∷ []) (styled_by style (moved_to row column d))
+    ≡ written_at_rows row column (set d.grid.rows row (splice column (replicate (suc (length (half w))) (cell_of style 32)) (get_or d.grid.rows row []))) style d
+cleared columns space false row column style d low inside width fits =
+    let cells = get_or d.grid.rows row [] in
+    let next = written_at row column 1 (splice column (cell_of style 32 ∷ []) cells) style d in
+    ap (λ (e : Display). after_sign columns (MoveTo row column) e) (blank_written columns space row column style cells d refl (omega arith)) ∙ move_inside columns row column next low (omega arith)
+cleared columns space true row column style d low inside width fits =
+    let cells = get_or d.grid.rows row [] in
+    let a = cell_of style 32 in
+    let one = splice column (a ∷ []) cells in
+    let two = splice column (a ∷ a ∷ []) cells in
+    let next = written_at row column 1 one style d in
+    let last = written_at row (column + 1) 1 two style d in
+    let both : written_at row (column + 1) 1 (splice (column + 1) (a ∷ []) one) style next ≡ last =
+    (λ i. record d {
+      grid = record d.grid { rows = (set-set d.grid.rows row one (splice (column + 1) (a ∷ []) one) ∙ ap (λ (r : List Cell). set d.grid.rows row r) (splice_more column (a ∷ []) (a ∷ []) cells (omega arith))) i };
+      cursor = record { row = row; column = column + 1 + 1; style = style };
+    }) in
+    ap (λ (e : Display). after_signs columns (Char 32 ∷ MoveTo row column ∷ []) e) (blank_written columns space row column style cells d refl (omega arith))
+    ∙ ap (λ (e : Display). after_sign columns (MoveTo row column) e)
+    (blank_written columns space row (column + 1) style one next (get_or-set_same d.grid.rows row one [] inside) (omega arith) ∙ both)
+    ∙ move_inside columns row column last low (omega arith)
+
+-- a character over blanks
+over_blanks : (columns : ℕ → ℕ) (w : Bool) (c : ℕ) (row column : ℕ) (style : Style) (d : Display) → IsWide w (columns c) → row < length d.grid.rows
+    → length (get_or d.grid.rows row []) ≡ d.grid.width → column + (suc (length (half w))) ≤ d.grid.width
+    → after_sign columns (Char c) (written_at_rows row column (set d.grid.rows row (splice column (replicate (suc (length (half w))) (cell_of style 32)) (get_or d.grid.rows row []))) style d)
+    ≡ with_joined w c [] style row column (get_or d.grid.rows row []) d
+over_blanks columns w c row column style d is inside width fits =
+    let cells = get_or d.grid.rows row [] in
+    let n = suc (length (half w)) in
+    let blanked = splice column (replicate n (cell_of style 32)) cells in
+    let e = written_at_rows row column (set d.grid.rows row blanked) style d in
+    let new = Holds c [] style ∷ half w in
+    char_written w (columns c) c e is fits
+    ∙ ap (λ (r : List Cell). written_at row column n (splice column new r) style e) (get_or-set_same d.grid.rows row blanked [] inside)
+    ∙ ap (λ (r : List Cell). written_at row column n r style e)
+    (splice_again column (cell_of style 32) (replicate (length (half w)) (cell_of style 32)) new cells (omega arith) refl (ap suc (length-replicate (length (half w)) (cell_of style 32))))
+    ∙ ap (λ (rs : List (List Cell)). written_at_rows row (column + n) rs style d) (set-set d.grid.rows row blanked (splice column new cells))
+
+-- a character, and those that join it, over blanks or over what is shown
+text_played : (columns : ℕ → ℕ) → columns 32 ≡ 1 → (t w : Bool) (c : ℕ) (js : List ℕ) (style : Style) (row column : ℕ) (k : Option Cursor) (d : Display)
+    → IsWide w (columns c) → Join columns js → IsReady row k d → column + (suc (length (half w))) ≤ d.grid.width
+    → after_signs columns (cond t [] (map Char (replicate (suc (length (half w))) 32) ++ MoveTo row column ∷ []) ++ map Char (c ∷ js)) (styled_by style (moved_to row column d))
+    ≡ with_joined w c js style row column (get_or d.grid.rows row []) d
+text_played columns space true w c js style row column k d is join ready fits =
+    let width : length (get_or d.grid.rows row []) ≡ d.grid.width = ready.width in
+    ap (after_signs columns (map Char js)) (char_written w (columns c) c (styled_by style (moved_to row column d)) is fits)
+    ∙ join_all columns w c style row column (get_or d.grid.rows row []) d js [] join (omega arith) ready.inside
+text_played columns space false w c js style row column k d is join ready fits =
+    let width : length (get_or d.grid.rows row []) ≡ d.grid.width = ready.width in
+    after_append columns (map Char (replicate (suc (length (half w))) 32) ++ MoveTo row column ∷ []) (map Char (c ∷ js)) (styled_by style (moved_to row column d))
+    ∙ ap (after_signs columns (map Char (c ∷ js))) (cleared columns space w row column style d ready.low ready.inside ready.width fits)
+    ∙ ap (after_signs columns (map Char js)) (over_blanks columns w c row column style d is ready.inside ready.width fits)
+    ∙ join_all columns w c style row column (get_or d.grid.rows row []) d js [] join (omega arith) ready.inside
+
+-- a character of these cells
+change_played : (columns : ℕ → ℕ) → columns 32 ≡ 1 → (w : Bool) (c : ℕ) (js : List ℕ) (style : Style) (row column : ℕ) (k : Option Cursor) (d : Display)
     → IsWide w (columns c) → Join columns js → IsReady row k d → column + (suc (length (half w))) ≤ d.grid.width
     → after_signs columns (change_signs row column (Holds c js style ∷ half w) k) d ≡ with_joined w c js style row column (get_or d.grid.rows row []) d
-change_played columns w c js style row column k d is join ready fits =
+change_played columns space w c js style row column k d is join ready fits =
+    let new = Holds c js style ∷ half w in
     let styling = style_change style k in
-    let text = Char c ∷ map Char js in
+    let text = clearing row column new ++ map Char (c ∷ js) in
     let there = moved_to row column d in
     let width : length (get_or d.grid.rows row []) ≡ d.grid.width = ready.width in
     after_append columns (motion row column k) (styling ++ text) d
     ∙ ap (after_signs columns (styling ++ text)) (moved columns row column k d ready.knows ready.low (omega arith))
     ∙ after_append columns styling text there
     ∙ ap (after_signs columns text) (styled columns style k there (knows_style k d row column ready.knows))
-    ∙ ap (after_signs columns (map Char js)) (char_written w (columns c) c (styled_by style there) is fits)
-    ∙ join_all columns w c style row column (get_or d.grid.rows row []) d js [] join (omega arith) ready.inside
+    ∙ text_played columns space (are_certain new) w c js style row column k d is join ready fits
+
+-- a character of two columns isn't shown in one by every terminal
+uncertain : (c : ℕ) (js : List ℕ) (style : Style) → are_certain (Holds c js style ∷ Half ∷ []) ≡ true → ⊥
+uncertain c [] style is = cc
+uncertain c (j ∷ js) style is = cc
 
 -- what a change leaves
 pub record IsDrawn (row : ℕ) (cells : List Cell) (k : Option Cursor) (g : Sheet) (d : Display) : Type 0 where
   pub grid : d.grid ≡ record g { rows = set g.rows row cells }
   pub knows : Knows k d
 
-drawn_change : (columns : ℕ → ℕ) (row column : ℕ) (cells : List Cell) (k : Option Cursor) (d : Display)
+-- the cursor behind a character, if it is known
+knows_behind : (t : Bool) (k : Cursor) (d : Display) → (t ≡ true → d.cursor ≡ k) → Knows (cond t (Some k) None) d
+knows_behind true k d is = is refl
+knows_behind false k d is = tt
+
+drawn_change : (columns : ℕ → ℕ) → columns 32 ≡ 1 → (row column : ℕ) (cells : List Cell) (k : Option Cursor) (d : Display)
     → IsCharacter columns cells → IsReady row k d → column + length cells ≤ d.grid.width
     → IsDrawn row (splice column cells (get_or d.grid.rows row [])) (cursor_behind row column cells k) d.grid (after_signs columns (change_signs row column cells k) d)
-drawn_change columns row column [] k d is ready fits = absurd is
-drawn_change columns row column (Half ∷ cells) k d is ready fits = absurd is
-drawn_change columns row column (Holds c js style ∷ []) k d is ready fits =
-    let played = change_played columns false c js style row column k d is.0 is.1 ready (omega arith) in
-    record { grid = ap (λ (e : Display). e.grid) played; knows = ap (λ (e : Display). e.cursor) played }
-drawn_change columns row column (Holds c js style ∷ Half ∷ []) k d is ready fits =
-    let played = change_played columns true c js style row column k d is.0 is.1 ready (omega arith) in
-    record { grid = ap (λ (e : Display). e.grid) played; knows = ap (λ (e : Display). e.cursor) played }
-drawn_change columns row column (Holds c js style ∷ Half ∷ a ∷ cells) k d is ready fits = absurd is
-drawn_change columns row column (Holds c js style ∷ Holds e ks look ∷ cells) k d is ready fits = absurd is
+drawn_change columns space row column [] k d is ready fits = absurd is
+drawn_change columns space row column (Half ∷ cells) k d is ready fits = absurd is
+drawn_change columns space row column (Holds c js style ∷ []) k d is ready fits =
+    let played = change_played columns space false c js style row column k d is.0 is.1 ready (omega arith) in
+    let next = after_signs columns (change_signs row column (Holds c js style ∷ []) k) d in
+    record {
+      grid = ap (λ (e : Display). e.grid) played;
+      knows = knows_behind (are_certain (Holds c js style ∷ [])) (record { row = row; column = column + 1; style = style }) next (λ is. ap (λ (e : Display). e.cursor) played);
+    }
+drawn_change columns space row column (Holds c js style ∷ Half ∷ []) k d is ready fits =
+    let played = change_played columns space true c js style row column k d is.0 is.1 ready (omega arith) in
+    let next = after_signs columns (change_signs row column (Holds c js style ∷ Half ∷ []) k) d in
+    record {
+      grid = ap (λ (e : Display). e.grid) played;
+      knows = knows_behind (are_certain (Holds c js style ∷ Half ∷ [])) (record { row = row; column = column + 1; style = style }) next (λ is. absurd (uncertain c js style is));
+    }
+drawn_change columns space row column (Holds c js style ∷ Half ∷ a ∷ cells) k d is ready fits = absurd is
+drawn_change columns space row column (Holds c js style ∷ Holds e ks look ∷ cells) k d is ready fits = absurd is
 
 -- changes that are characters inside a row of this width
 abbrev pub Fit : (ℕ → ℕ) → ℕ → List (ℕ × List Cell) → Type 0
 Fit columns width changes = AllByRecursion (λ c. IsCharacter columns c.1 × (c.0 + length c.1 ≤ width)) changes
 
-pub drawn_row : (columns : ℕ → ℕ) (row : ℕ) (changes : List (ℕ × List Cell)) (k : Option Cursor) (d : Display) → Fit columns d.grid.width changes → IsReady row k d
+pub drawn_row : (columns : ℕ → ℕ) → columns 32 ≡ 1 → (row : ℕ) (changes : List (ℕ × List Cell)) (k : Option Cursor) (d : Display) → Fit columns d.grid.width changes → IsReady row k d
     → IsDrawn row (redrawn changes (get_or d.grid.rows row [])) (row_cursor row changes k) d.grid (after_signs columns (row_signs row changes k) d)
-drawn_row columns row [] k d fit ready = record { grid = ap (λ (rs : List (List Cell)). record d.grid { rows = rs }) (sym (set-get_or d.grid.rows row [])); knows = ready.knows }
-drawn_row columns row (c ∷ changes) k d fit ready =
+drawn_row columns space row [] k d fit ready = record { grid = ap (λ (rs : List (List Cell)). record d.grid { rows = rs }) (sym (set-get_or d.grid.rows row [])); knows = ready.knows }
+drawn_row columns space row (c ∷ changes) k d fit ready =
     let cells = get_or d.grid.rows row [] in
     let new = splice c.0 c.1 cells in
     let next = after_signs columns (change_signs row c.0 c.1 k) d in
     let behind = cursor_behind row c.0 c.1 k in
-    let first = drawn_change columns row c.0 c.1 k d fit.0.0 ready fit.0.1 in
+    let first = drawn_change columns space row c.0 c.1 k d fit.0.0 ready fit.0.1 in
     let same : get_or next.grid.rows row [] ≡ new = ap (λ (g : Sheet). get_or g.rows row []) first.grid ∙ get_or-set_same d.grid.rows row new [] ready.inside in
     let wide : next.grid.width ≡ d.grid.width = ap (λ (g : Sheet). g.width) first.grid in
     let high : next.grid.height ≡ d.grid.height = ap (λ (g : Sheet). g.height) first.grid in
     let many : length next.grid.rows ≡ length d.grid.rows = ap (λ (g : Sheet). length g.rows) first.grid ∙ length-set d.grid.rows row new in
     let size : length new ≡ length cells = length-splice c.0 c.1 cells (omega (arith, ready.width, fit.0.1)) in
-    let others = drawn_row columns row changes behind next (subst (λ (n : ℕ). Fit columns n changes) (sym wide) fit.1)
+    let others = drawn_row columns space row changes behind next (subst (λ (n : ℕ). Fit columns n changes) (sym wide) fit.1)
     (record { knows = first.knows; low = omega (arith, ready.low); inside = omega (arith, ready.inside); width = ap length same ∙ size ∙ ready.width ∙ sym wide }) in
     let split = after_append columns (change_signs row c.0 c.1 k) (row_signs row changes behind) d in
     subst (IsDrawn row (redrawn changes new) (row_cursor row changes behind) d.grid) (sym split)

@@ -64,21 +64,21 @@ after_grid columns a b d = ap (λ (e : Display). e.grid) (after_append columns a
 abbrev IsGood : (ℕ → ℕ) → ℕ → List Cell → Type 0
 IsGood columns width row = IsProper columns row × (length row ≡ width)
 
-drawn_rows : (columns : ℕ → ℕ) (old new done : List (List Cell)) (k : Option Cursor) (d : Display)
+drawn_rows : (columns : ℕ → ℕ) → columns 32 ≡ 1 → (old new done : List (List Cell)) (k : Option Cursor) (d : Display)
     → AllByRecursion (IsGood columns d.grid.width) old → AllByRecursion (IsGood columns d.grid.width) new → length old ≡ length new
     → d.grid.rows ≡ done ++ old → length done + length old ≡ d.grid.height → Knows k d
     → (after_signs columns (rows_signs (length done) old new k) d).grid ≡ record d.grid { rows = done ++ new }
-drawn_rows columns [] [] done k d good proper size shown high knows = ap (λ (rs : List (List Cell)). record d.grid { rows = rs }) shown
-drawn_rows columns [] (b ∷ new) done k d good proper size shown high knows = absurd (omega arith)
-drawn_rows columns (a ∷ old) [] done k d good proper size shown high knows = absurd (omega arith)
-drawn_rows columns (a ∷ old) (b ∷ new) done k d good proper size shown high knows =
+drawn_rows columns space [] [] done k d good proper size shown high knows = ap (λ (rs : List (List Cell)). record d.grid { rows = rs }) shown
+drawn_rows columns space [] (b ∷ new) done k d good proper size shown high knows = absurd (omega arith)
+drawn_rows columns space (a ∷ old) [] done k d good proper size shown high knows = absurd (omega arith)
+drawn_rows columns space (a ∷ old) (b ∷ new) done k d good proper size shown high knows =
     let row = length done in
     let changes = changes_of a b in
     let next = after_signs columns (row_signs row changes k) d in
     let here : get_or d.grid.rows row [] ≡ a = ap (λ (rs : List (List Cell)). get_or rs row []) shown ∙ get_or_at done a old [] row refl in
     let many : length d.grid.rows ≡ length done + length (a ∷ old) = ap length shown ∙ length-append done (a ∷ old) in
     let fit : Fit columns d.grid.width changes = changes_fit columns same_cell d.grid.width b a 0 proper.0.0 (good.0.1 ∙ sym proper.0.1) (omega (arith, proper.0.1)) in
-    let drawn = drawn_row columns row changes k d fit (record { knows = knows; low = omega arith; inside = omega arith; width = ap length here ∙ good.0.1 }) in
+    let drawn = drawn_row columns space row changes k d fit (record { knows = knows; low = omega arith; inside = omega arith; width = ap length here ∙ good.0.1 }) in
     let becomes : redrawn changes (get_or d.grid.rows row []) ≡ b = ap (redrawn changes) here ∙ redrawn_row columns same_cell a b (sound same.cells) good.0.0 proper.0.0 (good.0.1 ∙ sym proper.0.1) in
     let grid : next.grid ≡ record d.grid { rows = (done ++ b ∷ []) ++ old } =
     drawn.grid
@@ -91,7 +91,7 @@ drawn_rows columns (a ∷ old) (b ∷ new) done k d good proper size shown high 
     let behind = row_cursor row changes k in
     after_grid columns (row_signs row changes k) (rows_signs (row + 1) old new behind) d
     ∙ ap (λ (n : ℕ). (after_signs columns (rows_signs n old new behind) next).grid) at
-    ∙ drawn_rows columns old new (done ++ b ∷ []) behind next (subst (λ (n : ℕ). AllByRecursion (IsGood columns n) old) wide good.1) (subst (λ (n : ℕ). AllByRecursion (IsGood columns n) new) wide proper.1)
+    ∙ drawn_rows columns space old new (done ++ b ∷ []) behind next (subst (λ (n : ℕ). AllByRecursion (IsGood columns n) old) wide good.1) (subst (λ (n : ℕ). AllByRecursion (IsGood columns n) new) wide proper.1)
     (omega arith) (ap (λ (g : Sheet). g.rows) grid) (omega arith) drawn.knows
     ∙ ap (λ (g : Sheet). record g { rows = (done ++ b ∷ []) ++ new }) grid
     ∙ ap (λ (rs : List (List Cell)). record d.grid { rows = rs }) (append_assoc done (b ∷ []) new)
@@ -106,12 +106,12 @@ good_rows : (columns : ℕ → ℕ) (g : Sheet) → IsProperSheet columns g → 
 good_rows columns g h =
     both_rows columns g.width g.rows (recursion_from_All (IsProper columns) g.rows h.proper) (recursion_from_All (λ (row : List Cell). length row ≡ g.width) g.rows h.sheet.each)
 
-pub draws_next : (columns : ℕ → ℕ) → DrawsNext columns
-draws_next columns after d before proper one_size =
+pub draws_next : (columns : ℕ → ℕ) → columns 32 ≡ 1 → DrawsNext columns
+draws_next columns space after d before proper one_size =
     let w : d.grid.width ≡ after.width = one_size.width in
     let h : d.grid.height ≡ after.height = one_size.height in
     let new = subst (λ (n : ℕ). AllByRecursion (IsGood columns n) after.rows) (sym w) (good_rows columns after proper) in
-    drawn_rows columns d.grid.rows after.rows [] None d (good_rows columns d.grid before) new
+    drawn_rows columns space d.grid.rows after.rows [] None d (good_rows columns d.grid before) new
     (omega (arith, before.sheet.high, proper.sheet.high)) refl (omega (arith, before.sheet.high)) tt
     ∙ (λ i. record { width = w i; height = h i; rows = after.rows })
 
@@ -120,5 +120,5 @@ draws_first columns space after d proper one_size =
     let start = after_signs columns (SetStyle plain ∷ EraseScreen ∷ []) d in
     let blank : start.grid ≡ blank_sheet after.width after.height = λ i. blank_sheet (one_size.width i) (one_size.height i) in
     ap (λ (g : Sheet). (after_signs columns (difference g after) start).grid) (sym blank)
-    ∙ draws_next columns after start (subst (IsProperSheet columns) (sym blank) (proper_blank columns space after.width after.height)) proper
+    ∙ draws_next columns space after start (subst (IsProperSheet columns) (sym blank) (proper_blank columns space after.width after.height)) proper
     (record { width = one_size.width; height = one_size.height })

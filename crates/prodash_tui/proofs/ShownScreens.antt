@@ -1,6 +1,6 @@
 -- What a display shows after the frames of a screen.
-use Rattle.std.proofs.Common.{◌≡◌, ℕ, zero, suc, ◌+◌, Bool, true, false, cond, nat_lt, Option, Some, None, List, [], ◌∷◌, ◌++◌, map, refl, sym, ap, subst, ◌∙◌}
-use Rattle.std.specs.Prelude.{unwrap_or}
+use Rattle.std.proofs.Common.{◌≡◌, ℕ, zero, suc, ◌+◌, Bool, true, false, cond, nat_lt, Option, Some, None, List, [], ◌∷◌, ◌++◌, length, map, refl, sym, ap, subst, ◌∙◌}
+use Rattle.std.specs.Prelude.{replicate, unwrap_or}
 use Rattle.std.specs.List.{AllByRecursion}
 use Rattle.std.proofs.lemmas.Bool.{and_parts}
 use Rattle.std.proofs.lemmas.List.Elements.{recursion_from_All}
@@ -10,12 +10,12 @@ use Rattle.prodash_tui.specs.declared.cursor.Cursor.{Cursor}
 use Rattle.prodash_tui.specs.declared.sign.Sign.{Sign}
 use Rattle.prodash_tui.specs.declared.sign.Sign.TheVariants.{Char, MoveTo, SetStyle, EraseScreen, EnterAlternate, LeaveAlternate, HideCursor, ShowCursor, NoWrap, Wrap}
 use Rattle.prodash_tui.specs.declared.style.Style.{Style}
-use Rattle.prodash_tui.specs.Cells.{same_style}
+use Rattle.prodash_tui.specs.Cells.{plain, same_style}
 use Rattle.prodash_tui.specs.Texts.{cells_with, cut}
 use Rattle.prodash_tui.specs.Grids.{Sheet, blank_sheet}
 use Rattle.prodash_tui.specs.Differences.{IsProperSheet}
 use Rattle.prodash_tui.specs.Displays.{Display, after_char, after_sign, after_signs, at_next_row, at_row, goes_on, scrolled}
-use Rattle.prodash_tui.specs.Frames.{change_signs, changes_of, cursor_behind, difference, first_frame, is_at, motion, row_cursor, row_signs, rows_signs, style_change}
+use Rattle.prodash_tui.specs.Frames.{are_certain, change_signs, changes_of, clearing, cursor_behind, difference, first_frame, is_at, motion, row_cursor, row_signs, rows_signs, style_change}
 use Rattle.prodash_tui.specs.Screens.{Agrees, Buffers, DrawsEntered, DrawsFrames, Fits, Restores, RestoresFrames, StaysOnScreen, drawn, enter, follows, frame, frames, have_one_size, leave, unknown}
 use Rattle.prodash_tui.proofs.PlayedChanges.{after_append}
 use Rattle.prodash_tui.proofs.PlayedFrames.{draws_first, draws_next}
@@ -49,8 +49,12 @@ change_stays : (row column : ℕ) (cells : List Cell) (k : Option Cursor) → St
 change_stays row column [] k = tt
 change_stays row column (Half ∷ cells) k = tt
 change_stays row column (Holds c joined style ∷ cells) k =
-    stay_append (motion row column k) (style_change style k ++ map Char (c ∷ joined)) (motion_stays row column k)
-    (stay_append (style_change style k) (map Char (c ∷ joined)) (style_stays style k) (chars_stay (c ∷ joined)))
+    let new = Holds c joined style ∷ cells in
+    let blanks = replicate (length new) 32 in
+    let cleared = stay_if (are_certain new) [] (map Char blanks ++ MoveTo row column ∷ []) tt (stay_append (map Char blanks) (MoveTo row column ∷ []) (chars_stay blanks) (tt, tt)) in
+    let text = stay_append (clearing row column new) (map Char (c ∷ joined)) cleared (chars_stay (c ∷ joined)) in
+    stay_append (motion row column k) (style_change style k ++ (clearing row column new ++ map Char (c ∷ joined))) (motion_stays row column k)
+    (stay_append (style_change style k) (clearing row column new ++ map Char (c ∷ joined)) (style_stays style k) text)
 
 row_stays : (row : ℕ) (changes : List (ℕ × List Cell)) (k : Option Cursor) → Stay (row_signs row changes k)
 row_stays row [] k = tt
@@ -114,9 +118,10 @@ signs_keep columns (s ∷ signs) d stay = signs_keep columns signs (after_sign c
 pub left_again : (columns : ℕ → ℕ) (d e : Display) → d.main ≡ None → e.main ≡ Some (d.grid, d.cursor)
     → after_signs columns leave e ≡ record d { shows_cursor = true; wraps = true }
 left_again columns d e none kept =
+    let blank = after_signs columns (SetStyle plain ∷ EraseScreen ∷ []) e in
     λ i. record {
-      grid = (unwrap_or (kept i) (e.grid, e.cursor)).0;
-      cursor = (unwrap_or (kept i) (e.grid, e.cursor)).1;
+      grid = (unwrap_or (kept i) (blank.grid, blank.cursor)).0;
+      cursor = (unwrap_or (kept i) (blank.grid, blank.cursor)).1;
       main = sym none i;
       shows_cursor = true;
       wraps = true;
@@ -145,7 +150,7 @@ draws_frame columns space b d agrees fits =
       | true ↦ λ is.
           let shown = agrees (and_parts b.is_shown (have_one_size b.front b.back) is).0 in
           ap (λ (g : Sheet). (after_signs columns (difference g b.back) d).grid) (sym shown.1)
-          ∙ draws_next columns b.back d (subst (IsProperSheet columns) (sym shown.1) shown.0) fits.proper fits.size
+          ∙ draws_next columns space b.back d (subst (IsProperSheet columns) (sym shown.1) shown.0) fits.proper fits.size
       | false ↦ λ is. draws_first columns space b.back d fits.proper fits.size
     ] in
     go (follows b) refl

@@ -1,6 +1,6 @@
 -- Rows in which halves of wide characters are blanked, and rows with other cells in them.
 use Rattle.std.proofs.Common.{◌≡◌, ℕ, zero, suc, ◌+◌, ◌-◌, ◌<◌, ◌≤◌, Bool, true, false, cond, List, [], ◌∷◌, ◌++◌, length, set, take, drop, replicate, refl, sym, ap, ◌∙◌, append_assoc, length-append, arith}
-use Rattle.std.proofs.lemmas.List.{take-append-drop, get_or-append-add, get_or_append_left, get_or-append_right, get_or-take, set-append_left, set_split, take_at, drop_at, drop-drop, drop_more, get_or-drop, length-set, length-drop, length-take-le}
+use Rattle.std.proofs.lemmas.List.{take-append-drop, get_or_at, get_or-append-add, get_or_append_left, get_or-append_right, get_or-take, set-append_left, set_split, take_at, drop_at, drop-drop, drop_more, get_or-drop, length-set, length-drop, length-take-le}
 use Rattle.prodash_line.proofs.ErasedRows.{erase_next}
 use Rattle.prodash_tui.specs.declared.cell.Cell.{Cell}
 use Rattle.prodash_tui.specs.declared.cell.Cell.TheVariants.{Holds, Half}
@@ -136,6 +136,25 @@ splice_at before new rest =
     ∙ ap (λ (cs : List Cell). before ++ (new ++ healed cs)) behind
     ∙ ap (λ (cs : List Cell). before ++ (new ++ cs)) (healed_rest (length new) rest)
     ∙ sym (append_assoc before new (healed (drop (length new) rest)))
+
+-- cells in place of as many others, of which the first is no half
+pub splice_again : (x : ℕ) (h : Cell) (a b cells : List Cell) → x ≤ length cells → is_half h ≡ false → length (h ∷ a) ≡ length b
+    → splice x b (splice x (h ∷ a) cells) ≡ splice x b cells
+splice_again x h a b cells fits whole size =
+    let before = front x cells in
+    let rest = drop (x + length (h ∷ a)) cells in
+    let others = a ++ healed rest in
+    let row = splice x (h ∷ a) cells in
+    let n : length before ≡ x = length-front x cells fits in
+    let first : cell_at row x ≡ h = get_or_at before h others blank_cell x n in
+    let kept : front x row ≡ before =
+    ap (λ (t : Bool). cond t (set (take x row) (x - 1) blank_cell) (take x row)) (ap is_half first ∙ whole) ∙ take_at before (h ∷ others) x n in
+    let behind : drop (x + length b) row ≡ healed rest =
+    sym (drop-drop (length b) x row) ∙ ap (drop (length b)) (drop_at before (h ∷ others) x n) ∙ drop_at (h ∷ a) (healed rest) (length b) size in
+    ap (λ (cs : List Cell). cs ++ (b ++ healed (drop (x + length b) row))) kept
+    ∙ ap (λ (cs : List Cell). before ++ (b ++ healed cs)) behind
+    ∙ ap (λ (cs : List Cell). before ++ (b ++ cs)) (healed_again rest)
+    ∙ ap (λ (k : ℕ). before ++ (b ++ healed (drop (x + k) cells))) size
 
 -- ---- the cells of such rows
 

@@ -126,7 +126,7 @@ goes_on title lines = refl
 
 -- at the end the alternate screen is left if it was entered
 pub leaves : (title : String Global) (lines : Vec Line)
-    → closing (shown (window (code "H")) (board title lines None)).screen ≡ LeaveAlternate ∷ Wrap ∷ ShowCursor ∷ []
+    → closing (shown (window (code "H")) (board title lines None)).screen ≡ SetStyle plain ∷ EraseScreen ∷ LeaveAlternate ∷ Wrap ∷ ShowCursor ∷ []
 leaves title lines = refl
 
 pub leaves_none : (title : String Global) (lines : Vec Line) → closing (board title lines None).screen ≡ []
@@ -157,5 +157,5 @@ entered = EnterAlternate ∷ HideCursor ∷ NoWrap ∷ whole
 pub covered : (after_signs one_column entered display).grid ≡ window (code "H")
 covered = refl
 
-pub back_again : after_signs one_column (entered ++ LeaveAlternate ∷ Wrap ∷ ShowCursor ∷ []) display ≡ display
+pub back_again : after_signs one_column (entered ++ SetStyle plain ∷ EraseScreen ∷ LeaveAlternate ∷ Wrap ∷ ShowCursor ∷ []) display ≡ display
 back_again = refl

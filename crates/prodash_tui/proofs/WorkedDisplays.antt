@@ -135,10 +135,16 @@ pub changed_style : difference before (grid 2 ((cell_of bold 97 ∷ row (codes "
     ≡ MoveTo 0 0 ∷ SetStyle bold ∷ Char 97 ∷ SetStyle plain ∷ Char 88 ∷ []
 changed_style = refl
 
--- a wide character, whose second half isn't written, and what joins it; behind it the cursor is there already
+-- a wide character, whose second half isn't written, and what joins it: its cells are blanked first, and a motion is behind it
 pub wide_change : difference before (grid 2 ((Holds 0x65E5 (0x301 ∷ []) plain ∷ Half ∷ row (codes "Xd")) ∷ row (codes "efgh") ∷ []))
-    ≡ MoveTo 0 0 ∷ SetStyle plain ∷ Char 0x65E5 ∷ Char 0x301 ∷ Char 88 ∷ []
+    ≡ MoveTo 0 0 ∷ SetStyle plain ∷ Char 32 ∷ Char 32 ∷ MoveTo 0 0 ∷ Char 0x65E5 ∷ Char 0x301 ∷ MoveTo 0 2 ∷ SetStyle plain ∷ Char 88 ∷ []
 wide_change = refl
+
+-- on a terminal that shows that character in one column nothing is left in the other
+pub narrow_wide : (after_signs (λ c. 1) (difference before (grid 2 ((cell_of plain 0x65E5 ∷ Half ∷ row (codes "Xd")) ∷ row (codes "efgh") ∷ [])))
+    (record (display 0 []) { grid = before })).grid
+    ≡ grid 2 ((cell_of plain 0x65E5 ∷ row (codes " Xd")) ∷ row (codes "efgh") ∷ [])
+narrow_wide = refl
 
 -- a narrow character over a wide one: the blank behind it is written
 pub narrow_change : difference (grid 1 ((cell_of plain 0x65E5 ∷ Half ∷ row (codes "cd")) ∷ [])) (grid 1 (row (codes "a cd") ∷ []))

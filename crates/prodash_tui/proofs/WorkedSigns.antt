@@ -32,5 +32,5 @@ erased = refl
 pub entered : spelling enter ≡ 27 ∷ codes "[?1049h" ++ (27 ∷ codes "[?25l" ++ 27 ∷ codes "[?7l")
 entered = refl
 
-pub left : spelling leave ≡ 27 ∷ codes "[?1049l" ++ (27 ∷ codes "[?7h" ++ 27 ∷ codes "[?25h")
+pub left : spelling leave ≡ 27 ∷ codes "[0m" ++ (27 ∷ codes "[2J" ++ (27 ∷ codes "[?1049l" ++ (27 ∷ codes "[?7h" ++ 27 ∷ codes "[?25h")))
 left = refl

@@ -1,5 +1,6 @@
 -- The signs of what has changed between two grids, and what a display shows after them.
-use Rattle.std.specs.Prelude.{◌≡◌, ℕ, ◌+◌, Bool, ◌&&◌, nat_eq, List, [], ◌∷◌, ◌++◌, length, map, Option, Some, None, if◌then◌else◌}
+use Rattle.std.specs.Prelude.{◌≡◌, ℕ, ◌+◌, Bool, false, ◌&&◌, ◌||◌, nat_eq, List, [], ◌∷◌, ◌++◌, length, map, replicate, Option, Some, None, if◌then◌else◌}
+use Rattle.std.specs.Int.{is_in_range}
 use Rattle.prodash_tui.specs.declared.cell.Cell.{Cell}
 use Rattle.prodash_tui.specs.declared.cell.Cell.TheVariants.{Holds}
 use Rattle.prodash_tui.specs.declared.cursor.Cursor.{Cursor}
@@ -25,14 +26,29 @@ abbrev pub style_change : Style → Option Cursor → List Sign
 style_change style None = SetStyle style ∷ []
 style_change style (Some cursor) = if same_style cursor.style style then [] else SetStyle style ∷ []
 
+-- does every terminal show the character in one column? printable ASCII, box drawing and block elements
+abbrev pub is_certain : ℕ → Bool
+is_certain c = is_in_range 0x20 0x7E c || is_in_range 0x2500 0x259F c
+
+-- are these the cells of such a character, which none has joined?
+abbrev pub are_certain : List Cell → Bool
+are_certain (Holds c [] style ∷ []) = is_certain c
+are_certain _ = false
+
+-- blanks in the cells of a character that a terminal may show in other columns, and the motion back to the first of them
+abbrev pub clearing : ℕ → ℕ → List Cell → List Sign
+clearing row column cells = if are_certain cells then [] else map Char (replicate (length cells) 32) ++ MoveTo row column ∷ []
+
 -- the signs of a character at this row and column, with those that have joined it
 abbrev pub change_signs : ℕ → ℕ → List Cell → Option Cursor → List Sign
-change_signs row column (Holds c joined style ∷ cells) cursor = motion row column cursor ++ (style_change style cursor ++ map Char (c ∷ joined))
+change_signs row column (Holds c joined style ∷ cells) cursor =
+    motion row column cursor ++ (style_change style cursor ++ (clearing row column (Holds c joined style ∷ cells) ++ map Char (c ∷ joined)))
 change_signs row column _ cursor = []
 
--- the cursor behind it
+-- the cursor behind it, which is known only behind a character that every terminal shows in one column
 abbrev pub cursor_behind : ℕ → ℕ → List Cell → Option Cursor → Option Cursor
-cursor_behind row column (Holds c joined style ∷ cells) cursor = Some (record { row = row; column = column + length (Holds c joined style ∷ cells); style = style })
+cursor_behind row column (Holds c joined style ∷ cells) cursor =
+    if are_certain (Holds c joined style ∷ cells) then Some (record { row = row; column = column + 1; style = style }) else None
 cursor_behind row column _ cursor = cursor
 
 -- the signs of the changes of a row

@@ -2,7 +2,8 @@
 use Rattle.std.specs.Prelude.{◌≡◌, ℕ, Bool, true, false, ◌&&◌, nat_eq, List, [], ◌∷◌, ◌++◌, None, ⊤, if◌then◌else◌}
 use Rattle.std.specs.List.{All}
 use Rattle.prodash_tui.specs.declared.sign.Sign.{Sign}
-use Rattle.prodash_tui.specs.declared.sign.Sign.TheVariants.{EnterAlternate, LeaveAlternate, HideCursor, ShowCursor, NoWrap, Wrap}
+use Rattle.prodash_tui.specs.declared.sign.Sign.TheVariants.{SetStyle, EraseScreen, EnterAlternate, LeaveAlternate, HideCursor, ShowCursor, NoWrap, Wrap}
+use Rattle.prodash_tui.specs.Cells.{plain}
 use Rattle.prodash_tui.specs.Differences.{IsProperSheet}
 use Rattle.prodash_tui.specs.Grids.{Sheet, blank_sheet}
 use Rattle.prodash_tui.specs.Displays.{Display, after_signs}
@@ -12,9 +13,9 @@ use Rattle.prodash_tui.specs.Frames.{HaveOneSize, difference, first_frame}
 abbrev pub enter : List Sign
 enter = EnterAlternate ∷ HideCursor ∷ NoWrap ∷ []
 
--- the signs after the last frame
+-- the signs after the last frame: nothing of it is left on the alternate screen, since a terminal that has grown may show that below the main one
 abbrev pub leave : List Sign
-leave = LeaveAlternate ∷ Wrap ∷ ShowCursor ∷ []
+leave = SetStyle plain ∷ EraseScreen ∷ LeaveAlternate ∷ Wrap ∷ ShowCursor ∷ []
 
 -- the grid that was drawn last, the one that is drawn next, and whether the terminal is known to show the first
 pub record Buffers : Type 0 where

@@ -5,9 +5,9 @@
 ghost use Rattle.std.specs.Prelude.{◌≡◌, ◌+◌, ◌^◌, ◌<◌, ◌∷◌, ◌++◌, length, map, take, None, IsOkUnless, OnErr, OnOk};
 ghost use Rattle.prodash_base.specs.Appending.{IsPrefix};
 ghost use Rattle.prodash_tui.specs.Cells.{plain};
-ghost use Rattle.prodash_tui.specs.Frames.{difference, first_frame, motion, rows_signs, style_change};
+ghost use Rattle.prodash_tui.specs.Frames.{difference, first_frame, is_certain, motion, rows_signs, style_change};
 ghost use Rattle.prodash_tui.specs.declared.sign.Sign.TheVariants.{Char};
-ghost use Rattle.prodash_tui.specs.plumbing.Appended.{AreCounted, Spells, all_over_blank, cursor_over_blank, cursor_past, cursor_past_row, first_signs, signs_at, signs_of_row, signs_over_blank};
+ghost use Rattle.prodash_tui.specs.plumbing.Appended.{AreCounted, Spells, all_over_blank, begins_certain, begins_wide, clearing_at, cursor_over_blank, cursor_past, cursor_past_row, first_signs, known_behind, signs_at, signs_of_row, signs_over_blank};
 
 use crate::cell::Cell;
 use crate::cursor::Cursor;
@@ -61,29 +61,96 @@ fn push_chars(out: &mut Vec<u8>, chars: &[char]) -> Result<(), AllocError>
     Ok(())
 }
 
-/// Appends a character in row `y` and column `x`, with those that have joined it.
-fn push_cell(
+/// Returns whether every terminal shows a character in one column: printable ASCII, box drawing and
+/// block elements. Others have as many columns as `unicode_width` counts, or as the terminal takes
+/// them for.
+fn is_certain(c: char) -> bool
+    ensures { result ≡ is_certain c }
+{
+    matches!(c, ' '..='~' | '\u{2500}'..='\u{259F}')
+}
+
+/// Returns whether the cells begin with a character that has two of them.
+fn begins_wide(cells: &[PackedCell]) -> bool
+    ensures { result ≡ begins_wide cells.now }
+{
+    match cells.get(1) {
+        Some(cell) => is_half(cell),
+        None => false,
+    }
+}
+
+/// Returns whether the cells begin with a character that every terminal shows in one column, and
+/// that no other has joined.
+fn begins_certain(cells: &[PackedCell]) -> bool
+    ensures { result ≡ begins_certain cells.now }
+{
+    let Some(first) = cells.first() else {
+        return false;
+    };
+    let Cell::Holds(c, joined, _) = first.get() else {
+        return false;
+    };
+    if begins_wide(cells) {
+        return false;
+    }
+    joined.as_slice().is_empty() && is_certain(c)
+}
+
+/// Appends blanks in the cells of the character that the cells begin with, which is in row `y` and
+/// column `x`, and a motion back to it, unless every terminal shows it in one column. So nothing of
+/// what was shown is left there if a terminal shows it in fewer columns.
+fn push_clearing(out: &mut Vec<u8>, y: u16, x: u16, cells: &[PackedCell]) -> Result<(), AllocError>
+    ensures ok { Spells result out.old.items (clearing_at y x cells.now) out.new.items }
+    ensures kept { IsPrefix out.old.items out.new.items }
+{
+    if cells.is_empty() || begins_certain(cells) {
+        return Ok(());
+    }
+    push_sign(out, Sign::Char(' '))?;
+    if begins_wide(cells) {
+        push_sign(out, Sign::Char(' '))?;
+    }
+    push_sign(out, Sign::MoveTo(y, x))
+}
+
+/// Appends a character and those that have joined it, over blanks unless every terminal shows it in
+/// one column. The cells begin with it, and are in row `y` from column `x` on.
+fn push_text(
     out: &mut Vec<u8>,
     y: u16,
     x: u16,
+    cells: &[PackedCell],
     c: char,
     joined: &[char],
-    style: Style,
-    cursor: Option<Cursor>,
 ) -> Result<(), AllocError>
     ensures ok { Spells result out.old.items
-        (motion y x cursor ++ (style_change style cursor ++ map Char (c ∷ joined.now)))
-        out.new.items }
+        (clearing_at y x cells.now ++ map Char (c ∷ joined.now)) out.new.items }
     ensures kept { IsPrefix out.old.items out.new.items }
 {
-    push_motion(out, y, x, cursor)?;
-    push_style(out, style, cursor)?;
+    push_clearing(out, y, x, cells)?;
     push_sign(out, Sign::Char(c))?;
     push_chars(out, joined)
 }
 
+/// Returns where the cursor is behind the character that the cells begin with, which is in row `y`
+/// and column `x`, if every terminal shows that in one column.
+fn known_behind(y: u16, x: u16, cells: &[PackedCell], style: Style) -> Option<Cursor>
+    requires { x + length cells.now < 2 ^ 16 }
+    ensures { result ≡ known_behind y x cells.now style }
+{
+    if !begins_certain(cells) {
+        return None;
+    }
+    Some(Cursor {
+        row: y,
+        column: x + 1,
+        style,
+    })
+}
+
 /// Appends the character that the cells begin with, unless the cell before was the same. It is in
-/// row `y` and column `x`. Moves the cursor behind it.
+/// row `y` and column `x`. The cursor is then behind it, if it is known where that is.
 fn push_changed(
     out: &mut Vec<u8>,
     y: u16,
@@ -108,16 +175,10 @@ fn push_changed(
     let Cell::Holds(c, joined, style) = new.get() else {
         return Ok(());
     };
-    push_cell(out, y, x, c, joined.as_slice(), style, *cursor)?;
-    let wide = match cells.get(1) {
-        Some(cell) => is_half(cell),
-        None => false,
-    };
-    *cursor = Some(Cursor {
-        row: y,
-        column: x + 1 + u16::from(wide),
-        style,
-    });
+    push_motion(out, y, x, *cursor)?;
+    push_style(out, style, *cursor)?;
+    push_text(out, y, x, cells, c, joined.as_slice())?;
+    *cursor = known_behind(y, x, cells, style);
     Ok(())
 }
 

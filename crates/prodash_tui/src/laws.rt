@@ -87,7 +87,7 @@ pub fn redrawn()
 /// that one. On any display of its size the first frame of a proper grid leaves that grid, whatever
 /// was shown. This holds of any function from characters to columns that gives a space one.
 pub fn frames()
-    ensures next { (columns : ℕ → ℕ) → DrawsNext columns }
+    ensures next { (columns : ℕ → ℕ) → columns 32 ≡ 1 → DrawsNext columns }
     ensures first { (columns : ℕ → ℕ) → columns 32 ≡ 1 → DrawsFirst columns }
 {}
 

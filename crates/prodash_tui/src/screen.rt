@@ -8,6 +8,7 @@ ghost use Rattle.prodash_tui.specs.Lends.{LendsBack};
 use crate::frame::{push_difference, push_first, undo_if_refused};
 use crate::grid::Grid;
 use crate::sign::{Sign, push_signs};
+use crate::style::Style;
 use prodash_base::Refusal;
 use std::alloc::Global;
 use std::marker::Model;
@@ -164,8 +165,9 @@ impl Screen {
         drawn
     }
 
-    /// Appends what shows the main screen again as it was, with its cursor. The next grid is
-    /// written whole.
+    /// Appends what shows the main screen again as it was, with its cursor. The alternate screen is
+    /// erased before, since some terminals whose window has grown show rows of it below the main
+    /// one. The next grid is written whole.
     ///
     /// `Memory`: out of memory. The buffer and the screen are then as they were.
     pub fn leave(&mut self, out: &mut Vec<u8>) -> Result<(), Refusal>
@@ -175,7 +177,16 @@ impl Screen {
         ensures stays { OnErr result (self.new ≡ self.old) }
         ensures reason { IsOkUnless result Refusal.Memory }
     {
-        push_all(out, &[Sign::LeaveAlternate, Sign::Wrap, Sign::ShowCursor])?;
+        push_all(
+            out,
+            &[
+                Sign::SetStyle(Style::new()),
+                Sign::EraseScreen,
+                Sign::LeaveAlternate,
+                Sign::Wrap,
+                Sign::ShowCursor,
+            ],
+        )?;
         self.is_shown = false;
         Ok(())
     }

@@ -1,14 +1,35 @@
 -- What is appended for a part of a grid.
-use Rattle.std.specs.Prelude.{◌≡◌, ℕ, ◌^◌, ◌<◌, List, [], ◌∷◌, ◌++◌, length, map, Option, None, Result, OnOk, if◌then◌else◌}
+use Rattle.std.specs.Prelude.{◌≡◌, ℕ, ◌+◌, ◌^◌, ◌<◌, Bool, true, false, List, [], ◌∷◌, ◌++◌, length, map, Option, Some, None, Result, OnOk, if◌then◌else◌}
 use Rattle.std.specs.List.{All}
 use Rattle.prodash_tui.specs.declared.cell.Cell.{Cell}
+use Rattle.prodash_tui.specs.declared.cell.Cell.TheVariants.{Half}
 use Rattle.prodash_tui.specs.declared.cursor.Cursor.{Cursor}
 use Rattle.prodash_tui.specs.declared.sign.Sign.{Sign}
 use Rattle.prodash_tui.specs.declared.sign.Sign.TheVariants.{EraseScreen, SetStyle}
+use Rattle.prodash_tui.specs.declared.style.Style.{Style}
 use Rattle.prodash_tui.specs.Cells.{blank_cells, plain, same_cell}
 use Rattle.prodash_tui.specs.Differences.{half_of}
-use Rattle.prodash_tui.specs.Frames.{change_signs, changes_of, cursor_behind, row_cursor, row_signs, rows_signs}
+use Rattle.prodash_tui.specs.Frames.{are_certain, change_signs, changes_of, clearing, cursor_behind, row_cursor, row_signs, rows_signs}
 use Rattle.prodash_tui.specs.Signs.{spelling}
+
+-- do cells begin with a character that has two of them?
+abbrev pub begins_wide : List Cell → Bool
+begins_wide (a ∷ Half ∷ cells) = true
+begins_wide _ = false
+
+-- do cells begin with a character that every terminal shows in one column, and that none has joined?
+abbrev pub begins_certain : List Cell → Bool
+begins_certain [] = false
+begins_certain (a ∷ cells) = are_certain (a ∷ half_of cells)
+
+-- the cursor behind that character, in this style
+abbrev pub known_behind : ℕ → ℕ → List Cell → Style → Option Cursor
+known_behind row column cells style = if begins_certain cells then Some (record { row = row; column = column + 1; style = style }) else None
+
+-- what blanks the cells of the character that cells begin with
+abbrev pub clearing_at : ℕ → ℕ → List Cell → List Sign
+clearing_at row column [] = []
+clearing_at row column (a ∷ cells) = clearing row column (a ∷ half_of cells)
 
 -- the signs of the character that cells begin with, if the cell before was another
 abbrev pub signs_at : ℕ → ℕ → Cell → List Cell → Option Cursor → List Sign
