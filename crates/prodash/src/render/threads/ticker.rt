@@ -53,7 +53,8 @@ impl<R: Wait + Clone + Drop, Q: Requests<Request: Drop> + Drop, K: Clock + Drop>
 /// Starts the thread that requests frames.
 pub(crate) fn start_ticker<
     R: Wait + Threads + Clone + Drop + Send + Sync + 'static,
-    Q: Requests<Request: Drop> + Drop + Send + 'static,
+    M: Drop + Send + 'static,
+    Q: Requests<Request = M> + Drop + Send + 'static,
     K: Clock + Drop + Send + Sync + 'static,
 >(shared: &Shared<R, Q, K>, stack: usize) -> Result<thread::JoinHandle<()>, Refusal>
     ensures { IfErr result RefusesThread }
