@@ -17,6 +17,7 @@ pub mod WorkedScreens
 pub mod BorderCells
 pub mod ColoredCells
 pub mod PackedCells
+pub mod PrintableChars
 pub mod PaneRows
 pub mod WorkedBars
 pub mod WorkedProgress

@@ -8,7 +8,7 @@ ghost use Rattle.prodash_tui.specs.plumbing.Writing.{IsInside, after_char, pen_a
 
 use crate::packed::{PackedCell, blank_cell, cell_of, color_cell, half_cell, is_half, join_cell};
 use crate::style::{Color, Style};
-use crate::text::{columns_of, text_columns};
+use crate::text::{columns_of, drawn_char, text_columns};
 use prodash_line::render::line::draw::safe_char;
 use std::alloc::{AllocError, Global};
 use std::marker::Model;
@@ -152,7 +152,7 @@ impl Row {
     {
         let mut pen = self.begin(x, end);
         for c in text.chars() {
-            self.push(&mut pen, safe_char(c), style);
+            self.push(&mut pen, drawn_char(c), style);
         }
         self.heal_behind(pen.at);
         pen.at

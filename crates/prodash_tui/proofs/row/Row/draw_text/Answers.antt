@@ -21,7 +21,7 @@ loop-c-preserved c =
     let next = c.in-Some.c in
     record {
       written = c.push.ensures.step
-          ∙ ap (λ (d : ℕ). after_char style (char_columns d) d (c.loop-c.self, c.loop-c.pen)) c.safe_char.ensures
+          ∙ ap (λ (d : ℕ). after_char style (char_columns d) d (c.loop-c.self, c.loop-c.pen)) c.drawn_char.ensures
           ∙ ap (after_char style (char_columns (safe_char next)) (safe_char next)) c.loop-c.invariant.written
           ∙ sym (after_text-last char_columns style (map safe_char c.loop-c.yielded) (safe_char next) start)
           ∙ ap (λ (t : List ℕ). after_text char_columns style t start) (sym (map-append safe_char c.loop-c.yielded (next ∷ [])));
