@@ -16,6 +16,7 @@ use Rattle.prodash_tui.specs.Displays.{Display}
 use Rattle.prodash_tui.specs.Grids.{Sheet, with_background, with_filling, with_shortened, with_text}
 use Rattle.prodash_tui.specs.Panes.{bold, vertical_line}
 use Rattle.prodash_tui.specs.ProgressPanes.{behind_branches, hidden, lines_behind, mean_share, overflows, rows_area, rows_offset, rule_columns, shown_count, tree_line, tree_style, tree_width, with_bounded, with_branches, with_group, with_hidden, with_lines, with_overflow, with_progress, with_progress_pane, with_row, with_rows, with_text_on, with_tree, with_tree_on, with_tree_row, with_value}
+use Rattle.prodash_tui.specs.Rates.{Rates, rate_at}
 use Rattle.prodash_tui.specs.Rects.{bottom_of, left_side_of, line_bound, offset_x}
 use Rattle.prodash_tui.specs.RowTexts.{branches_of, has_child, hidden_text, keys_text, label_text, row_at, title_text, tree_text}
 use Rattle.prodash_tui.specs.Screens.{Fits}
@@ -67,27 +68,29 @@ fit_bounded d p bound label line g h =
     let color = bar_color p bound in
     fit_across d line (bar_columns line.width p.counter bound) (black_on color) plain label (with_bar line p.counter bound color g) (fit_bar d line p.counter bound color g h)
 
-fit_value : (d : Display) (p : RowProgress) (bound : Option ℕ) (lines : Lines) (line : ℕ) (behind : Rect) (g : Sheet) → Fit d g → Fit d (with_value p bound lines line behind g)
-fit_value d p None lines line behind g h =
+fit_value : (d : Display) (p : RowProgress) (bound : Option ℕ) (label : List ℕ) (lines : Lines) (line : ℕ) (behind : Rect) (g : Sheet) → Fit d g → Fit d (with_value p bound label lines line behind g)
+fit_value d p None label lines line behind g h =
     let area = offset_x (line_bound lines.area line) lines.amount_columns in
-    fit_background d (spinner_of area (p.counter + line)) (spinner_color p) (with_shortened behind plain (label_text lines.at p) g) (fit_shortened d behind plain (label_text lines.at p) g h)
-fit_value d p (Some bound) lines line behind g h = fit_bounded d p bound (label_text lines.at p) behind g h
+    fit_background d (spinner_of area (p.counter + line)) (spinner_color p) (with_shortened behind plain label g) (fit_shortened d behind plain label g h)
+fit_value d p (Some bound) label lines line behind g h = fit_bounded d p bound label behind g h
 
-fit_progress : (d : Display) (p : Option RowProgress) (rows : List PathRow) (lines : Lines) (line : ℕ) (behind : Rect) (g : Sheet) → Fit d g → Fit d (with_progress p rows lines line behind g)
-fit_progress d None rows lines line behind g h =
+fit_progress : (d : Display) (p : Option RowProgress) (rows : List PathRow) (rates : Rates) (lines : Lines) (line : ℕ) (behind : Rect) (g : Sheet) → Fit d g
+    → Fit d (with_progress p rows rates lines line behind g)
+fit_progress d None rows rates lines line behind g h =
     let i = lines.offset + line in
     fit_group d (row_at rows i).1.name (rule_columns (has_child rows i) lines.area.width) behind g h
-fit_progress d (Some p) rows lines line behind g h = fit_value d p p.bound lines line behind g h
+fit_progress d (Some p) rows rates lines line behind g h =
+    fit_value d p p.bound (label_text lines.at (rate_at rates (lines.offset + line)) p) lines line behind g h
 
-fit_row : (d : Display) (rows : List PathRow) (lines : Lines) (line : ℕ) (g : Sheet) → Fit d g → Fit d (with_row rows lines line g)
-fit_row d rows lines line g h =
+fit_row : (d : Display) (rows : List PathRow) (rates : Rates) (lines : Lines) (line : ℕ) (g : Sheet) → Fit d g → Fit d (with_row rows rates lines line g)
+fit_row d rows rates lines line g h =
     let i = lines.offset + line in
     let bound = line_bound lines.area line in
-    fit_progress d (row_at rows i).1.progress rows lines line (behind_branches rows i bound) (with_branches rows i bound g) (fit_branches d rows i bound g h)
+    fit_progress d (row_at rows i).1.progress rows rates lines line (behind_branches rows i bound) (with_branches rows i bound g) (fit_branches d rows i bound g h)
 
-fit_rows : (d : Display) (rows : List PathRow) (lines : Lines) (g : Sheet) → Fit d g → Fit d (with_rows rows lines g)
-fit_rows d rows lines g h =
-    fit_all d (shown_count rows lines.area lines.offset) (λ line g. with_row rows lines line g) (λ line g h. fit_row d rows lines line g h) g h
+fit_rows : (d : Display) (rows : List PathRow) (rates : Rates) (lines : Lines) (g : Sheet) → Fit d g → Fit d (with_rows rows rates lines g)
+fit_rows d rows rates lines g h =
+    fit_all d (shown_count rows lines.area lines.offset) (λ line g. with_row rows rates lines line g) (λ line g h. fit_row d rows rates lines line g h) g h
 
 -- ---- the pane
 
@@ -113,11 +116,12 @@ fit_tree_on : (d : Display) (columns : ℕ) (rows : List PathRow) (area : Rect) 
 fit_tree_on d columns rows area offset g h =
     fit_choice d (columns == 0) g (with_tree rows (first_columns area columns) offset g) h (fit_tree d rows (first_columns area columns) offset g h)
 
-pub fit_pane : (d : Display) (rows : List PathRow) (at : ℕ) (scroll : Scroll) (area : Rect) (g : Sheet) → Fit d g → Fit d (with_progress_pane rows at scroll area g)
-fit_pane d rows at scroll area g h =
+pub fit_pane : (d : Display) (rows : List PathRow) (rates : Rates) (at : ℕ) (scroll : Scroll) (area : Rect) (g : Sheet) → Fit d g
+    → Fit d (with_progress_pane rows rates at scroll area g)
+fit_pane d rows rates at scroll area g h =
     let tree = tree_width area scroll.tree_columns in
     let shown = rows_area rows area in
     let offset = rows_offset rows area scroll.offset in
     let lines = lines_behind tree rows shown offset at in
     let left = with_tree_on tree rows shown offset g in
-    fit_hidden d rows offset tree area (with_rows rows lines left) (fit_rows d rows lines left (fit_tree_on d tree rows shown offset g h))
+    fit_hidden d rows offset tree area (with_rows rows rates lines left) (fit_rows d rows rates lines left (fit_tree_on d tree rows shown offset g h))

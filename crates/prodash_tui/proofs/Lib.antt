@@ -21,6 +21,7 @@ pub mod PrintableChars
 pub mod PaneRows
 pub mod WorkedBars
 pub mod WorkedProgress
+pub mod WorkedRates
 pub mod WorkedRects
 pub mod DrawnPieces
 pub mod CountedRows

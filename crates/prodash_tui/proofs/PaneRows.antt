@@ -18,6 +18,7 @@ use Rattle.prodash_core.specs.declared.render.tui.event.Rect.{Rect}
 use Rattle.prodash_tui.specs.declared.draw.progress.lines.Lines.{Lines}
 use Rattle.prodash_tui.specs.Grids.{Sheet}
 use Rattle.prodash_tui.specs.ProgressPanes.{behind_branches, greatest, hidden, mean_share, overflows, row_share, rows_area, rule_columns, total_share, with_branches, with_group, with_hidden, with_lines, with_overflow, with_progress, with_row}
+use Rattle.prodash_tui.specs.Rates.{Rates}
 use Rattle.prodash_tui.specs.Rects.{bottom_of, line_bound}
 use Rattle.prodash_tui.specs.RowTexts.{branches_of, has_child, has_progress, is_from, keys_text, no_row, row_at}
 use Rattle.prodash_tui.specs.Panes.{vertical_line}
@@ -82,14 +83,14 @@ progress_said None h = cc
 progress_said (Some v) h = refl
 
 -- a group
-pub group_row : (rows : List PathRow) (lines : Lines) (line : ℕ) (g : Sheet) → (row_at rows (lines.offset + line)).1.progress ≡ None
-    → with_row rows lines line g
+pub group_row : (rows : List PathRow) (rates : Rates) (lines : Lines) (line : ℕ) (g : Sheet) → (row_at rows (lines.offset + line)).1.progress ≡ None
+    → with_row rows rates lines line g
     ≡ with_group (row_at rows (lines.offset + line)).1.name (rule_columns (has_child rows (lines.offset + line)) lines.area.width)
     (behind_branches rows (lines.offset + line) (line_bound lines.area line)) (with_branches rows (lines.offset + line) (line_bound lines.area line) g)
-group_row rows lines line g h =
+group_row rows rates lines line g h =
     let bound = line_bound lines.area line in
     let i = lines.offset + line in
-    ap (λ (p : Option RowProgress). with_progress p rows lines line (behind_branches rows i bound) (with_branches rows i bound g)) h
+    ap (λ (p : Option RowProgress). with_progress p rows rates lines line (behind_branches rows i bound) (with_branches rows i bound g)) h
 
 -- ---- rows that are hidden
 

@@ -16,8 +16,7 @@ use Rattle.prodash_tui.specs.Displays.{Display, after_signs}
 use Rattle.prodash_tui.specs.Grids.{Sheet, blank_sheet}
 use Rattle.prodash_tui.specs.Screens.{Agrees, Buffers, Fits, blank_buffers, enter, frame, with_next}
 use Rattle.prodash_tui.specs.BoardRuns.{HasToldSize, Run, ShowsEachFrame, ShowsMainAgain, Step, Handles, Resizes, Draws, after_drawing, after_step, after_steps}
-use Rattle.prodash_tui.specs.Boards.{Board, area_of, closing, handled, handled_running, input_of, is_running, next_grid, opening}
-use Rattle.prodash_tui.specs.plumbing.BoardParts.{HasTerminalSize}
+use Rattle.prodash_tui.specs.Boards.{Board, area_of, closing, handled, handled_running, input_of, is_running, next_grid, opening, rates_in}
 use Rattle.prodash_tui.proofs.FittingPanes.{fit_dashboard}
 use Rattle.prodash_tui.proofs.FittingProgress.{fit_pane}
 use Rattle.prodash_tui.proofs.PlayedChanges.{after_append}
@@ -59,12 +58,17 @@ record Follows (r : Run) : Type 0 where
 next_fits : (s : Board) (c : Contents) (d : Display) → d.grid.width ≡ s.width → d.grid.height ≡ s.height → Fits char_columns d (next_grid s c)
 next_fits s c d width height =
     let input = input_of s c in
-    fit_dashboard (with_task_pane input s.state.task_offset)
-    (λ e area g h. fit_pane e (rows_of input.rows.now) input.at (scroll_of input s.state.task_offset) area g h) s.state input d (area_of s)
+    fit_dashboard (with_task_pane (rates_in s c) input s.state.task_offset)
+    (λ e area g h. fit_pane e (rows_of input.rows.now) (rates_in s c) input.at (scroll_of input s.state.task_offset) area g h) s.state input d (area_of s)
     (blank_sheet s.width s.height)
     (record { proper = proper_blank char_columns space_columns s.width s.height; size = record { width = width; height = height } })
 
--- so it has that size
+-- a grid has the size of the terminal
+pub record HasTerminalSize (s : Board) (g : Sheet) : Type 0 where
+  pub width : g.width ≡ s.width
+  pub height : g.height ≡ s.height
+
+-- so does the next one
 pub next_size : (s : Board) (c : Contents) → HasTerminalSize s (next_grid s c)
 next_size s c =
     let d : Display = record {

@@ -49,6 +49,7 @@ board title lines size = record {
   frames = 0;
   nanoseconds_per_frame = 100;
   every_nth_frame = None;
+  tracker = None;
   phase = Running;
 }
 

@@ -52,7 +52,7 @@ halted = refl
 pub late : waits_text 9 (Halted (codes "input") (Some 9)) ≡ codes " [input]"
 late = refl
 
-pub label : label_text 0 (running 3 (Some 10)) ≡ codes " 3/10"
+pub label : label_text 0 None (running 3 (Some 10)) ≡ codes " 3/10"
 unfolding digits
 label = refl
 
@@ -69,19 +69,19 @@ abbrev lines : Lines
 lines = record { area = rect 0 0 12 3; offset = 0; amount_columns = 4; at = 0 }
 
 -- a group: a line of three columns fewer than the pane, and the title over it
-pub group : (with_row rows lines 0 (blank_sheet 12 3)).rows
+pub group : (with_row rows [] lines 0 (blank_sheet 12 3)).rows
     ≡ (text plain (codes "├") ++ (text bold (codes " a ") ++ (text plain (replicate 7 0x2500) ++ blank_cells 1))) ∷ blank_cells 12 ∷ blank_cells 12 ∷ []
 unfolding unicode_width encode
 group = refl
 
 -- a bar of two cells and six eighths, and the label over it
-pub bounded : (with_row rows lines 1 (blank_sheet 12 3)).rows
+pub bounded : (with_row rows [] lines 1 (blank_sheet 12 3)).rows
     ≡ blank_cells 12 ∷ (text plain (codes "│ ├") ++ (text (black_on Yellow) (codes " 3/") ++ (text plain (codes "10") ++ blank_cells 4))) ∷ blank_cells 12 ∷ []
 unfolding unicode_width encode digits
 bounded = refl
 
 -- a label, and a spinner that is four columns behind the widest amount
-pub unbounded : (with_row rows lines 2 (blank_sheet 12 3)).rows
+pub unbounded : (with_row rows [] lines 2 (blank_sheet 12 3)).rows
     ≡ blank_cells 12 ∷ blank_cells 12 ∷ (text plain (codes "│ └ 2") ++ (blank_cells 3 ++ map (on_background White) (blank_cells 4))) ∷ []
 unfolding unicode_width encode digits
 unbounded = refl

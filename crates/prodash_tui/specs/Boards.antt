@@ -3,6 +3,8 @@ use Rattle.std.specs.Prelude.{ℕ, ◌+◌, ◌-◌, ◌^◌, min, max, Bool, tr
 use Rattle.std.specs.Global.{Vec}
 use Rattle.std.specs.Option.{option_map}
 use Rattle.prodash_base.specs.Moments.{is_multiple}
+use Rattle.prodash_base.specs.Rows.{rows_of}
+use Rattle.prodash_base.specs.Trackers.{Tracker, new_tracker}
 use Rattle.prodash_core.specs.declared.render.tui.event.Answer.{Answer}
 use Rattle.prodash_core.specs.declared.render.tui.event.Answer.TheVariants as answers
 use Rattle.prodash_core.specs.declared.render.tui.event.Event.{Event}
@@ -18,10 +20,11 @@ use Rattle.prodash_tui.specs.declared.draw.input.Input.{Input}
 use Rattle.prodash_tui.specs.declared.sign.Sign.{Sign}
 use Rattle.prodash_tui.specs.Dashboards.{state_after, tree_after, whole_dashboard}
 use Rattle.prodash_tui.specs.Grids.{Sheet, blank_sheet}
+use Rattle.prodash_tui.specs.Rates.{Rates, rates_by, tracker_after}
 use Rattle.prodash_tui.specs.Screens.{Buffers, blank_buffers, drawn, enter, frame, leave, with_next}
 
 -- a dashboard: its state, the size of the terminal, the alternate screen if that was entered, how many columns the tree is taken to have, how many frames were drawn,
--- their interval, after how many of them the tree is measured, and whether it is running
+-- their interval, after how many of them the tree is measured, the tracker of throughput if that is shown, and whether it is running
 pub record Board : Type 0 where
   pub state : State
   pub width : ℕ
@@ -31,13 +34,14 @@ pub record Board : Type 0 where
   pub frames : ℕ
   pub nanoseconds_per_frame : ℕ
   pub every_nth_frame : Option ℕ
+  pub tracker : Option Tracker
   pub phase : Phase
 
 -- its first state: nothing is scrolled or hidden, and it fills the window size of the options
 abbrev pub first_state : Options → Vec Line → State
 first_state options information = record (new_state options.title information) { window_size = options.window_size }
 
--- a new one with this state, on a terminal of this size
+-- a new one with this state, on a terminal of this size; it has a tracker if throughput is to be shown
 abbrev pub new_board : Options → State → ℕ → ℕ → Board
 new_board options state width height = record {
   state = state;
@@ -48,6 +52,7 @@ new_board options state width height = record {
   frames = 0;
   nanoseconds_per_frame = options.nanoseconds_per_frame;
   every_nth_frame = options.recompute_column_width_every_nth_frame;
+  tracker = if options.throughput then Some new_tracker else None;
   phase = Running;
 }
 
@@ -104,9 +109,13 @@ input_of s c = record {
 abbrev pub area_of : Board → Rect
 area_of s = unwrap_or s.state.window_size (record { x = 0; y = 0; width = s.width; height = s.height })
 
+-- the throughputs that the next frame shows
+abbrev pub rates_in : Board → Contents → Rates
+rates_in s c = rates_by s.tracker c.at (rows_of c.rows.now)
+
 -- the grid of the next frame
 abbrev pub next_grid : Board → Contents → Sheet
-next_grid s c = whole_dashboard s.state (input_of s c) (area_of s) (blank_sheet s.width s.height)
+next_grid s c = whole_dashboard (rates_in s c) s.state (input_of s c) (area_of s) (blank_sheet s.width s.height)
 
 -- the signs before it: the first frame enters the alternate screen
 abbrev pub opening : Option Buffers → List Sign
@@ -153,9 +162,12 @@ shown g s = record s { screen = Some (drawn (next_buffers s g)) }
 abbrev pub tree_in_frame : Board → Contents → ℕ
 tree_in_frame s c = tree_after s.state (input_of s c) (area_of s)
 
--- it after the next frame is drawn and on the screen
+-- it after the next frame is drawn and on the screen, and the tracker has observed the rows
 abbrev pub framed : Board → Contents → Board
-framed s c = record (shown (next_grid s c) s) { state = state_after s.state (input_of s c) (area_of s) }
+framed s c = record (shown (next_grid s c) s) {
+  state = state_after s.state (input_of s c) (area_of s);
+  tracker = tracker_after s.tracker c.at (rows_of c.rows.now);
+}
 
 -- it after the next frame
 abbrev pub after_frame : Board → Contents → Board

@@ -1,7 +1,7 @@
 -- A dashboard: its window, the headline, and the panes.
 use Rattle.std.specs.Prelude.{ℕ, ◌-◌, Bool, nat_lt, ◌||◌, List, [], length, Option, Some, None, string_bytes, if◌then◌else◌}
 use Rattle.prodash_base.specs.declared.messages.Message.{Message}
-use Rattle.prodash_base.specs.Rows.{rows_of}
+use Rattle.prodash_base.specs.Rows.{PathRow, rows_of}
 use Rattle.prodash_core.specs.declared.render.tui.event.Line.{Line}
 use Rattle.prodash_core.specs.declared.render.tui.event.Rect.{Rect}
 use Rattle.prodash_core.specs.declared.render.tui.state.State.{State}
@@ -18,6 +18,7 @@ use Rattle.prodash_tui.specs.MessagePanes.{skipped_messages, with_message_pane}
 use Rattle.prodash_tui.specs.PaneBounds.{compute_info_bound, compute_pane_bounds}
 use Rattle.prodash_tui.specs.Panes.{bold}
 use Rattle.prodash_tui.specs.ProgressPanes.{scrolled, with_progress_pane}
+use Rattle.prodash_tui.specs.Rates.{Rates}
 use Rattle.prodash_tui.specs.Rects.{bottom_of, inner_of, offset_x}
 use Rattle.prodash_tui.specs.Screens.{Fits}
 use Rattle.prodash_tui.specs.Texts.{block_width}
@@ -88,17 +89,17 @@ dashboard with_tasks s input area g =
 abbrev pub scroll_of : Input → ℕ → Scroll
 scroll_of input offset = record { offset = offset; tree_columns = input.tree_columns }
 
--- the tasks in a rectangle
-abbrev pub with_task_pane : Input → ℕ → Rect → Sheet → Sheet
-with_task_pane input offset area g = with_progress_pane (rows_of input.rows.now) input.at (scroll_of input offset) area g
+-- the tasks in a rectangle, with these throughputs
+abbrev pub with_task_pane : Rates → Input → ℕ → Rect → Sheet → Sheet
+with_task_pane rates input offset area g = with_progress_pane (rows_of input.rows.now) rates input.at (scroll_of input offset) area g
 
 -- how far they are scrolled then
 abbrev pub scroll_after : Input → ℕ → Rect → Scroll
 scroll_after input offset area = scrolled (rows_of input.rows.now) (scroll_of input offset) area
 
--- a dashboard with its tasks
-abbrev pub whole_dashboard : State → Input → Rect → Sheet → Sheet
-whole_dashboard s input area g = dashboard (with_task_pane input s.task_offset) s input area g
+-- a dashboard with its tasks, and these throughputs of them
+abbrev pub whole_dashboard : Rates → State → Input → Rect → Sheet → Sheet
+whole_dashboard rates s input area g = dashboard (with_task_pane rates input s.task_offset) s input area g
 
 -- a state with so many rows and messages skipped
 abbrev pub with_offsets : ℕ → ℕ → State → State
@@ -117,11 +118,14 @@ abbrev pub state_after : State → Input → Rect → State
 state_after s input area =
     let b = bounds_of s (length input.messages.now) area in if is_small b.window then s else panes_after s input b
 
--- how many columns the tree of the tasks has then
+-- how many columns the tree of the tasks has in these bounds
+abbrev pub tree_in : State → Input → Bounds → ℕ
+tree_in s input b = (scroll_after input s.task_offset b.tasks).tree_columns
+
+-- how many columns it has after a dashboard is drawn
 abbrev pub tree_after : State → Input → Rect → ℕ
 tree_after s input area =
-    let b = bounds_of s (length input.messages.now) area in
-    if is_small b.window then input.tree_columns else (scroll_after input s.task_offset b.tasks).tree_columns
+    let b = bounds_of s (length input.messages.now) area in if is_small b.window then input.tree_columns else tree_in s input b
 
 -- a way to draw in a rectangle after which a grid still fits a display: its rows are proper, and it has the display's size
 abbrev pub KeepsFit : (Rect → Sheet → Sheet) → Type 0
@@ -130,3 +134,15 @@ KeepsFit draw = (d : Display) (area : Rect) (g : Sheet) → Fits char_columns d 
 -- so is a dashboard, if so is the way in which its tasks are drawn
 abbrev pub DashboardsFit : Type 0
 DashboardsFit = (with_tasks : Rect → Sheet → Sheet) → KeepsFit with_tasks → (s : State) (input : Input) → KeepsFit (λ area g. dashboard with_tasks s input area g)
+
+-- so is a dashboard with its tasks
+abbrev pub WholeDashboardsFit : Type 0
+WholeDashboardsFit = (rates : Rates) (s : State) (input : Input) → KeepsFit (λ area g. whole_dashboard rates s input area g)
+
+-- so is a progress pane
+abbrev pub ProgressPanesFit : Type 0
+ProgressPanesFit = (rows : List PathRow) (rates : Rates) (at : ℕ) (s : Scroll) → KeepsFit (λ area g. with_progress_pane rows rates at s area g)
+
+-- so is a messages pane
+abbrev pub MessagePanesFit : Type 0
+MessagePanesFit = (messages : List Message) (overflow : Rect) (offset : ℕ) → KeepsFit (λ area g. with_message_pane messages area overflow offset g)

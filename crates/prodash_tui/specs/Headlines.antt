@@ -1,7 +1,8 @@
 -- The headline of a dashboard.
-use Rattle.std.specs.Prelude.{ℕ, ◌+◌, ◌/◌, Bool, true, false, nat_lt, List, [], ◌++◌, length, filter, codes, encode_utf8_all, Option, Some, None, if◌then◌else◌}
+use Rattle.std.specs.Prelude.{◌≡◌, ℕ, ◌+◌, ◌/◌, Bool, true, false, nat_lt, List, [], ◌++◌, length, filter, codes, encode_utf8_all, Option, Some, None, if◌then◌else◌}
 use Rattle.std.specs.Fmt.{decimal}
-use Rattle.prodash_base.specs.Rows.{Blocked, Halted, Running, RowProgress, PathRow}
+use Rattle.prodash_base.specs.Rows.{Blocked, Halted, Running, RowProgress, PathRow, rows_of}
+use Rattle.prodash_base.specs.declared.progress.Row.{Row}
 use Rattle.prodash_core.specs.declared.render.tui.event.Rect.{Rect}
 use Rattle.prodash_core.specs.declared.render.tui.state.InterruptMode.{InterruptMode}
 use Rattle.prodash_core.specs.declared.render.tui.state.InterruptMode.TheVariants.{Instantly, Deferred}
@@ -61,3 +62,7 @@ headline_text mode ns now rows =
 -- a text in bold at the right end of a rectangle's first row, before a column that stays free
 abbrev pub with_headline : Rect → List ℕ → Sheet → Sheet
 with_headline area text g = with_shortened (snap_to_right area (block_width text + 1)) bold text g
+
+-- the headline of these rows is drawn
+abbrev pub DrawsHeadline : Rect → InterruptMode → ℕ → List ℕ → List Row → Sheet → Sheet → Type 0
+DrawsHeadline area mode ns now rows old new = new ≡ with_headline area (headline_text mode ns now (rows_of rows)) old

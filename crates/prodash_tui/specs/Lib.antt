@@ -10,6 +10,7 @@ pub mod MessagePanes
 pub mod PaneBounds
 pub mod Headlines
 pub mod Bars
+pub mod Rates
 pub mod RowTexts
 pub mod ProgressPanes
 pub mod Outside

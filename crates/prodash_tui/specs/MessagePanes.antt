@@ -1,5 +1,5 @@
 -- The messages pane of a dashboard.
-use Rattle.std.specs.Prelude.{ℕ, ◌+◌, ◌-◌, min, nat_eq, nat_lt, true, List, [], ◌∷◌, ◌++◌, length, map, take, codes, encode_utf8_all, Some, if◌then◌else◌}
+use Rattle.std.specs.Prelude.{◌≡◌, ℕ, ◌+◌, ◌-◌, min, nat_eq, nat_lt, true, List, [], ◌∷◌, ◌++◌, length, map, take, codes, encode_utf8_all, Some, if◌then◌else◌}
 use Rattle.std.specs.Fmt.{decimal}
 use Rattle.prodash_base.specs.Moments.{time_text}
 use Rattle.prodash_base.specs.Rings.{keep_last}
@@ -107,3 +107,7 @@ message_keys = encode_utf8_all (codes " ⨯ = `| ▢ = ~ ")
 abbrev pub with_message_pane : List Message → Rect → Rect → ℕ → Sheet → Sheet
 with_message_pane messages area overflow offset g =
     with_list (messages_bound area) overflow (skipped_messages offset area messages) messages (with_head area (codes "Messages") message_keys g)
+
+-- the pane of these messages is drawn
+abbrev pub DrawsMessages : List Message → Rect → Rect → ℕ → Sheet → Sheet → Type 0
+DrawsMessages messages area overflow offset old new = new ≡ with_message_pane messages area overflow offset old

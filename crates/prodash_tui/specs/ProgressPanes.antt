@@ -1,10 +1,11 @@
 -- The progress pane: a tree of rows, the progress of each, and a line that says how many don't fit.
-use Rattle.std.specs.Prelude.{ℕ, zero, suc, ◌+◌, ◌-◌, ◌/◌, min, max, nat_lt, ◌==◌, Bool, true, false, List, ◌++◌, length, map, sum, take, drop, Option, Some, None, if◌then◌else◌}
-use Rattle.prodash_base.specs.Rows.{RowProgress, PathRow}
+use Rattle.std.specs.Prelude.{◌≡◌, ℕ, zero, suc, ◌+◌, ◌-◌, ◌/◌, min, max, nat_lt, ◌==◌, Bool, true, false, List, ◌++◌, length, map, sum, take, drop, Option, Some, None, if◌then◌else◌}
+use Rattle.prodash_base.specs.Rows.{RowProgress, PathRow, rows_of}
 use Rattle.prodash_core.specs.declared.render.tui.event.Rect.{Rect}
 use Rattle.prodash_line.specs.ProgressRows.{filled_cells}
 use Rattle.prodash_tui.specs.declared.draw.progress.lines.Lines.{Lines}
 use Rattle.prodash_tui.specs.declared.draw.progress.lines.Scroll.{Scroll}
+use Rattle.prodash_tui.specs.declared.draw.progress.tasks.Tasks.{Tasks}
 use Rattle.prodash_tui.specs.declared.style.Color.TheVariants.{Red, Green}
 use Rattle.prodash_tui.specs.declared.style.Style.{Style}
 use Rattle.prodash_tui.specs.Bars.{bar_color, bar_columns, black_on, first_columns, spinner_color, with_bar, with_spinner, with_text_across}
@@ -12,6 +13,7 @@ use Rattle.prodash_tui.specs.Cells.{plain}
 use Rattle.prodash_tui.specs.Grids.{Sheet, with_background, with_filling, with_shortened}
 use Rattle.prodash_tui.specs.Offsets.{sanitize_offset}
 use Rattle.prodash_tui.specs.Panes.{bold, vertical_line}
+use Rattle.prodash_tui.specs.Rates.{Rates, rate_at}
 use Rattle.prodash_tui.specs.Rects.{bottom_of, line_bound, offset_x}
 use Rattle.prodash_tui.specs.RowTexts.{amount_columns, branches_of, has_child, hidden_text, keys_text, label_text, row_at, title_text, tree_row_columns, tree_text}
 use Rattle.prodash_tui.specs.Texts.{block_width}
@@ -82,28 +84,29 @@ with_bounded p bound label line g =
     with_text_across line (bar_columns line.width p.counter bound) (black_on color) plain label (with_bar line p.counter bound color g)
 
 -- a progress with this bound, or without one: its label, and a spinner that begins behind the widest amount
-abbrev pub with_value : RowProgress → Option ℕ → Lines → ℕ → Rect → Sheet → Sheet
-with_value p None lines line behind g =
+abbrev pub with_value : RowProgress → Option ℕ → List ℕ → Lines → ℕ → Rect → Sheet → Sheet
+with_value p None label lines line behind g =
     with_spinner (offset_x (line_bound lines.area line) lines.amount_columns) (p.counter + line) (spinner_color p)
-    (with_shortened behind plain (label_text lines.at p) g)
-with_value p (Some bound) lines line behind g = with_bounded p bound (label_text lines.at p) behind g
+    (with_shortened behind plain label g)
+with_value p (Some bound) label lines line behind g = with_bounded p bound label behind g
 
--- a row behind its branches: a group, or a progress
-abbrev pub with_progress : Option RowProgress → List PathRow → Lines → ℕ → Rect → Sheet → Sheet
-with_progress None rows lines line behind g =
+-- a row behind its branches: a group, or a progress with its throughput
+abbrev pub with_progress : Option RowProgress → List PathRow → Rates → Lines → ℕ → Rect → Sheet → Sheet
+with_progress None rows rates lines line behind g =
     let i = lines.offset + line in with_group (row_at rows i).1.name (rule_columns (has_child rows i) lines.area.width) behind g
-with_progress (Some p) rows lines line behind g = with_value p p.bound lines line behind g
+with_progress (Some p) rows rates lines line behind g =
+    with_value p p.bound (label_text lines.at (rate_at rates (lines.offset + line)) p) lines line behind g
 
 -- a row on a line: its branches, and what is behind them
-abbrev pub with_row : List PathRow → Lines → ℕ → Sheet → Sheet
-with_row rows lines line g =
+abbrev pub with_row : List PathRow → Rates → Lines → ℕ → Sheet → Sheet
+with_row rows rates lines line g =
     let i = lines.offset + line in
     let bound = line_bound lines.area line in
-    with_progress (row_at rows i).1.progress rows lines line (behind_branches rows i bound) (with_branches rows i bound g)
+    with_progress (row_at rows i).1.progress rows rates lines line (behind_branches rows i bound) (with_branches rows i bound g)
 
 -- rows on lines, from an offset on
-abbrev pub with_rows : List PathRow → Lines → Sheet → Sheet
-with_rows rows lines g = with_lines (shown_count rows lines.area lines.offset) (λ line g. with_row rows lines line g) g
+abbrev pub with_rows : List PathRow → Rates → Lines → Sheet → Sheet
+with_rows rows rates lines g = with_lines (shown_count rows lines.area lines.offset) (λ line g. with_row rows rates lines line g) g
 
 -- the columns of the widest amount of the rows from an offset on
 abbrev pub widest_amount : List PathRow → Rect → ℕ → ℕ
@@ -181,13 +184,17 @@ abbrev pub with_hidden : List PathRow → ℕ → ℕ → Rect → Sheet → She
 with_hidden rows offset tree area g =
     if overflows rows area then with_overflow rows offset (rows_area rows area).height tree (bottom_of area) g else g
 
--- the pane in a rectangle, of rows at a moment
-abbrev pub with_progress_pane : List PathRow → ℕ → Scroll → Rect → Sheet → Sheet
-with_progress_pane rows at scroll area g =
+-- the pane in a rectangle, of rows with their throughputs at a moment
+abbrev pub with_progress_pane : List PathRow → Rates → ℕ → Scroll → Rect → Sheet → Sheet
+with_progress_pane rows rates at scroll area g =
     let tree = tree_width area scroll.tree_columns in
     let shown = rows_area rows area in
     let offset = rows_offset rows area scroll.offset in
-    with_hidden rows offset tree area (with_rows rows (lines_behind tree rows shown offset at) (with_tree_on tree rows shown offset g))
+    with_hidden rows offset tree area (with_rows rows rates (lines_behind tree rows shown offset at) (with_tree_on tree rows shown offset g))
+
+-- the pane of these tasks is drawn
+abbrev pub DrawsPane : Tasks → Scroll → Rect → Sheet → Sheet → Type 0
+DrawsPane tasks scroll area old new = new ≡ with_progress_pane (rows_of tasks.rows.now) tasks.rates.now tasks.at scroll area old
 
 -- the columns of the widest row of a tree on so many columns; 0 if there are none
 abbrev pub known_columns : ℕ → List PathRow → Rect → ℕ → ℕ

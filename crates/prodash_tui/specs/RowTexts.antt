@@ -12,6 +12,7 @@ use Rattle.prodash_base.specs.Path.{Path}
 use Rattle.prodash_base.specs.Rows.{Phase, Blocked, Halted, Running, RowProgress, PathRow, unknown_id}
 use Rattle.prodash_base.specs.Times.{seconds_text}
 use Rattle.prodash_base.specs.Units.{Measure}
+use Rattle.prodash_base.specs.declared.unit.display.Throughput.{Throughput}
 use Rattle.prodash_core.specs.Prefixes.{prefix_at}
 use Rattle.prodash_line.specs.ProgressRows.{fraction_of}
 use Rattle.prodash_tui.specs.Panes.{vertical_line}
@@ -50,14 +51,14 @@ tree_text rows i = branches_of rows i ++ (codes " " ++ (row_at rows i).1.name)
 abbrev pub tree_row_columns : List PathRow → ℕ → ℕ
 tree_row_columns rows i = min (block_width (tree_text rows i) + 1) 65535
 
--- a progress in a unit, or as a fraction if there is none
-abbrev pub amount_in : Option Measure → RowProgress → List ℕ
-amount_in None p = fraction_of p.counter p.bound
-amount_in (Some unit) p = all_text (quantity_shown unit.quantity) unit.mode (amount p.counter p.bound None)
+-- a progress in a unit, with its throughput if the unit shows one, or as a fraction if there is no unit
+abbrev pub amount_in : Option Measure → Option Throughput → RowProgress → List ℕ
+amount_in None rate p = fraction_of p.counter p.bound
+amount_in (Some unit) rate p = all_text (quantity_shown unit.quantity) unit.mode (amount p.counter p.bound rate)
 
--- a progress, in its unit if it has one
-abbrev pub amount_text : RowProgress → List ℕ
-amount_text p = amount_in p.unit p
+-- a progress with this throughput, in its unit if it has one
+abbrev pub amount_text : Option Throughput → RowProgress → List ℕ
+amount_text rate p = amount_in p.unit rate p
 
 -- how long it takes from a moment until a task is expected to go on; nothing if that isn't known, or past
 abbrev pub until_text : ℕ → Option ℕ → List ℕ → List ℕ
@@ -73,14 +74,14 @@ waits_text at (Blocked reason eta) = codes " [" ++ (reason ++ (codes "]" ++ unti
 waits_text at (Halted reason eta) = codes " [" ++ (reason ++ (codes "]" ++ until_text at eta (codes "continue")))
 waits_text at Running = []
 
--- what is said of a progress at a moment
-abbrev pub label_text : ℕ → RowProgress → List ℕ
-label_text at p = codes " " ++ (amount_text p ++ waits_text at p.phase)
+-- what is said of a progress with this throughput at a moment
+abbrev pub label_text : ℕ → Option Throughput → RowProgress → List ℕ
+label_text at rate p = codes " " ++ (amount_text rate p ++ waits_text at p.phase)
 
--- the columns of a progress without its state; 0 of a group
+-- the columns of a progress without its throughput and its state; 0 of a group
 abbrev pub amount_columns : Option RowProgress → ℕ
 amount_columns None = 0
-amount_columns (Some p) = block_width (amount_text p)
+amount_columns (Some p) = block_width (amount_text None p)
 
 -- the title of a group
 abbrev pub title_text : List ℕ → List ℕ

@@ -4,3 +4,5 @@ pub mod PackedCells
 pub mod Writing
 pub mod GridInside
 pub mod BoardParts
+pub mod PaneParts
+pub mod Observed

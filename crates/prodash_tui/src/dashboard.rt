@@ -3,12 +3,13 @@ ghost use Rattle.std.specs.Prelude.{◌≡◌, true, false, [], ◌++◌, Err, I
 ghost use Rattle.prodash_base.specs.Adjacency.{IsAscending, paths_of};
 ghost use Rattle.prodash_tui.specs.Grids.{blank_sheet};
 ghost use Rattle.prodash_tui.specs.Screens.{drawn, enter, frame};
-ghost use Rattle.prodash_tui.specs.Boards.{after_frame, area_of, closed, closing, counted, first_state, frame_signs, framed, handled, input_of, is_closed, is_measured, is_running, new_board, resized, shown, signs_of, tree_in_frame};
+ghost use Rattle.prodash_tui.specs.Boards.{after_frame, area_of, closed, closing, counted, first_state, frame_signs, framed, handled, input_of, is_closed, is_measured, is_running, new_board, resized, tree_in_frame};
 ghost use Rattle.prodash_tui.specs.plumbing.Appended.{Spells};
-ghost use Rattle.prodash_tui.specs.plumbing.BoardParts.{HasTerminalSize, first_buffers, scrolled_to};
+ghost use Rattle.prodash_tui.specs.plumbing.BoardParts.{OnlyScrolls, first_buffers, shown_on, signs_on};
 
 mod contents;
 mod phase;
+mod tracker;
 
 use crate::draw::Input;
 use crate::draw::all::all;
@@ -17,9 +18,12 @@ use crate::screen::Screen;
 pub use contents::Contents;
 pub(crate) use phase::Phase;
 use prodash_base::Refusal;
+use prodash_base::throughput::FrameThroughput;
+use prodash_base::unit::display::Throughput;
 use prodash_core::render::tui::{Answer, Event, Options, Rect, State};
 use std::alloc::Global;
 use std::marker::Model;
+use tracker::{keep, observe};
 
 /// A dashboard on a terminal. It takes events, and appends the bytes of its frames to a buffer. The
 /// first frame enters the alternate screen, and `close` leaves it.
@@ -47,13 +51,22 @@ pub struct Dashboard {
     frames: usize,
     nanoseconds_per_frame: u64,
     recompute_column_width_every_nth_frame: Option<usize>,
+    /// Measures throughput, if it is shown.
+    tracker: Option<FrameThroughput>,
+    /// Memory for the throughputs of rows, which is written over.
+    rates: Vec<Option<Throughput>>,
     phase: Phase,
 }
 
 impl Model for Dashboard {
+    ghost use Rattle.std.specs.Coded.{codes};
+    ghost use Rattle.std.specs.FinMap as finite;
+    ghost use Rattle.prodash_line.specs.Tracking.{kept_of};
     ghost use Rattle.prodash_tui.specs.Boards.{Board};
 
     ghost Value = { Board };
+
+    ghost coded = { Prim.hlevel (codes, finite.code) };
 
     ghost view = { λ s. record {
       state = s.state;
@@ -64,6 +77,7 @@ impl Model for Dashboard {
       frames = s.frames;
       nanoseconds_per_frame = s.nanoseconds_per_frame;
       every_nth_frame = s.recompute_column_width_every_nth_frame;
+      tracker = kept_of s.tracker;
       phase = s.phase;
     } };
 }
@@ -89,6 +103,31 @@ fn open(alloc: Global, grid: &mut Grid, out: &mut Vec<u8>) -> Result<Screen, Ref
     Ok(screen)
 }
 
+/// Appends what shows a grid. Before the first one the alternate screen is entered. The grid may
+/// then be another one.
+///
+/// `Memory`: out of memory. The buffer and the screen are then as they were.
+fn show(
+    alloc: Global,
+    screen: &mut Option<Screen>,
+    grid: &mut Grid,
+    out: &mut Vec<u8>,
+) -> Result<(), Refusal>
+    ensures ok { Spells result out.old.items (signs_on screen.old grid.old) out.new.items }
+    ensures shown { OnOk result (screen.new ≡ shown_on screen.old grid.old) }
+    ensures err { OnErr result (out.new.items ≡ out.old.items) }
+    ensures stays { OnErr result (screen.new ≡ screen.old) }
+    ensures reason { IsOkUnless result Refusal.Memory }
+{
+    match screen {
+        Some(screen) => screen.draw_grid(grid, out),
+        None => {
+            *screen = Some(open(alloc, grid, out)?);
+            Ok(())
+        }
+    }
+}
+
 /// Returns whether the tree is measured in the frame of this number, if it has so many columns.
 fn is_measured(every: Option<usize>, number: usize, columns: u16) -> bool
     ensures { result ≡ is_measured every number columns }
@@ -99,9 +138,11 @@ fn is_measured(every: Option<usize>, number: usize, columns: u16) -> bool
 
 impl Dashboard {
     /// Returns a dashboard with the title, the window size and the intervals of these options, on a
-    /// terminal of so many columns and rows. Nothing is scrolled or hidden. It takes no memory.
+    /// terminal of so many columns and rows. Nothing is scrolled or hidden. It takes no memory. If
+    /// `throughput` is set, it measures the throughput of tasks, and shows it of those whose unit
+    /// shows one.
     ///
-    /// What `throughput` and `stop_if_progress_missing` say is up to the caller.
+    /// What `stop_if_progress_missing` says is up to the caller.
     pub fn new(alloc: Global, options: Options, width: u16, height: u16) -> Dashboard
         ensures dashboard { result ≡ new_board options result.state width height }
         ensures state { result.state ≡ first_state options result.state.information }
@@ -120,6 +161,12 @@ impl Dashboard {
             frames: 0,
             nanoseconds_per_frame: options.nanoseconds_per_frame,
             recompute_column_width_every_nth_frame: options.recompute_column_width_every_nth_frame,
+            tracker: if options.throughput {
+                Some(FrameThroughput::new(alloc))
+            } else {
+                None
+            },
+            rates: Vec::new(alloc),
             phase: Phase::Running,
         }
     }
@@ -207,27 +254,6 @@ impl Dashboard {
         self.state.window_size.unwrap_or(terminal)
     }
 
-    /// Appends what shows a grid. Before the first one the alternate screen is entered. The grid
-    /// may then be another one.
-    ///
-    /// `Memory`: out of memory. The buffer and the dashboard are then as they were.
-    fn show(&mut self, alloc: Global, grid: &mut Grid, out: &mut Vec<u8>) -> Result<(), Refusal>
-        requires size { HasTerminalSize self.old grid.old }
-        ensures ok { Spells result out.old.items (signs_of self.old grid.old) out.new.items }
-        ensures shown { OnOk result (self.new ≡ shown grid.old self.old) }
-        ensures err { OnErr result (out.new.items ≡ out.old.items) }
-        ensures stays { OnErr result (self.new ≡ self.old) }
-        ensures reason { IsOkUnless result Refusal.Memory }
-    {
-        match &mut self.screen {
-            Some(screen) => screen.draw_grid(grid, out),
-            None => {
-                self.screen = Some(open(alloc, grid, out)?);
-                Ok(())
-            }
-        }
-    }
-
     /// Returns a blank grid of the size of the terminal: the one that is kept, if it has that size.
     ///
     /// `Memory`: out of memory.
@@ -245,7 +271,8 @@ impl Dashboard {
         Grid::new(alloc, self.width, self.height)
     }
 
-    /// Draws the next frame on a blank grid, which is then kept for the frame after it.
+    /// Draws the next frame on a blank grid, which is then kept for the frame after it. What the
+    /// frame has observed is kept once it is shown.
     ///
     /// `Memory`: out of memory. The buffer is then as it was, and so is the dashboard but for its
     /// offsets.
@@ -263,14 +290,24 @@ impl Dashboard {
         ensures drawn { OnOk result (self.new ≡ framed self.old contents.now) }
         ensures tree { IfOk result (λ n. n ≡ tree_in_frame self.old contents.now) }
         ensures err { OnErr result (out.new.items ≡ out.old.items) }
-        ensures stays { OnErr result (self.new ≡ scrolled_to
-            self.new.state.task_offset self.new.state.message_offset self.old) }
+        ensures stays { OnErr result (OnlyScrolls self.old self.new) }
         ensures reason { IsOkUnless result Refusal.Memory }
     {
+        let (rows, at) = (contents.rows, contents.at);
+        observe(alloc, &mut self.tracker, at, rows, &mut self.rates)?;
         let input = self.input(contents);
         let area = self.area();
-        let columns = all(alloc, &mut self.text, &mut self.state, &input, area, grid)?;
-        self.show(alloc, grid, out)?;
+        let columns = all(
+            alloc,
+            &mut self.text,
+            &mut self.state,
+            &input,
+            &self.rates,
+            area,
+            grid,
+        )?;
+        show(alloc, &mut self.screen, grid, out)?;
+        keep(&mut self.tracker, rows);
         Ok(columns)
     }
 
@@ -292,8 +329,7 @@ impl Dashboard {
         ensures drawn { OnOk result (self.new ≡ framed self.old contents.now) }
         ensures tree { IfOk result (λ n. n ≡ tree_in_frame self.old contents.now) }
         ensures err { OnErr result (out.new.items ≡ out.old.items) }
-        ensures stays { OnErr result (self.new ≡ scrolled_to
-            self.new.state.task_offset self.new.state.message_offset self.old) }
+        ensures stays { OnErr result (OnlyScrolls self.old self.new) }
         ensures reason { IsOkUnless result Refusal.Memory }
     {
         let mut grid = self.take_grid(alloc)?;
@@ -321,8 +357,12 @@ impl Dashboard {
     /// entered. The rows must be in strictly ascending order of their keys, as those of a snapshot
     /// are.
     ///
+    /// If throughput is shown, each frame observes the steps of all rows, and those that are gone
+    /// are forgotten.
+    ///
     /// `Closed`: it isn't running. `Memory`: out of memory. The buffer and the dashboard are then
-    /// as they were: the frame counts as not drawn, and what the terminal shows as before.
+    /// as they were: the frame counts as not drawn, its rows as not observed, and what the terminal
+    /// shows as before.
     pub fn draw(
         &mut self,
         alloc: Global,

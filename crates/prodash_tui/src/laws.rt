@@ -12,18 +12,11 @@ ghost use Rattle.prodash_tui.specs.Grids.{blank_sheet, with_background, with_bor
 ghost use Rattle.prodash_tui.specs.Rects.{intersect};
 ghost use Rattle.prodash_tui.specs.Screens.{DrawsEntered, DrawsFrames, Restores, RestoresFrames};
 ghost use Rattle.prodash_tui.specs.BoardRuns.{ShowsEachFrame, ShowsMainAgain};
-ghost use Rattle.prodash_base.specs.declared.messages.Message.{Message};
 ghost use Rattle.prodash_core.specs.declared.render.tui.event.Line.{Line};
 ghost use Rattle.prodash_core.specs.declared.render.tui.event.Rect.{Rect};
-ghost use Rattle.prodash_core.specs.declared.render.tui.state.State.{State};
-ghost use Rattle.prodash_tui.specs.declared.draw.input.Input.{Input};
-ghost use Rattle.prodash_tui.specs.Dashboards.{DashboardsFit, KeepsFit, whole_dashboard};
-ghost use Rattle.prodash_base.specs.Rows.{PathRow};
-ghost use Rattle.prodash_tui.specs.declared.draw.progress.lines.Scroll.{Scroll};
+ghost use Rattle.prodash_tui.specs.Dashboards.{DashboardsFit, KeepsFit, MessagePanesFit, ProgressPanesFit, WholeDashboardsFit};
 ghost use Rattle.prodash_tui.specs.Headlines.{with_headline};
 ghost use Rattle.prodash_tui.specs.InformationPanes.{with_information};
-ghost use Rattle.prodash_tui.specs.MessagePanes.{with_message_pane};
-ghost use Rattle.prodash_tui.specs.ProgressPanes.{with_progress_pane};
 ghost use Rattle.prodash_tui.specs.Outside.{ColorsInside, IsShared, ShowsFillings, ShowsShortened, ShowsTexts, StaysInside};
 
 /// The first row of the rectangle shows the text from the left edge on, cut at the right one. No
@@ -112,14 +105,11 @@ pub fn restored()
 /// headline and its panes: the rows are proper, and it has the display's size.
 pub fn dashboards()
     ensures information { (l : List Line) → KeepsFit (λ area g. with_information l area g) }
-    ensures messages { (l : List Message) (overflow : Rect) (offset : ℕ)
-        → KeepsFit (λ area g. with_message_pane l area overflow offset g) }
+    ensures messages { MessagePanesFit }
     ensures headline { (text : List ℕ) → KeepsFit (λ area g. with_headline area text g) }
-    ensures progress { (rows : List PathRow) (at : ℕ) (s : Scroll)
-        → KeepsFit (λ area g. with_progress_pane rows at s area g) }
+    ensures progress { ProgressPanesFit }
     ensures all { DashboardsFit }
-    ensures whole { (s : State) (input : Input)
-        → KeepsFit (λ area g. whole_dashboard s input area g) }
+    ensures whole { WholeDashboardsFit }
 {}
 
 /// Over every run of a dashboard, of events, sizes and frames, a display shows exactly the grid of

@@ -1,14 +1,15 @@
 //! A dashboard, and where its parts are.
 ghost use Rattle.std.specs.Prelude.{◌≡◌, IfOk, IsOkUnless, OnOk};
 ghost use Rattle.prodash_base.specs.Adjacency.{IsAscending, paths_of};
-ghost use Rattle.prodash_tui.specs.Dashboards.{bounds_of, headline_bound, is_small, messages_to_show, narrower, offset_in, panes_after, scroll_after, shown_information, state_after, tree_after, whole_dashboard, with_information_in, with_messages_in, with_panes, with_offsets, with_task_pane, with_window};
+ghost use Rattle.prodash_tui.specs.Dashboards.{bounds_of, headline_bound, is_small, messages_to_show, narrower, offset_in, panes_after, scroll_after, shown_information, state_after, tree_after, tree_in, whole_dashboard, with_information_in, with_offsets, with_task_pane, with_window};
 ghost use Rattle.prodash_tui.specs.PaneBounds.{compute_info_bound, compute_pane_bounds, information_width, line_text, messages_room, split_below, split_right, wanted_width};
+ghost use Rattle.prodash_tui.specs.plumbing.PaneParts.{DrawsMessagesIn, DrawsPanes};
 
 use crate::draw::bounds::Bounds;
 use crate::draw::headline::headline;
 use crate::draw::input::Input;
 use crate::draw::parts::bold;
-use crate::draw::progress::Scroll;
+use crate::draw::progress::{Scroll, Tasks};
 use crate::draw::{information, messages, progress};
 use crate::grid::Grid;
 use crate::rect::{bottom_of, inner_of, offset_x, snap_to_right};
@@ -16,15 +17,16 @@ use crate::style::Style;
 use crate::text::block_width;
 use prodash_base::Refusal;
 use prodash_base::messages::Message;
+use prodash_base::unit::display::Throughput;
 use prodash_core::render::tui::{Line, Rect, State};
 use std::alloc::Global;
 
 /// Draws a dashboard in a rectangle of a grid: the window with its title, the headline, the tasks,
 /// the messages and the information. Of a window with less than four rows or columns only the
 /// border and the title are drawn. The offsets of the tasks and of the messages are then as many as
-/// are skipped. Returns how many columns the tree of the tasks has, for the next frame. `text` is
-/// memory for texts, which is written over. The rows must be in strictly ascending order of their
-/// keys, as those of a snapshot are.
+/// are skipped. Returns how many columns the tree of the tasks has, for the next frame. `rates` are
+/// the throughputs of the rows, if they have any, and `text` is memory for texts, which is written
+/// over. The rows must be in strictly ascending order of their keys, as those of a snapshot are.
 ///
 /// `Memory`: out of memory. The grid may then have a part of the dashboard, and the offsets may be
 /// others.
@@ -33,12 +35,13 @@ pub fn all(
     text: &mut String,
     state: &mut State,
     input: &Input<'_>,
+    rates: &[Option<Throughput>],
     bound: Rect,
     grid: &mut Grid,
 ) -> Result<u16, Refusal>
     requires sorted { IsAscending (paths_of input.now.rows.now) }
     ensures ok { OnOk result
-        (grid.new ≡ whole_dashboard state.old input.now bound grid.old) }
+        (grid.new ≡ whole_dashboard rates.now state.old input.now bound grid.old) }
     ensures state { OnOk result (state.new ≡ state_after state.old input.now bound) }
     ensures kept { state.new
         ≡ with_offsets state.new.task_offset state.new.message_offset state.old }
@@ -50,7 +53,7 @@ pub fn all(
     if is_small(bounds.window) {
         return Ok(input.tree_columns);
     }
-    draw_panes(alloc, text, state, input, &bounds, grid)
+    draw_panes(alloc, text, state, input, rates, &bounds, grid)
 }
 
 /// Returns where the parts of a dashboard with so many messages are.
@@ -127,24 +130,25 @@ fn draw_panes(
     text: &mut String,
     state: &mut State,
     input: &Input<'_>,
+    rates: &[Option<Throughput>],
     bounds: &Bounds,
     grid: &mut Grid,
 ) -> Result<u16, Refusal>
     requires sorted { IsAscending (paths_of input.now.rows.now) }
-    ensures ok { OnOk result (grid.new ≡ with_panes
-        (with_task_pane input.now state.old.task_offset) state.old input.now bounds.now grid.old) }
+    ensures ok { OnOk result
+        (DrawsPanes rates.now state.old input.now bounds.now grid.old grid.new) }
     ensures state { OnOk result (state.new ≡ panes_after state.old input.now bounds.now) }
     ensures kept { state.new
         ≡ with_offsets state.new.task_offset state.new.message_offset state.old }
-    ensures tree { IfOk result (λ n.
-        n ≡ (scroll_after input.now state.old.task_offset bounds.now.tasks).tree_columns) }
+    ensures tree { IfOk result (λ n. n ≡ tree_in state.old input.now bounds.now) }
     ensures reason { IsOkUnless result Refusal.Memory }
 {
     let interval = input.nanoseconds_per_frame;
     let mode = state.interrupt_mode;
     let behind = headline_bound(bounds.window, state.title.as_str());
     headline(alloc, input.rows, mode, interval, input.time, behind, grid)?;
-    let scroll = draw_tasks(alloc, text, input, state.task_offset, bounds.tasks, grid)?;
+    let skipped = state.task_offset;
+    let scroll = draw_tasks(alloc, text, input, rates, skipped, bounds.tasks, grid)?;
     state.task_offset = scroll.offset;
     let offset = &mut state.message_offset;
     draw_messages(alloc, input.messages, bounds, offset, grid)?;
@@ -152,17 +156,20 @@ fn draw_panes(
     Ok(scroll.tree_columns)
 }
 
-/// Draws the tasks, of which so many are skipped, and returns how far they are scrolled then.
+/// Draws the tasks with their throughputs, of which so many are skipped, and returns how far they
+/// are scrolled then.
 fn draw_tasks(
     alloc: Global,
     text: &mut String,
     input: &Input<'_>,
+    rates: &[Option<Throughput>],
     offset: u16,
     area: Rect,
     grid: &mut Grid,
 ) -> Result<Scroll, Refusal>
     requires sorted { IsAscending (paths_of input.now.rows.now) }
-    ensures ok { OnOk result (grid.new ≡ with_task_pane input.now offset area grid.old) }
+    ensures ok { OnOk result
+        (grid.new ≡ with_task_pane rates.now input.now offset area grid.old) }
     ensures scroll { IfOk result (λ s. s ≡ scroll_after input.now offset area) }
     ensures reason { IsOkUnless result Refusal.Memory }
 {
@@ -170,7 +177,12 @@ fn draw_tasks(
         offset,
         tree_columns: input.tree_columns,
     };
-    progress::pane(alloc, grid, text, input.rows, input.at, scroll, area)
+    let tasks = Tasks {
+        rows: input.rows,
+        rates,
+        at: input.at,
+    };
+    progress::pane(alloc, grid, text, &tasks, scroll, area)
 }
 
 /// Draws the messages, if they are shown.
@@ -182,8 +194,8 @@ fn draw_messages(
     grid: &mut Grid,
 ) -> Result<(), Refusal>
     ensures offset { offset.new ≡ offset_in bounds.now.messages offset.old messages.now }
-    ensures ok { OnOk result (grid.new ≡ with_messages_in
-        bounds.now.messages bounds.now.window offset.old messages.now grid.old) }
+    ensures ok { OnOk result
+        (DrawsMessagesIn bounds.now offset.old messages.now grid.old grid.new) }
     ensures reason { IsOkUnless result Refusal.Memory }
 {
     match bounds.messages {

@@ -2,7 +2,8 @@
 ghost use Rattle.std.specs.Prelude.{◌≡◌, ◌++◌, IfOk, IsOkUnless, OnErr, OnOk, filter, length, string_bytes};
 ghost use Rattle.std.specs.Fmt.{decimal};
 ghost use Rattle.prodash_base.specs.Rows.{row_of, rows_of};
-ghost use Rattle.prodash_tui.specs.Headlines.{count_words, counts_text, headline_text, in_three, interrupt_text, interval_text, is_group, runs, waits, with_headline};
+ghost use Rattle.prodash_tui.specs.Headlines.{DrawsHeadline, count_words, counts_text, in_three, interrupt_text, interval_text, is_group, runs, waits};
+ghost use Rattle.prodash_tui.specs.plumbing.PaneParts.{IsHeadline};
 
 use crate::draw::parts::bold;
 use crate::grid::Grid;
@@ -18,23 +19,24 @@ const NANOSECONDS_PER_SECOND: u64 = 1_000_000_000;
 /// Draws the headline at the right end of the first row of a rectangle, before a column that stays
 /// free: what `q` does, and how many tasks run, wait for something, and are groups. If more than a
 /// second is between two frames, it has that time in seconds, and `now`, the moment of this frame.
+/// `interval` is the time between two frames in nanoseconds.
 ///
 /// `Memory`: out of memory. The grid is then as it was.
 pub fn headline(
     alloc: Global,
     rows: &[Row],
     mode: InterruptMode,
-    nanoseconds_per_frame: u64,
+    interval: u64,
     now: &str,
     bound: Rect,
     grid: &mut Grid,
 ) -> Result<(), Refusal>
-    ensures ok { OnOk result (grid.new ≡ with_headline bound
-        (headline_text mode nanoseconds_per_frame now.now (rows_of rows.now)) grid.old) }
+    ensures ok { OnOk result
+        (DrawsHeadline bound mode interval now.now rows.now grid.old grid.new) }
     ensures err { OnErr result (grid.new ≡ grid.old) }
     ensures reason { IsOkUnless result Refusal.Memory }
 {
-    let text = headline_text(alloc, rows, mode, nanoseconds_per_frame, now)?;
+    let text = headline_text(alloc, rows, mode, interval, now)?;
     let text = text.as_str();
     let right = snap_to_right(bound, block_width(text).saturating_add(1));
     grid.draw_text_with_ellipsis(right, text, bold());
@@ -46,15 +48,14 @@ fn headline_text(
     alloc: Global,
     rows: &[Row],
     mode: InterruptMode,
-    nanoseconds_per_frame: u64,
+    interval: u64,
     now: &str,
 ) -> Result<String, Refusal>
-    ensures ok { IfOk result (λ text. string_bytes text
-        ≡ headline_text mode nanoseconds_per_frame now.now (rows_of rows.now)) }
+    ensures ok { IfOk result (IsHeadline mode interval now.now rows.now) }
     ensures reason { IsOkUnless result Refusal.Memory }
 {
     let quit = interrupt_text(mode);
-    let interval = interval_text(alloc, nanoseconds_per_frame, now)?;
+    let interval = interval_text(alloc, interval, now)?;
     let counts = counts_text(alloc, rows)?;
     Ok(format!(in alloc; " {quit} {interval} {counts} ")?)
 }
@@ -72,15 +73,14 @@ fn interrupt_text(mode: InterruptMode) -> &'static str
 
 /// Returns how often a frame is drawn, and when this one is, if there is more than a second between
 /// frames, and else an empty text.
-fn interval_text(alloc: Global, nanoseconds_per_frame: u64, now: &str) -> Result<String, Refusal>
-    ensures ok { IfOk result (λ text.
-        string_bytes text ≡ interval_text nanoseconds_per_frame now.now) }
+fn interval_text(alloc: Global, interval: u64, now: &str) -> Result<String, Refusal>
+    ensures ok { IfOk result (λ text. string_bytes text ≡ interval_text interval now.now) }
     ensures reason { IsOkUnless result Refusal.Memory }
 {
-    if nanoseconds_per_frame <= NANOSECONDS_PER_SECOND {
+    if interval <= NANOSECONDS_PER_SECOND {
         return Ok(String::new(alloc));
     }
-    let seconds = nanoseconds_per_frame / NANOSECONDS_PER_SECOND;
+    let seconds = interval / NANOSECONDS_PER_SECOND;
     Ok(format!(in alloc; " Every {seconds}s → {now}")?)
 }
 

@@ -1,6 +1,6 @@
 //! The messages pane.
 ghost use Rattle.std.specs.Prelude.{◌≡◌, ◌+◌, ◌-◌, length, IfOk, IsOkUnless, OnOk, string_bytes};
-ghost use Rattle.prodash_tui.specs.MessagePanes.{hidden_text, level_color, level_style, level_text, messages_bound, origin_width, shown_messages, skipped_messages, text_bound, with_columns, with_hidden, with_list, with_message, with_message_pane, with_messages};
+ghost use Rattle.prodash_tui.specs.MessagePanes.{DrawsMessages, hidden_text, level_color, level_style, level_text, messages_bound, origin_width, shown_messages, skipped_messages, text_bound, with_columns, with_hidden, with_list, with_message, with_messages};
 
 use crate::draw::parts::{bold, draw_at_right, draw_head};
 use crate::grid::Grid;
@@ -36,7 +36,7 @@ pub fn pane(
 ) -> Result<(), Refusal>
     ensures offset { offset.new ≡ skipped_messages offset.old bound messages.now }
     ensures ok { OnOk result
-        (grid.new ≡ with_message_pane messages.now bound overflow offset.old grid.old) }
+        (DrawsMessages messages.now bound overflow offset.old grid.old grid.new) }
     ensures reason { IsOkUnless result Refusal.Memory }
 {
     let area = messages_bound(bound);

@@ -3,12 +3,14 @@ ghost use Rattle.std.specs.Prelude.{◌≡◌, OnOk, IfOk, IsOkUnless};
 ghost use Rattle.prodash_base.specs.Adjacency.{IsAscending, paths_of};
 ghost use Rattle.prodash_base.specs.Rows.{rows_of};
 ghost use Rattle.prodash_tui.specs.ProgressPanes as panes;
-ghost use Rattle.prodash_tui.specs.ProgressPanes.{known_columns, lines_behind, scrolled, with_progress_pane, with_tree_on, with_hidden};
+ghost use Rattle.prodash_tui.specs.ProgressPanes.{DrawsPane, known_columns, lines_behind, scrolled, with_hidden};
+ghost use Rattle.prodash_tui.specs.plumbing.PaneParts.{DrawsTreeOn};
 
 mod bar;
 mod hidden;
 mod lines;
 mod row;
+mod tasks;
 mod texts;
 mod tree;
 
@@ -25,6 +27,7 @@ use prodash_base::time::Moment;
 use prodash_core::render::tui::Rect;
 use row::{draw_rows, widest_amount};
 use std::alloc::Global;
+pub use tasks::Tasks;
 use tree::draw_tree;
 
 /// The fewest columns of a tree.
@@ -78,7 +81,7 @@ fn draw_tree_on(
 ) -> Result<u16, Refusal>
     requires sorted { IsAscending (paths_of rows.now) }
     ensures drawn { OnOk result
-        (grid.new ≡ with_tree_on columns (rows_of rows.now) area offset grid.old) }
+        (DrawsTreeOn columns rows.now area offset grid.old grid.new) }
     ensures columns { IfOk result (λ n.
         n ≡ known_columns columns (rows_of rows.now) area offset) }
     ensures reason { IsOkUnless result Refusal.Memory }
@@ -140,39 +143,38 @@ fn draw_hidden_line(
     draw_hidden(grid, text, rows, offset, shown, tree, bottom_of(area))
 }
 
-/// Draws rows in a rectangle: the branches and the names of a tree on the left, if a third of the
-/// rectangle has 20 columns, and behind it the progress of each row, a bar if it has a bound and a
-/// spinner if not. If the rows don't fit, the last line says how many are hidden, and how much of
+/// Draws tasks in a rectangle: the branches and the names of a tree on the left, if a third of the
+/// rectangle has 20 columns, and behind it the progress of each row with its throughput, a bar if it
+/// has a bound and a spinner if not. If the rows don't fit, the last line says how many are hidden, and how much of
 /// them is done in the mean.
 ///
-/// `at` is the moment for which times are told, `scroll` how far the rows are scrolled, and `text`
-/// memory for texts, which is written over. The rows must be in strictly ascending order of their
-/// keys, as those of a snapshot are. Returns how far they are scrolled now, which is no further
-/// than leaves the lines full, and how many columns the widest row of the tree has, for the next
-/// frame.
+/// `scroll` is how far the rows are scrolled, and `text` memory for texts, which is written over. The
+/// rows must be in strictly ascending order of their keys, as those of a snapshot are. Returns how
+/// far they are scrolled now, which is no further than leaves the lines full, and how many columns
+/// the widest row of the tree has, for the next frame.
 ///
 /// `Memory`: out of memory. A part of the rows may be drawn then.
 pub fn pane(
     alloc: Global,
     grid: &mut Grid,
     text: &mut String,
-    rows: &[Row],
-    at: Moment,
+    tasks: &Tasks<'_>,
     scroll: Scroll,
     area: Rect,
 ) -> Result<Scroll, Refusal>
-    requires sorted { IsAscending (paths_of rows.now) }
-    ensures drawn { OnOk result
-        (grid.new ≡ with_progress_pane (rows_of rows.now) at scroll area grid.old) }
-    ensures scrolled { IfOk result (λ s. s ≡ scrolled (rows_of rows.now) scroll area) }
+    requires sorted { IsAscending (paths_of tasks.now.rows.now) }
+    ensures drawn { OnOk result (DrawsPane tasks.now scroll area grid.old grid.new) }
+    ensures scrolled { IfOk result
+        (λ s. s ≡ scrolled (rows_of tasks.now.rows.now) scroll area) }
     ensures reason { IsOkUnless result Refusal.Memory }
 {
+    let rows = tasks.rows;
     let shown = rows_area(rows, area);
     let offset = sanitize_offset(scroll.offset, rows.len(), shown.height);
     let tree = tree_width(area, scroll.tree_columns);
     let tree_columns = draw_tree_on(alloc, grid, text, rows, tree, shown, offset)?;
-    let lines = lines_behind(alloc, text, rows, tree, shown, offset, at)?;
-    draw_rows(alloc, grid, text, rows, &lines)?;
+    let lines = lines_behind(alloc, text, rows, tree, shown, offset, tasks.at)?;
+    draw_rows(alloc, grid, text, rows, tasks.rates, &lines)?;
     draw_hidden_line(grid, text, rows, offset, tree, area)?;
     Ok(Scroll {
         offset,

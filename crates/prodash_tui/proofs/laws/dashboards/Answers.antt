@@ -14,11 +14,12 @@ pub returns-clause-headline : goal.returns-clause-headline
 returns-clause-headline c = λ text d area g h. fit_headline d area text g h
 
 pub returns-clause-progress : goal.returns-clause-progress
-returns-clause-progress c = λ rows at scroll d area g h. fit_pane d rows at scroll area g h
+returns-clause-progress c = λ rows rates at scroll d area g h. fit_pane d rows rates at scroll area g h
 
 pub returns-clause-whole : goal.returns-clause-whole
-returns-clause-whole c = λ s input d area g h.
-    fit_dashboard (with_task_pane input s.task_offset) (λ d area g h. fit_pane d (rows_of input.rows.now) input.at (scroll_of input s.task_offset) area g h) s input d area g h
+returns-clause-whole c = λ rates s input d area g h.
+    fit_dashboard (with_task_pane rates input s.task_offset) (λ d area g h. fit_pane d (rows_of input.rows.now) rates input.at (scroll_of input s.task_offset) area g h)
+    s input d area g h
 
 pub returns-clause-all : goal.returns-clause-all
 returns-clause-all c = fit_dashboard

@@ -3,7 +3,8 @@ ghost use Rattle.std.specs.Prelude.{◌≡◌, ◌+◌, ◌*◌, ◌≤◌, ◌<
 ghost use Rattle.std.specs.Option.{option_map};
 ghost use Rattle.prodash_base.specs.Rows.{progress_of, rows_of};
 ghost use Rattle.prodash_tui.specs.ProgressPanes as panes;
-ghost use Rattle.prodash_tui.specs.ProgressPanes.{hidden, with_overflow, with_text_on};
+ghost use Rattle.prodash_tui.specs.ProgressPanes.{hidden, with_text_on};
+ghost use Rattle.prodash_tui.specs.plumbing.PaneParts.{DrawsOverflow};
 
 use crate::draw::progress::bar::{bar_columns, black_on, draw_bar, draw_text_across, filled_cells};
 use crate::draw::progress::texts::{KEYS, write_hidden};
@@ -81,7 +82,7 @@ pub(crate) fn draw_hidden(
     area: Rect,
 ) -> Result<(), Refusal>
     ensures drawn { OnOk result
-        (grid.new ≡ with_overflow (rows_of rows.now) offset shown tree area grid.old) }
+        (DrawsOverflow rows.now offset shown tree area grid.old grid.new) }
     ensures reason { IsOkUnless result Refusal.Memory }
 {
     let end = usize::from(offset) + usize::from(shown);

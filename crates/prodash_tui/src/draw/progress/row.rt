@@ -4,8 +4,10 @@ ghost use Rattle.std.specs.Option.{option_map};
 ghost use Rattle.prodash_base.specs.Adjacency.{IsAscending, paths_of};
 ghost use Rattle.prodash_base.specs.Rows.{progress_of, rows_of};
 ghost use Rattle.prodash_tui.specs.ProgressPanes as panes;
-ghost use Rattle.prodash_tui.specs.ProgressPanes.{behind_branches, widest_amount, with_bounded, with_branches, with_group, with_row, with_rows, with_value};
+ghost use Rattle.prodash_tui.specs.ProgressPanes.{behind_branches, widest_amount, with_bounded, with_branches, with_group, with_rows};
+ghost use Rattle.prodash_tui.specs.Rates.{rate_at};
 ghost use Rattle.prodash_tui.specs.RowTexts.{amount_columns};
+ghost use Rattle.prodash_tui.specs.plumbing.PaneParts.{DrawsRow, DrawsValue};
 
 use crate::draw::parts::bold;
 use crate::draw::progress::bar::{
@@ -23,6 +25,7 @@ use crate::style::Style;
 use crate::text::block_width;
 use prodash_base::Refusal;
 use prodash_base::progress::{Row, Step, Value};
+use prodash_base::unit::display::Throughput;
 use prodash_core::render::tui::{Rect, VERTICAL_LINE};
 use std::alloc::Global;
 
@@ -86,47 +89,43 @@ fn draw_bounded(grid: &mut Grid, value: &Value, bound: Step, label: &str, line: 
     draw_text_across(grid, line, columns, black_on(color), Style::new(), label);
 }
 
-/// Draws a progress behind the branches of its line.
-fn draw_value(
-    alloc: Global,
-    grid: &mut Grid,
-    text: &mut String,
-    value: &Value,
-    lines: &Lines,
-    line: u16,
-    behind: Rect,
-) -> Result<(), Refusal>
-    ensures drawn { OnOk result (grid.new
-        ≡ with_value (progress_of value.now) value.now.done_at lines.now line behind grid.old) }
-    ensures reason { IsOkUnless result Refusal.Memory }
+/// Draws a progress with its label behind the branches of its line.
+fn draw_value(grid: &mut Grid, value: &Value, label: &str, lines: &Lines, line: u16, behind: Rect)
+    ensures { DrawsValue value.now label.now lines.now line behind grid.old grid.new }
 {
-    write_label(alloc, text, lines.at, value)?;
     match value.done_at {
-        Some(bound) => draw_bounded(grid, value, bound, text.as_str(), behind),
+        Some(bound) => draw_bounded(grid, value, bound, label, behind),
         None => {
-            grid.draw_text_with_ellipsis(behind, text.as_str(), Style::new());
+            grid.draw_text_with_ellipsis(behind, label, Style::new());
             let whole = line_bound(lines.area, usize::from(line));
             let place = u128::from(value.step) + u128::from(line);
             let area = offset_x(whole, lines.amount_columns);
             draw_spinner(grid, area, place, spinner_color(value));
         }
     }
-    Ok(())
 }
 
-/// Draws a row on a line.
+/// Returns the throughput of a row; none of a row behind the end of the list.
+fn rate_at(rates: &[Option<Throughput>], index: usize) -> Option<Throughput>
+    ensures { result ≡ rate_at rates.now index }
+{
+    rates.get(index).copied().flatten()
+}
+
+/// Draws a row with its throughput on a line.
 fn draw_row(
     alloc: Global,
     grid: &mut Grid,
     text: &mut String,
     rows: &[Row],
+    rates: &[Option<Throughput>],
     lines: &Lines,
     line: u16,
 ) -> Result<(), Refusal>
     requires sorted { IsAscending (paths_of rows.now) }
     requires inside { lines.now.offset + line < length rows.now }
     ensures drawn { OnOk result
-        (grid.new ≡ with_row (rows_of rows.now) lines.now line grid.old) }
+        (DrawsRow rows.now rates.now lines.now line grid.old grid.new) }
     ensures reason { IsOkUnless result Refusal.Memory }
 {
     let index = usize::from(lines.offset) + usize::from(line);
@@ -134,7 +133,11 @@ fn draw_row(
     let behind = draw_branches(alloc, grid, rows, index, bound)?;
     let row = &rows[index];
     match &row.progress {
-        Some(value) => draw_value(alloc, grid, text, value, lines, line, behind),
+        Some(value) => {
+            write_label(alloc, text, lines.at, rate_at(rates, index), value)?;
+            draw_value(grid, value, text.as_str(), lines, line, behind);
+            Ok(())
+        }
         None => {
             let columns = rule_columns(has_child(rows, index), lines.area.width);
             draw_group(grid, text, row.name.as_str(), columns, behind)
@@ -142,25 +145,28 @@ fn draw_row(
     }
 }
 
-/// Draws rows on lines.
+/// Draws rows with their throughputs on lines.
 pub(crate) fn draw_rows(
     alloc: Global,
     grid: &mut Grid,
     text: &mut String,
     rows: &[Row],
+    rates: &[Option<Throughput>],
     lines: &Lines,
 ) -> Result<(), Refusal>
     requires sorted { IsAscending (paths_of rows.now) }
-    ensures drawn { OnOk result (grid.new ≡ with_rows (rows_of rows.now) lines.now grid.old) }
+    ensures drawn { OnOk result
+        (grid.new ≡ with_rows (rows_of rows.now) rates.now lines.now grid.old) }
     ensures reason { IsOkUnless result Refusal.Memory }
 {
     for line in 0..shown_count(rows, lines.area, lines.offset) {
-        draw_row(alloc, grid, text, rows, lines, line)?;
+        draw_row(alloc, grid, text, rows, rates, lines, line)?;
     }
     Ok(())
 }
 
-/// Returns how many columns the amount of a row has; 0 of a group. Writes over the text.
+/// Returns how many columns the amount of a row has without its throughput; 0 of a group. Writes
+/// over the text.
 fn columns_of_amount(alloc: Global, text: &mut String, row: &Row) -> Result<u16, Refusal>
     ensures ok { IfOk result (λ n.
         n ≡ amount_columns (option_map progress_of row.now.progress)) }

@@ -1,7 +1,7 @@
 //! The texts of a progress pane.
 //!
 //! A call named `push_..` that is refused may have appended a part of its text.
-ghost use Rattle.std.specs.Prelude.{◌≡◌, ◌++◌, ◌<◌, length, codes, OnOk, IfOk, IsOkUnless, string_bytes};
+ghost use Rattle.std.specs.Prelude.{◌≡◌, ◌++◌, ◌<◌, length, codes, None, OnOk, IfOk, IsOkUnless, string_bytes};
 ghost use Rattle.prodash_base.specs.Adjacency.{IsAscending, paths_of};
 ghost use Rattle.prodash_base.specs.Appending.{Appends};
 ghost use Rattle.prodash_base.specs.Rows.{progress_of, rows_of};
@@ -16,6 +16,7 @@ use prodash_base::Refusal;
 use prodash_base::progress::{Row, State, Step, Value};
 use prodash_base::time::Moment;
 use prodash_base::times::seconds_text;
+use prodash_base::unit::display::Throughput;
 use prodash_core::render::tui::level_prefix;
 use std::alloc::{AllocError, Global};
 
@@ -78,29 +79,35 @@ fn push_fraction(text: &mut String, step: Step, bound: Option<Step>) -> Result<(
     Ok(())
 }
 
-/// Appends a progress in its unit, or as a fraction if it has none.
-fn push_amount(alloc: Global, text: &mut String, value: &Value) -> Result<(), Refusal>
+/// Appends a progress in its unit, with its throughput if the unit shows one, or as a fraction if it
+/// has no unit.
+fn push_amount(
+    alloc: Global,
+    text: &mut String,
+    rate: Option<Throughput>,
+    value: &Value,
+) -> Result<(), Refusal>
     ensures ok { OnOk result
-        (Appends text.old (amount_text (progress_of value.now)) text.new) }
+        (Appends text.old (amount_text rate (progress_of value.now)) text.new) }
     ensures reason { IsOkUnless result Refusal.Memory }
 {
     match &value.unit {
         None => Ok(push_fraction(text, value.step, value.done_at)?),
         Some(unit) => {
-            let display = unit.display(alloc, value.step, value.done_at, None);
+            let display = unit.display(alloc, value.step, value.done_at, rate);
             display.append_to(text)
         }
     }
 }
 
-/// Writes a progress over the text, and returns how many columns it has.
+/// Writes a progress without its throughput over the text, and returns how many columns it has.
 pub(crate) fn write_amount(alloc: Global, text: &mut String, value: &Value) -> Result<u16, Refusal>
     ensures ok { IfOk result (λ n.
-        n ≡ block_width (amount_text (progress_of value.now))) }
+        n ≡ block_width (amount_text None (progress_of value.now))) }
     ensures reason { IsOkUnless result Refusal.Memory }
 {
     text.clear();
-    push_amount(alloc, text, value)?;
+    push_amount(alloc, text, None, value)?;
     Ok(block_width(text.as_str()))
 }
 
@@ -161,19 +168,21 @@ fn push_waits(alloc: Global, text: &mut String, at: Moment, value: &Value) -> Re
     }
 }
 
-/// Writes what is said of a progress at a moment over the text.
+/// Writes what is said of a progress with this throughput at a moment over the text.
 pub(crate) fn write_label(
     alloc: Global,
     text: &mut String,
     at: Moment,
+    rate: Option<Throughput>,
     value: &Value,
 ) -> Result<(), Refusal>
-    ensures ok { OnOk result (string_bytes text.new ≡ label_text at (progress_of value.now)) }
+    ensures ok { OnOk result
+        (string_bytes text.new ≡ label_text at rate (progress_of value.now)) }
     ensures reason { IsOkUnless result Refusal.Memory }
 {
     text.clear();
     text.push_str(" ")?;
-    push_amount(alloc, text, value)?;
+    push_amount(alloc, text, rate, value)?;
     push_waits(alloc, text, at, value)
 }
 

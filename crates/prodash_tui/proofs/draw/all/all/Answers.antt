@@ -27,7 +27,7 @@ returns-then-is_small-clause-ok c =
     let window = window_of s input c.args.bound c.args.grid.now in
     let drawn = window_as c.bounds_of-bounds.result b c.as_str.result.now (string_bytes s.title) c.args.grid.now c.draw_window.new.grid c.draw_window.ensures c.bounds_of-bounds.ensures c.as_str.ensures.value in
     let small : is_small b.window ≡ true = sym (c.is_small.ensures ∙ ap (λ (x : Bounds). is_small x.window) c.bounds_of-bounds.ensures) ∙ c.if-is_small.true in
-    drawn ∙ chosen (is_small b.window) true window (with_panes (with_task_pane input s.task_offset) s input b window) small
+    drawn ∙ chosen (is_small b.window) true window (with_panes (with_task_pane c.args.rates.now input s.task_offset) s input b window) small
 
 pub returns-clause-ok : goal.returns-clause-ok
 returns-clause-ok c =
@@ -37,7 +37,7 @@ returns-clause-ok c =
     let window = window_of s input c.args.bound c.args.grid.now in
     let drawn = window_as c.bounds_of-bounds.result b c.as_str.result.now (string_bytes s.title) c.args.grid.now c.draw_window.new.grid c.draw_window.ensures c.bounds_of-bounds.ensures c.as_str.ensures.value in
     let large : is_small b.window ≡ false = sym (c.is_small.ensures ∙ ap (λ (x : Bounds). is_small x.window) c.bounds_of-bounds.ensures) ∙ c.if-is_small.false in
-    let all = ap (λ (x : Bounds). with_panes (with_task_pane input s.task_offset) s input x c.draw_window.new.grid) c.bounds_of-bounds.ensures
-    ∙ ap (with_panes (with_task_pane input s.task_offset) s input b) drawn
-    ∙ chosen (is_small b.window) false window (with_panes (with_task_pane input s.task_offset) s input b window) large in
+    let all = ap (λ (x : Bounds). with_panes (with_task_pane c.args.rates.now input s.task_offset) s input x c.draw_window.new.grid) c.bounds_of-bounds.ensures
+    ∙ ap (with_panes (with_task_pane c.args.rates.now input s.task_offset) s input b) drawn
+    ∙ chosen (is_small b.window) false window (with_panes (with_task_pane c.args.rates.now input s.task_offset) s input b window) large in
     subst (λ (g : Sheet). OnOk c.draw_panes.result (c.draw_panes.new.grid ≡ g)) all c.draw_panes.ensures.ok

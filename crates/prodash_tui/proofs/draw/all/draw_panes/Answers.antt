@@ -38,5 +38,5 @@ returns-clause-ok c =
     let listed : c.draw_messages.new.grid ≡ with_messages_in b.messages b.window s.message_offset input.messages.now c.draw_tasks.new.grid = c.in_ok-draw_messages.ensures.ok in
     let drawn : c.draw_information.new.grid ≡ with_information_in b.information s.information.items c.draw_messages.new.grid =
     c.draw_information.ensures ∙ ap (λ lines. with_information_in b.information lines c.draw_messages.new.grid) c.as_slice.ensures.value in
-    one_after_another (with_task_pane input s.task_offset) s input b g c.headline.new.grid c.draw_tasks.new.grid c.draw_messages.new.grid c.draw_information.new.grid
+    one_after_another (with_task_pane c.args.rates.now input s.task_offset) s input b g c.headline.new.grid c.draw_tasks.new.grid c.draw_messages.new.grid c.draw_information.new.grid
     headed c.in_ok-scroll.ensures.ok listed drawn

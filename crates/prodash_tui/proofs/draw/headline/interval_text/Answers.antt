@@ -8,5 +8,5 @@ is_long n h = grind (arith, nat_tests)
 pub returns-clause-ok : goal.returns-clause-ok
 unfolding lib.Utf8.encode
 returns-clause-ok c =
-    let long : nat_lt 1000000000 c.args.nanoseconds_per_frame ≡ true = is_long c.args.nanoseconds_per_frame (omega arith) in
+    let long : nat_lt 1000000000 c.args.interval ≡ true = is_long c.args.interval (omega arith) in
     rw long c.in_ok-format.ensures.ok

@@ -7,16 +7,17 @@ use Rattle.prodash_tui.proofs.draw.progress.pane.Goals as goal
 
 pub returns-clause-drawn : goal.returns-clause-drawn
 returns-clause-drawn c =
-    let rows = rows_of c.args.rows.now in
+    let rows = rows_of c.args.tasks.now.rows.now in
+    let rates = c.args.tasks.now.rates.now in
     let area = c.args.area in
     let scroll = c.args.scroll in
     let shown : c.rows_area-shown.result ≡ rows_area rows area = c.rows_area-shown.ensures in
     let offset : c.sanitize_offset-offset.result ≡ rows_offset rows area scroll.offset =
-    c.sanitize_offset-offset.ensures ∙ (λ i. sanitize_offset scroll.offset (sym (length_rows c.args.rows.now) i) (shown i).height) in
+    c.sanitize_offset-offset.ensures ∙ (λ i. sanitize_offset scroll.offset (sym (length_rows c.args.tasks.now.rows.now) i) (shown i).height) in
     let tree : c.tree_width-tree.result ≡ tree_width area scroll.tree_columns = c.tree_width-tree.ensures in
     let left : c.draw_tree_on.new.grid ≡ with_tree_on (tree_width area scroll.tree_columns) rows (rows_area rows area) (rows_offset rows area scroll.offset) c.args.grid.now =
     c.in_ok-tree_columns.ensures.drawn ∙ (λ i. with_tree_on (tree i) rows (shown i) (offset i) c.args.grid.now) in
-    let lines : c.in_ok-lines.lines ≡ lines_behind (tree_width area scroll.tree_columns) rows (rows_area rows area) (rows_offset rows area scroll.offset) c.args.at =
-    c.in_ok-lines.ensures.ok ∙ (λ i. lines_behind (tree i) rows (shown i) (offset i) c.args.at) in
+    let lines : c.in_ok-lines.lines ≡ lines_behind (tree_width area scroll.tree_columns) rows (rows_area rows area) (rows_offset rows area scroll.offset) c.args.tasks.now.at =
+    c.in_ok-lines.ensures.ok ∙ (λ i. lines_behind (tree i) rows (shown i) (offset i) c.args.tasks.now.at) in
     c.in_ok-draw_hidden_line.ensures.drawn
-    ∙ (λ i. with_hidden rows (offset i) (tree i) area ((c.in_ok-draw_rows.ensures.drawn ∙ (λ j. with_rows rows (lines j) (left j))) i))
+    ∙ (λ i. with_hidden rows (offset i) (tree i) area ((c.in_ok-draw_rows.ensures.drawn ∙ (λ j. with_rows rows rates (lines j) (left j))) i))

@@ -20,12 +20,12 @@ returns-in-None-clause-drawn c =
     let inside : c.from.result + c.from-2.result < length all = omega arith in
     let said : row_at rows (c.from.result + c.from-2.result) ≡ row_of c.index-rows-index.result = said_by all (c.from.result + c.from-2.result) c.index-rows-index.result inside c.index-rows-index.is in
     let here : row_at rows at ≡ row_of c.index-rows-index.result = ap (λ (n : ℕ). row_at rows n) (sym index) ∙ said in
-    let name : c.as_str.result.now ≡ (row_at rows at).1.name = c.as_str.ensures ∙ ap (λ (r : PathRow). r.1.name) (sym here) in
+    let name : c.as_str-in-None.result.now ≡ (row_at rows at).1.name = c.as_str-in-None.ensures ∙ ap (λ (r : PathRow). r.1.name) (sym here) in
     let none : (row_at rows at).1.progress ≡ None = ap (λ (r : PathRow). r.1.progress) here ∙ ap (option_map progress_of) c.in-None.is in
     let columns : c.rule_columns-columns.result ≡ rule_columns (has_child rows at) lines.area.width =
     c.rule_columns-columns.ensures ∙ ap (λ b. rule_columns b lines.area.width) (c.has_child.ensures ∙ ap (λ (n : ℕ). has_child rows n) index) in
     let behind : c.in_ok-behind.behind ≡ behind_branches rows at (line_bound lines.area line) = c.in_ok-behind.ensures.behind ∙ (λ i. behind_branches rows (index i) (bound i)) in
     let before : c.draw_branches.new.grid ≡ with_branches rows at (line_bound lines.area line) c.args.grid.now = c.in_ok-behind.ensures.drawn ∙ (λ i. with_branches rows (index i) (bound i) c.args.grid.now) in
     on_ok_weaker c.draw_group.result
-    (λ h. h ∙ (λ i. with_group (name i) (columns i) (behind i) (before i)) ∙ sym (group_row rows lines line c.args.grid.now none))
+    (λ h. h ∙ (λ i. with_group (name i) (columns i) (behind i) (before i)) ∙ sym (group_row rows c.args.rates.now lines line c.args.grid.now none))
     c.draw_group.ensures.drawn

@@ -8,5 +8,5 @@ use Rattle.prodash_tui.proofs.draw.progress.row.draw_rows.Goals as goal
 pub loop-line-preserved : goal.loop-line-preserved
 loop-line-preserved c =
     let line = c.loop-line.line in
-    let draw : ℕ → Sheet → Sheet = λ line g. with_row (rows_of c.args.rows.now) c.args.lines.now line g in
+    let draw : ℕ → Sheet → Sheet = λ line g. with_row (rows_of c.args.rows.now) c.args.rates.now c.args.lines.now line g in
     c.in_ok-draw_row.ensures.drawn ∙ ap (draw line) c.loop-line.invariant ∙ sym (line_more line draw c.args.grid.now)
