@@ -1,11 +1,8 @@
 //! What a frame of a dashboard does with its tracker of throughput, if it has one.
-ghost use Rattle.std.specs.Prelude.{◌≡◌, ◌++◌, OnOk, IsOkUnless};
-ghost use Rattle.prodash_base.specs.Rows.{rows_of};
-ghost use Rattle.prodash_base.specs.Trackers.{observe_rows, throughputs_of};
+ghost use Rattle.std.specs.Prelude.{◌≡◌, OnOk, IsOkUnless};
 ghost use Rattle.prodash_line.specs.Tracking.{kept_of};
 ghost use Rattle.prodash_line.specs.plumbing.Observing.{ahead_of};
-ghost use Rattle.prodash_tui.specs.Rates.{rates_by};
-ghost use Rattle.prodash_tui.specs.plumbing.Observed.{kept_with, observed_at};
+ghost use Rattle.prodash_tui.specs.plumbing.Observed.{AppendsRates, AreRatesAt, ObservesEach, ObservesFrame, kept_with};
 
 use prodash_base::Refusal;
 use prodash_base::progress::Row;
@@ -25,10 +22,8 @@ pub(crate) fn observe(
     rows: &[Row],
     rates: &mut Vec<Option<Throughput>>,
 ) -> Result<(), Refusal>
-    ensures ok { OnOk result
-        (rates.new.items ≡ rates_by (kept_of tracker.old) at (rows_of rows.now)) }
-    ensures observed { OnOk result
-        (ahead_of tracker.new ≡ observed_at at rows.now (kept_of tracker.old)) }
+    ensures ok { OnOk result (AreRatesAt at rows.now tracker.old rates.new.items) }
+    ensures observed { OnOk result (ObservesFrame at rows.now tracker.old tracker.new) }
     ensures kept { kept_of tracker.new ≡ kept_of tracker.old }
     ensures reason { IsOkUnless result Refusal.Memory }
 {
@@ -49,10 +44,9 @@ fn observe_rows(
     rows: &[Row],
     rates: &mut Vec<Option<Throughput>>,
 ) -> Result<(), Refusal>
-    ensures ok { OnOk result (rates.new.items
-        ≡ rates.old.items ++ throughputs_of tracker.old.pending (rows_of rows.now)) }
-    ensures observed { OnOk result
-        (tracker.new.pending ≡ observe_rows tracker.old.pending (rows_of rows.now)) }
+    ensures ok { OnOk result
+        (AppendsRates rows.now tracker.old rates.old.items rates.new.items) }
+    ensures observed { OnOk result (ObservesEach rows.now tracker.old tracker.new) }
     ensures kept { tracker.new.kept ≡ tracker.old.kept }
     ensures reason { IsOkUnless result Refusal.Memory }
 {
