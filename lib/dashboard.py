@@ -1,9 +1,9 @@
 """prodash-live --dashboard on a terminal: a dashboard on the alternate screen, and keys for it.
 
-While the dashboard is shown, the terminal passes on each key at once and shows none. Ctrl-C, Ctrl-\\
-and Ctrl-Z are signals as ever, whatever the display does; q and Esc send SIGINT to the group, as
-Ctrl-C does. Whatever ends the dashboard or this process, but for SIGKILL, the terminal is given
-back by one call, `leave`.
+While the dashboard is shown, the terminal passes on each key at once and shows none. The keys that
+are signals stay so, whatever the display does; q and Esc send SIGINT to the group, as Ctrl-C does.
+Whatever ends the dashboard or this process, but for SIGKILL, the terminal is given back by one
+call, `leave`.
 """
 import _signal as signals
 import os
@@ -97,9 +97,14 @@ class Dashboard(Live):
 
     def times(self):
         times = super().times()
-        if self.keys.is_within():
+        if self.keys.left:
+            # the rest of a key may come
             times.append(self.keys.until - time.monotonic())
         return times
+
+    def handle(self, numbers):
+        """Has signals wake this process, also where it goes on after a stop that it wasn't told."""
+        super().handle([*numbers, signals.SIGCONT])
 
     def hold_keys(self):
         """Has the keys if they are those of the dashboard, and gives them back otherwise."""
@@ -165,6 +170,11 @@ class Dashboard(Live):
         """Handles signals."""
         if signals.SIGINT in numbers:
             self.pass_key("ctrl-c")
+        if signals.SIGCONT in numbers:
+            # others may have had the terminal
+            self.keys.give_back()
+            self.hold_keys()
+            self.redraw()
         super().hear(numbers)
 
     def suspend(self):
@@ -219,7 +229,7 @@ def numbers_of(texts):
 
 
 def size_to_fill(said, size):
-    """Returns the columns and the rows that a dashboard has: the terminal's, unless fewer are said."""
+    """Returns the columns and the rows of a dashboard: the terminal's, unless fewer are said."""
     return tuple(min(wanted or most, most) for wanted, most in zip(said, size))
 
 

@@ -141,6 +141,8 @@ class Keyboard(Keys):
         before = signals.pthread_sigmask(signals.SIG_BLOCK, (signals.SIGTTOU,))
         super().give_back()
         signals.pthread_sigmask(signals.SIG_SETMASK, before)
+        # the rest of a key doesn't come any more
+        self.left = b""
 
     def start_output(self):
         """Has the terminal take output again that was stopped by Ctrl-S."""
@@ -155,13 +157,10 @@ class Keyboard(Keys):
 
     def read(self):
         """Reads the keys that are there. A terminal that is gone has none."""
-        before = self.left
+        before, self.until = self.left, time.monotonic() + self.LATE
         super().read()
-        self.left, self.until = before + self.left, time.monotonic() + self.LATE
-
-    def is_within(self):
-        """Returns whether the rest of a key may come."""
-        return bool(self.left)
+        if self.is_held():
+            self.left = before + self.left
 
     def came(self):
         """Yields the names of the keys that have come whole."""

@@ -19,7 +19,9 @@ dashboard in ASCII, and the times of its messages as TIME.
   > next; echo done @b - second
   > .
   $ ascii() {
-  >   sed -E 'y/┌─┐│└┘├┤·→⨯▢█▏▎▍▌▋▊▉⇊⇈↓↑…/+-+|++||.>xo########duDU~/; s/[0-9]{2}(:[0-9]{2}){2}/TIME/'
+  >   sed -E '
+  >     y/┌─┐│└┘├┤·→⨯▢█▏▎▍▌▋▊▉⇊⇈↓↑…/+-+|++||.>xo########duDU~/
+  >     s/[0-9]{2}(:[0-9]{2}){2}/TIME/'
   > }
   $ play() {
   >   sh ${script-script} >lines & { echo "run sh -c 'echo before; exec live --dashboard $1' <lines"
@@ -78,7 +80,9 @@ and its cursor. The messages are below.
 
 It is there before any item is, with a title of its own, and has no colours if none are wanted.
 
-  $ printf '. ./begin >/dev/null; next; echo add @b 0 one; echo init @b 10; echo set @b 3; next\n' >later
+  $ cat >later <<'.'
+  > . ./begin >/dev/null; next; echo add @b 0 one; echo init @b 10; echo set @b 3; next
+  > .
   $ script=later
   $ for it in '' --no-color; do
   >   play "$it" <<'.'
@@ -108,7 +112,8 @@ come back.
 
   $ cat >says <<'.'
   > . ./begin
-  > echo info_title About; echo info_text this script; next; echo info_text and more; echo set @b 4; next
+  > echo info_title About; echo info_text this script
+  > next; echo info_text and more; echo set @b 4; next
   > .
   $ script=says size='90 14'
   $ play <<'.'
@@ -224,8 +229,8 @@ Ctrl-L draws all of it anew, over what the script has written to the terminal by
 An interrupt
 ============
 
-`q`, Esc and Ctrl-C are SIGINT for the script and all of its group. If it goes on, the dashboard stays
-until the lines end, and says that an interrupt was requested.
+`q`, Esc and Ctrl-C are SIGINT for the script and all of its group. If it goes on, the dashboard
+stays until the lines end, and says that an interrupt was requested.
 
   $ cat >asked <<'.'
   > trap 'echo info @b - interrupted' INT
@@ -462,7 +467,17 @@ Other options, and other commands
 The lines for a dashboard do nothing without one. Keys are the user's: no script has lines for them.
 A key counts as no line of the script, nor does a size. Messages are written also without the root.
 
-  $ printf 'title a\ninfo_title b\ninfo_text c\ninfo_clear\nadd @a 0 a\ninfo @a - one\nkey q\nwindow 0 0 3 3\n' | live
+  $ cat >lines.txt <<'.'
+  > title a
+  > info_title b
+  > info_text c
+  > info_clear
+  > add @a 0 a
+  > info @a - one
+  > key q
+  > window 0 0 3 3
+  > .
+  $ live <lines.txt
    a one
    \xe2\x9c\x97 input line 7: unknown command "key", in: key q (esc)
    \xe2\x9c\x97 input line 8: unknown command "window", in: window 0 0 3 3 (esc)

@@ -7,7 +7,7 @@ dashboard in ASCII, and the times of its messages as TIME. `play_to_end` also en
 
   $ export TERM=xterm
   $ unset COLUMNS LINES NO_COLOR
-  $ mkfifo go lines
+  $ mkfifo go lines on
   $ cat >begin <<'.'
   > exec 3<>go
   > next() { until read _ <&3; do :; done; }
@@ -22,7 +22,9 @@ dashboard in ASCII, and the times of its messages as TIME. `play_to_end` also en
   > . ./script; yes '#' | head -n 100000
   > .
   $ ascii() {
-  >   sed -E 'y/┌─┐│└┘├┤·→⨯▢█▏▎▍▌▋▊▉⇊⇈↓↑…/+-+|++||.>xo########duDU~/; s/[0-9]{2}(:[0-9]{2}){2}/TIME/'
+  >   sed -E '
+  >     y/┌─┐│└┘├┤·→⨯▢█▏▎▍▌▋▊▉⇊⇈↓↑…/+-+|++||.>xo########duDU~/
+  >     s/[0-9]{2}(:[0-9]{2}){2}/TIME/'
   > }
   $ play() {
   >   sh ${script-script} >lines & { echo "run sh -c 'echo before; exec live --dashboard $1' <lines"
@@ -91,6 +93,31 @@ the terminal has then.
   same modes
   script: 0
 
+It isn't told of SIGSTOP. When it goes on it has the keys again, and draws all anew, whatever others
+have made of the terminal.
+
+  $ cat >stopper <<'.'
+  > live --dashboard <lines & read _ <on
+  > kill -STOP $!; stty icanon echo; printf '\033[2J\033[Htorn' >&2; kill -CONT $!; echo >went; wait $!
+  > .
+  $ sh script >lines & { echo 'run sh stopper'; cat <<'.'; } | on-terminal 60 10
+  > until 3/10
+  > tell on
+  > file went
+  > tell go
+  > until first
+  > gone torn
+  > raw
+  > tell go
+  > ended
+  > page
+  > modes
+  > .
+  status 0
+  main page
+  same modes
+  $ wait $!
+
 In the background nothing is drawn and no key is read, also if it was begun there.
 
   $ play <<'.'
@@ -140,7 +167,8 @@ In the background nothing is drawn and no key is read, also if it was begun ther
 Ways out
 ========
 
-Whatever ends it, the terminal is as it was. SIGTERM and SIGHUP end it after the lines that have come.
+Whatever ends it, the terminal is as it was. SIGTERM and SIGHUP end it after the lines that have
+come.
 
   $ for it in TERM HUP; do
   >   { echo until 3/10; echo tell go; echo until first; echo end $it; cat <<'.'; } | play_to_end
