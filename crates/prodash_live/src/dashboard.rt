@@ -109,14 +109,17 @@ impl<R: Wait + Threads + Clone + Drop, O: Write + Drop> Dashboard<R, O> {
     /// # Errors
     ///
     /// `Memory`, if there is no memory for it.
-    pub fn press(&mut self, key: Key, now: Moment) -> Result<(), Failure> {
+    pub fn press(&mut self, key: Key) -> Result<(), Failure> {
         if key.code == HELP {
             return self.toggle_keys();
         }
         match self.state.handle(Event::Input(key)) {
             Answer::Skip => Ok(()),
             Answer::Redraw => self.send(Event::Input(key)),
-            Answer::Stop if self.leaves_on_interrupt => self.leave(now),
+            Answer::Stop if self.leaves_on_interrupt => {
+                self.leave();
+                Ok(())
+            }
             Answer::Stop => {
                 self.defer()?;
                 self.state.handle(Event::Input(key));
@@ -156,18 +159,12 @@ impl<R: Wait + Threads + Clone + Drop, O: Write + Drop> Dashboard<R, O> {
         }
     }
 
-    /// Draws a last frame, leaves the terminal, and writes the messages that the tree keeps. From
-    /// now on messages are written as they come.
-    ///
-    /// # Errors
-    ///
-    /// `Memory`, if there is no memory for their lines.
-    pub fn leave(&mut self, now: Moment) -> Result<(), Failure> {
+    /// Draws a last frame and leaves the terminal. The messages that the tree keeps are those that
+    /// are written next.
+    pub fn leave(&mut self) {
         if let Some(handle) = self.handle.take() {
             handle.shutdown_and_wait();
-            self.write(now)?;
         }
-        Ok(())
     }
 
     /// Makes room for one more message. Once the terminal was left they are written before too many
@@ -191,15 +188,9 @@ impl<R: Wait + Threads + Clone + Drop, O: Write + Drop> Dashboard<R, O> {
     /// `Memory`, if there is no memory for their lines.
     pub fn write_messages(&mut self, now: Moment) -> Result<(), Failure> {
         if self.handle.is_none() && self.sent > 0 {
-            self.write(now)?;
+            unless_broken(self.lines.write_messages(now))?;
+            self.sent = 0;
         }
-        Ok(())
-    }
-
-    /// Writes the messages that were not written yet.
-    fn write(&mut self, now: Moment) -> Result<(), Failure> {
-        unless_broken(self.lines.write_messages(now))?;
-        self.sent = 0;
         Ok(())
     }
 
@@ -209,7 +200,7 @@ impl<R: Wait + Threads + Clone + Drop, O: Write + Drop> Dashboard<R, O> {
     ///
     /// `Memory`, if there is no memory for their lines.
     pub fn close(mut self, now: Moment) -> Result<(), Failure> {
-        self.leave(now)?;
+        self.leave();
         self.write_messages(now)
     }
 }

@@ -157,7 +157,7 @@ impl<'a, R: Wait + Threads + Clone + Drop, O: Write + Drop, W: Write + Drop, K: 
         }
         let now = self.clock.now();
         if let Some(DashboardLine::Press(key)) = parse_dashboard_line(self.alloc, line)? {
-            self.display.press(key, now)?;
+            self.display.press(key)?;
         } else if let Command::Size { columns, rows } = self.parse(now, line)? {
             self.set_size(now, columns, rows)?;
         }
@@ -251,7 +251,7 @@ impl<'a, R: Wait + Threads + Clone + Drop, O: Write + Drop, W: Write + Drop, K: 
                 Ok(self.note_drop()?)
             }
             Command::DropRoot => {
-                self.display.leave(now)?;
+                self.display.leave();
                 self.display.write_messages(self.clock)?;
                 self.items.drop_root()
             }

@@ -73,23 +73,18 @@ impl<R: Wait + Threads + Clone + Drop, O: Write + Drop> Shown<R, O> {
     /// # Errors
     ///
     /// `Memory`, if there is no memory for it.
-    pub fn press(&mut self, key: Key, now: Moment) -> Result<(), Failure> {
+    pub fn press(&mut self, key: Key) -> Result<(), Failure> {
         if let Shown::Dashboard(display) = self {
-            display.press(key, now)?;
+            display.press(key)?;
         }
         Ok(())
     }
 
     /// Leaves the terminal to messages, if there is a dashboard.
-    ///
-    /// # Errors
-    ///
-    /// `Memory`, if there is no memory for their lines.
-    pub fn leave(&mut self, now: Moment) -> Result<(), Failure> {
+    pub fn leave(&mut self) {
         if let Shown::Dashboard(display) = self {
-            display.leave(now)?;
+            display.leave();
         }
-        Ok(())
     }
 
     /// Waits until one more message can be kept.
