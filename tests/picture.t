@@ -31,6 +31,11 @@ after the last frame, and then begins again.
   r1-5 copy50/100items |33/s| [===============&gt;----------------]
   r2-3 bytes500.0kB/1.0MB[=======&gt;-------]
 
+docs/dashboard.svg is the picture of a dashboard.
+
+  $ picture --dashboard --columns 96 "$top/docs/dashboard.events" >dashboard.svg
+  $ cmp dashboard.svg "$top/docs/dashboard.svg"
+
 A file whose lines draw no frame, one that has other lines, and one that doesn't exist.
 
   $ printf 'add 0 a\n' >none
