@@ -40,7 +40,7 @@ pub(super) fn drawn(
             Answer::Stop => break,
         }
     }
-    replayed.dashboard.close(&mut replayed.bytes)?;
+    replayed.close()?;
     Ok(replayed.bytes)
 }
 
@@ -120,5 +120,11 @@ impl Replayed {
         };
         self.dashboard.draw(alloc, &contents, &mut self.bytes)?;
         Ok(true)
+    }
+
+    /// Leaves the terminal.
+    fn close(&mut self) -> Result<(), Fault> {
+        self.dashboard.close(&mut self.bytes)?;
+        Ok(())
     }
 }
