@@ -173,14 +173,14 @@ later line draws.
   >     'interrupt deferred\nkey q' 'interrupt deferred\nkey q\ninterrupt instantly'; do
   >     printf '%s: %s\n' "$it" $(bytes_of "$it")
   > done
-  key q: 384
-  key esc: 384
-  key ctrl-c: 384
-  key ctrl-[: 384
-  quit 5: 384
-  droproot: 384
-  interrupt deferred\nkey q: 645
-  interrupt deferred\nkey q\ninterrupt instantly: 540
+  key q: 407
+  key esc: 407
+  key ctrl-c: 407
+  key ctrl-[: 407
+  quit 5: 407
+  droproot: 407
+  interrupt deferred\nkey q: 668
+  interrupt deferred\nkey q\ninterrupt instantly: 563
 
 Lines that are none, and arguments that are wrong.
 
