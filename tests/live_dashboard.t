@@ -329,8 +329,7 @@ The dashboard follows the size of the terminal, down to three by three and back.
   > until 3/10
   > until Build
   > size 3 3
-  > gone 3/10
-  > until B
+  > until B┐
   > screen
   > size 1 1
   > gone B
@@ -368,8 +367,7 @@ One that an option or the environment says stays, as far as the terminal has it.
   > until Build
   > screen
   > size 20 4
-  > gone first
-  > until Build
+  > until CTR…
   > screen
   > size 60 10
   > tell go
