@@ -22,6 +22,7 @@ a folder that was moved, with only Python on the path.
   prefix/lib/prodash/play.py
   prefix/lib/prodash/prodash-live
   prefix/lib/prodash/prodash-pipe
+  prefix/lib/prodash/programs.py
   prefix/lib/prodash/recording.py
   prefix/lib/prodash/relay.py
   prefix/lib/prodash/remote.py
