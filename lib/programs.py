@@ -107,6 +107,21 @@ def ready(name, stderr_is_output=False):
     return unproved(name)
 
 
+def paths(names, are_unproved):
+    """Returns the paths of programs by name: those that are proved, or built without proofs.
+
+    Returns None if one isn't proved as it is, or can't be built. Then it says so.
+    """
+    if are_unproved:
+        return {it: unproved(it) for it in names} if builds("--unproved", *names) else None
+    stale = [it for it in names if not is_proved(it)]
+    if stale:
+        said = f"not proved as they are: {' '.join(stale)}; bin/build proves and builds them"
+        print(said, file=sys.stderr)
+        return None
+    return {it: proved(it) for it in names}
+
+
 def run(name, words, stderr_is_output=False):
     """Runs a program with these words in place of this one, or returns a status if it isn't built.
 

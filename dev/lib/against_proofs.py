@@ -5,7 +5,6 @@ from the function's contract, so a wrong body opens none of their goals. So many
 check, a round, which has one of each function. A function may have no goals where one that it calls
 isn't proved, and is then tried in a further round, and at last alone.
 """
-import os
 import subprocess
 import tempfile
 

@@ -30,15 +30,6 @@ CPU_SECONDS = 20
 # How often a test has to pass, since one of threads may end otherwise now and then: with the right
 # bodies, if that takes no longer than so many seconds, and before a wrong body is not caught.
 RIGHT, RIGHT_SECONDS, WRONG = 50, 5, 20
-# By a program's crate: the command of transcripts.
-PROGRAMS = {
-    "prodash_bench": "prodash-bench",
-    "prodash_examples": "prodash-examples",
-    "prodash_live": "prodash-live",
-    "prodash_pipe": "prodash-pipe",
-    "prodash_replay": "prodash-replay",
-    "prodash_words": "prodash-words",
-}
 
 
 class Bench:
@@ -51,7 +42,7 @@ class Bench:
         words = {word for it in found for word in it.tests}
         self.transcripts = sorted(it for it in words if it.endswith(".t"))
         self.suites = sorted({it.partition("::")[0] for it in words - {*self.transcripts}})
-        self.programs = list(PROGRAMS) if self.transcripts else []
+        self.programs = transcripts.NAMES if self.transcripts else []
 
     def drop(self, number, why):
         self.end(self.left.pop(number), UNFIT, why)
@@ -78,10 +69,11 @@ class Bench:
         """Builds a crate and runs its tests. Returns what was said if that fails, or None."""
         room = f"{folder}/{name}"
         os.mkdir(room)
-        words, seconds = ([], 1) if name in PROGRAMS else (["--test"], WHOLE)
+        is_suite = name in self.suites
+        words, seconds = (["--test"], WHOLE) if is_suite else ([], 1)
         crate = f"{folder}/copy/crates/{name}"
         passed, said, made = unproved.build(crate, room, *words, seconds=seconds, level="-O0")
-        if made is None or not passed and name not in PROGRAMS:
+        if made is None or is_suite and not passed:
             return said
         os.replace(made, f"{self.room}/{name}")
         return None
@@ -100,11 +92,9 @@ class Bench:
         why = self.build(jobs)
         if why:
             return why
-        names = self.tests()
+        names = [*self.tests(), *self.transcripts]
         words = {word for it in self.left.values() for word in it.tests}
-        of_words = {it: [it] for it in self.transcripts}
-        for word in words - {*self.transcripts}:
-            of_words[word] = [it for it in names if f"{it}::".startswith(f"{word}::")]
+        of_words = {it: [name for name in names if f"{name}::".startswith(f"{it}::")] for it in words}
         for number, mutant in list(self.left.items()):
             lacking = [it for it in mutant.tests if not of_words[it]]
             if lacking:
@@ -148,8 +138,8 @@ def failing(room, number, tests, times, seconds=math.inf):
             if n >= len(tests) and time.monotonic() - began > seconds:
                 break
             if it.endswith(".t"):
-                commands = {command: program(name) for name, command in PROGRAMS.items()}
-                passes = transcripts.passes(f"{crates.TOP}/tests/{it}", commands)
+                paths = {name: program(name) for name in transcripts.NAMES}
+                passes = transcripts.passes(f"{crates.TOP}/tests/{it}", paths)
             else:
                 suite, _, name = it.partition("::")
                 passes = test_passes(program(suite), name)

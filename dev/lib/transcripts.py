@@ -8,6 +8,7 @@ commands of a file.
 """
 import contextlib
 import difflib
+import operator
 import os
 import re
 import select
@@ -17,9 +18,12 @@ import subprocess
 import tempfile
 import time
 
+# The crates of the programs that the path has.
+NAMES = [f"prodash_{it}" for it in ("bench", "examples", "live", "pipe", "replay", "words")]
 # How long a command may take, and how many bytes it may write.
 SECONDS, BYTES = 60, 1 << 20
-COMMAND, MORE, OUTPUT = "  $ ", "  > ", "  "
+# A command, and what it writes.
+COMMAND = re.compile(r"(?m)(^  \$ .*\n?(?:^  > .*\n?)*)((?:^  (?!\$ ).*\n?)*)")
 # Scripts that the path has too.
 TOP = os.path.dirname(os.path.dirname(os.path.dirname(os.path.realpath(__file__))))
 SCRIPTS = {
@@ -39,30 +43,11 @@ TERMINAL = {"TERM": "xterm", "LC_ALL": "C.UTF-8"}
 SHORT = {"\\": "\\\\", "\r": "\\r", "\t": "\\t"}
 
 
-class Command:
-    """A command of a transcript: its lines, and those that it has to write."""
-
-    def __init__(self, line):
-        self.lines, self.expected = [line], []
-
-    def text(self):
-        return "".join(it[len(COMMAND) :] for it in self.lines)
-
-
-def read(lines):
-    """Returns the parts of a transcript: its commands, and its lines of prose."""
-    parts = []
-    for line in lines:
-        last = parts[-1] if parts and isinstance(parts[-1], Command) else None
-        if line.startswith(COMMAND):
-            parts.append(Command(line))
-        elif last and line.startswith(MORE) and not last.expected:
-            last.lines.append(line)
-        elif last and line.startswith(OUTPUT):
-            last.expected.append(line)
-        else:
-            parts.append(line)
-    return parts
+def read(path):
+    """Returns the prose around the commands of a transcript, these, and what they have to write."""
+    with open(path, encoding="utf-8") as it:
+        parts = COMMAND.split(it.read())
+    return parts[::3], parts[1::3], parts[2::3]
 
 
 def escaped(found):
@@ -76,7 +61,7 @@ def shown(line):
     text = text[:-1] if text.endswith("\n") else f"{text} (no-eol)"
     if re.search(r"[^ -~]", text):
         text = re.sub(r"[^ -~]|\\", escaped, text) + " (esc)"
-    return f"{OUTPUT}{text}\n"
+    return f"  {text}\n"
 
 
 def read_to(end, pipe, given):
@@ -109,10 +94,10 @@ def outputs(end, pipe, count):
 
 
 def run(commands, programs, **variables):
-    """Runs commands in a new folder, and yields the lines that each writes.
+    """Runs commands in a new folder, and yields what a transcript has of what each writes.
 
-    The path begins with these programs, by name, and the scripts. The environment has these
-    variables.
+    The path begins with these programs, by their crates, and the scripts. The environment has
+    these variables.
     """
     mark = f"end-of-command-{os.urandom(8).hex()}"
     end = re.compile(rb"%s (\d+)\n" % mark.encode())
@@ -123,9 +108,10 @@ def run(commands, programs, **variables):
         for folder in ("bin", "work"):
             os.mkdir(f"{room}/{folder}")
         for name, path in {**programs, **SCRIPTS}.items():
-            os.symlink(path, f"{room}/bin/{name}")
+            os.symlink(path, f"{room}/bin/{name.replace('_', '-')}")
         with open(f"{room}/script", "w", encoding="utf-8") as it:
-            it.writelines(f"{command.text()}echo {mark} $?\n" for command in commands)
+            texts = (re.sub(r"(?m)^  [$>] ", "", command) for command in commands)
+            it.writelines(f"{text}echo {mark} $?\n" for text in texts)
         env = {"PATH": f"{room}/bin:{os.environ['PATH']}", **TERMINAL, **variables}
         how = {"cwd": f"{room}/work", "env": env, "stdin": subprocess.DEVNULL}
         how |= {"stdout": subprocess.PIPE, "stderr": subprocess.STDOUT}
@@ -135,7 +121,7 @@ def run(commands, programs, **variables):
             try:
                 for output, status in outputs(end, shell.stdout, len(commands)):
                     lines = [shown(it) for it in re.findall(rb"[^\n]*\n|[^\n]+", output)]
-                    yield [*lines, *([f"{OUTPUT}[{status}]\n"] if status != "0" else [])]
+                    yield "".join(lines) + (f"  [{status}]\n" if status != "0" else "")
             finally:
                 # what hangs, or goes on in the background
                 os.killpg(shell.pid, signal.SIGKILL)
@@ -143,16 +129,12 @@ def run(commands, programs, **variables):
 
 def play(path, programs, **variables):
     """Runs a transcript, prints how it differs, and returns how many commands passed and failed."""
-    with open(path, encoding="utf-8") as it:
-        lines = it.readlines()
-    parts = read(lines)
-    commands = [it for it in parts if isinstance(it, Command)]
+    prose, commands, expected = read(path)
     written = list(run(commands, programs, **variables))
-    wrote, played = iter(written), []
-    for it in parts:
-        played += [*it.lines, *next(wrote)] if isinstance(it, Command) else [it]
+    texts = ([prose[0], *map("".join, zip(commands, it, prose[1:]))] for it in (expected, written))
+    lines, played = (re.findall(r"[^\n]*\n|[^\n]+", "".join(it)) for it in texts)
     print(end="".join(difflib.unified_diff(lines, played, path, f"{path} as it was played")))
-    passed = sum(it.expected == lines for it, lines in zip(commands, written))
+    passed = sum(map(operator.eq, expected, written))
     return passed, len(commands) - passed
 
 
@@ -161,7 +143,6 @@ def passes(path, programs):
 
     Returns whether all do.
     """
-    with open(path, encoding="utf-8") as it:
-        commands = [part for part in read(it.readlines()) if isinstance(part, Command)]
+    _, commands, expected = read(path)
     with contextlib.closing(run(commands, programs)) as written:
-        return all(it.expected == lines for it, lines in zip(commands, written))
+        return all(map(operator.eq, expected, written))

@@ -49,7 +49,8 @@ class Verdict:
         """Yields the errors in the proof of a function: of names that are gone, or the others."""
         folders = tuple(f"{it.replace('::', '/')}/" for it in self.parts_of(function))
         for error in self.errors:
-            if error[0].startswith(folders) and is_lost_name(error[2]) == are_lost:
+            is_lost = bool(LOST.search(re.sub(r"(?<!has no )`[^`]*`", "", error[2])))
+            if error[0].startswith(folders) and is_lost == are_lost:
                 yield error
 
     def reason(self, function):
@@ -59,8 +60,3 @@ class Verdict:
         errors = [it for it in self.lines if "error" in it]
         found = [*lost, *(it for it in unproved if it != "proved"), *errors, self.lines[-1]]
         return found[0][:200]
-
-
-def is_lost_name(why):
-    """Returns whether an error only says that a name is gone."""
-    return bool(LOST.search(re.sub(r"(?<!has no )`[^`]*`", "", why)))
