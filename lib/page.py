@@ -82,10 +82,14 @@ class Page:
                 row[self.column - 1] = (text + char, style)
             return
         row += [(" ", ())] * (self.column - len(row))
+        # halves of characters that are torn are blank
         if row[self.column : self.column + 1] and not row[self.column][0]:
             row[self.column - 1] = (" ", ())
-        row[self.column : self.column + width] = [(char, self.style), ("", self.style)][:width]
-        self.column += width
+        end = self.column + width
+        if row[end : end + 1] and not row[end][0]:
+            row[end] = (" ", ())
+        row[self.column : end] = [(char, self.style), ("", self.style)][:width]
+        self.column = end
 
 
 class Display(Page):

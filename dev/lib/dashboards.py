@@ -1,17 +1,13 @@
 """A model of the dashboard: its tree, its state, and the grid of each frame."""
-import collections
 import time
 
-from cells import BOLD, MOST, PLAIN, Grid, Rect, Style, behind, bottom_of, inside, last_columns
-from cells import line_of, top_of, width_of
+from cells import BOLD, PLAIN, Grid, Rect, Style, width_of
+from tasks import Tree
 
-BLACK, RED, GREEN, YELLOW, WHITE, LIGHT_RED = 0, 1, 2, 3, 7, 61
-SWITCHES = ("`", "~", "[", "{")
-TASKS, MESSAGES = {"j": 1, "d": 10, "k": -1, "u": -10}, {"J": 1, "D": 10, "K": -1, "U": -10}
-LEVELS = {"info": ("info", WHITE), "done": ("done", GREEN), "fail": ("fail", RED)}
-Progress = collections.namedtuple("Progress", "step bound unit phase")
-Row = collections.namedtuple("Row", "path name progress")
-Message = collections.namedtuple("Message", "at level origin text")
+BLACK, RED, GREEN, YELLOW, WHITE, LIGHT_RED = 30, 31, 32, 33, 37, 91
+# How far a key scrolls the tasks. With Shift it scrolls the messages.
+STEPS = {"j": 1, "d": 10, "k": -1, "u": -10}
+LEVELS = {"info": WHITE, "done": GREEN, "fail": RED}
 
 
 def scaled(n, places, unit):
@@ -58,83 +54,25 @@ def amount_of(p):
     return " ".join(filter(None, parts))
 
 
-def share_of(p, of):
+def share_of(step, bound, of):
     """Returns how much of this number is done, rounded down."""
-    return of if not p.bound else of * min(p.step, p.bound) // p.bound
-
-
-class Tree:
-    """The tasks of a script, and the messages that are kept."""
-
-    def __init__(self):
-        self.items, self.tasks, self.messages = [{"path": (), "next": 0, "step": 0}], {}, []
-
-    def play(self, word, rest):
-        """Plays an event line that draws no frame."""
-        number, rest = [*rest.split(" ", 1), ""][:2] if rest else ("0", "")
-        it = self.items[int(number)] if int(number) < len(self.items) else None
-        if word == "droproot":
-            self.items[0] = None
-        elif it and word == "add":
-            self.add(it, rest)
-        elif it and int(number):
-            self.change(int(number), it, word, rest)
-
-    def add(self, parent, name):
-        path = (*parent["path"], parent["next"])
-        parent["next"] += 1
-        self.items.append({"path": path, "next": 0, "step": 0})
-        self.tasks[path] = {"name": name, "item": self.items[-1], "progress": None}
-
-    def change(self, number, it, word, rest):
-        """Plays an event line of an item."""
-        task = self.tasks.get(it["path"])
-        if word == "drop":
-            del self.tasks[it["path"]]
-            self.items[number] = None
-        elif word in ("set", "inc"):
-            it["step"] = (int(rest) + it["step"] * (word == "inc")) % 2**64
-        elif word == "name":
-            task["name"] = rest
-        elif word in LEVELS:
-            at, text = rest.split(" ", 1)
-            self.messages.append(Message(int(at), word, task["name"], text))
-            self.messages = self.messages[-20:]
-        elif word == "init":
-            bound, unit = rest.split(" ")
-            p = {"bound": bound_of(bound), "unit": "" if unit == "-" else unit, "phase": "running"}
-            it["step"] = 0
-            task["progress"] = None if rest == "- -" else p
-        elif task["progress"]:
-            task["progress"].update({"bound": bound_of(rest)} if word == "max" else {"phase": word})
-
-    def rows(self):
-        """Returns the rows in the order of their paths."""
-        return [
-            Row(path, it["name"], it["progress"] and Progress(it["item"]["step"], **it["progress"]))
-            for path, it in sorted(self.tasks.items())
-        ]
-
-
-def bound_of(word):
-    return None if word == "-" else int(word)
+    return of if not bound else of * min(step, bound) // bound
 
 
 def branches_of(rows, row):
     """Returns the branches that lead to a row."""
     paths, path = [it.path for it in rows], row.path
-    sides = []
-    for n in range(1, len(path) + 1):
+
+    def sides(n):
+        """Returns whether a branch of level n goes on above and below the row."""
         beside = [it for it in paths if len(it) == n and it[: n - 1] == path[: n - 1]]
-        is_own = n == len(path)
-        above = n == 1 or any(it < path for it in beside) or (is_own and path[:-1] in paths)
-        below = any(it > path for it in beside)
-        sides.append((above, below) if is_own or (above and below) else (False, False))
-    own = max((n for n, it in enumerate(sides, 1) if any(it)), default=0)
-    is_orphan = own != len(path)
-    kinds = {(True, True): "├", (True, False): "└", (False, True): "┌", (False, False): " "}
-    chars = ["│" if all(it) or n == 0 else " ·"[is_orphan] for n, it in enumerate(sides[:-1])]
-    return " ".join([*chars, "├" if len(path) == 1 else kinds[sides[-1]]])
+        return n == 1 or any(it < path for it in beside), any(it > path for it in beside)
+
+    above, below = sides(len(path))
+    above = above or path[:-1] in paths
+    gap = " " if above or below else "·"
+    chars = ["│" if n == 1 or all(sides(n)) else gap for n in range(1, len(path))]
+    return " ".join([*chars, "├" if len(path) == 1 else " ┌└├"[2 * above + below]])
 
 
 class Dashboard:
@@ -145,12 +83,12 @@ class Dashboard:
         self.tree, self.title, self.window = Tree(), "Progress Dashboard", None
         self.information = []
         self.at = self.tasks = self.messages = self.tree_columns = 0
-        self.hides = collections.defaultdict(bool)
+        self.hides = dict.fromkeys("`~[{", False)
         self.is_deferred = self.is_requested = self.is_closed = False
 
     def play(self, line):
         """Plays a line, and returns whether a frame is drawn after it."""
-        word, rest = [*line.split(" ", 1), ""][:2]
+        word, _, rest = line.partition(" ")
         redraws = True
         if word in ("tick", "hold", "resize"):
             self.at, *size = map(int, rest.split())
@@ -158,8 +96,10 @@ class Dashboard:
             redraws = word != "hold"
         elif word == "quit":
             self.is_closed = True
-        elif word in ("key", "interrupt"):
-            redraws = (self.press if word == "key" else self.set_interrupt)(rest)
+        elif word == "key":
+            redraws = self.press(rest)
+        elif word == "interrupt":
+            self.set_interrupt(rest)
         elif word == "title":
             self.title = rest
         elif word == "window":
@@ -171,7 +111,7 @@ class Dashboard:
         else:
             self.tree.play(word, rest)
             redraws = False
-        self.is_closed |= redraws and not self.tree.items[0]
+        self.is_closed |= redraws and 0 not in self.tree.items
         return redraws and not self.is_closed
 
     def press(self, key):
@@ -181,42 +121,38 @@ class Dashboard:
             self.is_requested = True
             return True
         key = key[5:] if key.startswith("ctrl-") else key
-        if key in SWITCHES:
+        if key in self.hides:
             self.hides[key] ^= True
-        elif key in TASKS:
-            self.tasks = min(max(self.tasks + TASKS[key], 0), MOST)
-        elif key in MESSAGES:
-            self.messages = min(max(self.messages + MESSAGES[key], 0), MOST)
+        elif key in STEPS:
+            self.tasks = max(self.tasks + STEPS[key], 0)
+        elif key.lower() in STEPS:
+            self.messages = max(self.messages + STEPS[key.lower()], 0)
         else:
             return False
         return True
 
     def set_interrupt(self, mode):
-        """Sets the interrupt mode, and returns whether a frame is drawn."""
         self.is_closed |= mode == "instantly" and self.is_deferred and self.is_requested
-        if not self.is_deferred:
-            self.is_requested = False
+        self.is_requested &= self.is_deferred
         self.is_deferred = mode == "deferred"
-        return True
 
     def draw(self):
         """Returns the grid of a frame."""
         grid = Grid(self.columns, self.height)
-        area = self.window or Rect(0, 0, self.columns, self.height)
-        window, beside = self.split_right(area)
-        tasks, below = self.split_below(inside(window))
+        window, beside = self.split_right(self.window or Rect(0, 0, self.columns, self.height))
+        inside = Rect(window.x + 1, window.y + 1, window.width - 2, window.height - 2)
+        tasks, below = self.split_below(inside)
         grid.border(window)
-        narrow = window._replace(width=max(window.width - 1, 0))
-        grid.text(behind(window, 1)._replace(width=max(window.width - 2, 0)), self.title, BOLD)
+        grid.text(window.behind(1).first(window.width - 2), self.title, BOLD)
         if window.width < 4 or window.height < 4:
             return grid
         rows = self.tree.rows()
-        room = behind(behind(narrow, width_of(self.title)), 2)
         headline = self.headline(rows)
-        grid.short(last_columns(room, min(width_of(headline) + 1, MOST)), headline, BOLD)
+        room = window.first(window.width - 1).behind(width_of(self.title) + 2)
+        grid.short(room.last(width_of(headline) + 1), headline, BOLD)
         self.draw_tasks(grid, tasks, rows)
         if below:
-            self.draw_messages(grid, below, bottom_of(window))
+            self.draw_messages(grid, below, window.rows(window.height - 1))
         if beside:
             self.draw_information(grid, beside)
         return grid
@@ -229,7 +165,7 @@ class Dashboard:
         width = min(max(area.width - 8, 0) if self.hides["{"] else area.width // 3, wanted)
         if width < wanted // 3:
             return area, None
-        return area._replace(width=area.width - width), last_columns(area, width)
+        return area.first(area.width - width), area.last(width)
 
     def split_below(self, area):
         """Returns where the tasks are, and where the messages are, if they are shown."""
@@ -238,8 +174,8 @@ class Dashboard:
         if not count or height < 2:
             return area, None
         height = min(height, count + 1)
-        tasks = area._replace(height=area.height - height)
-        return tasks, area._replace(y=min(area.y + tasks.height, MOST), height=height)
+        top = area.height - height
+        return area.rows(0, top), area.rows(top, height)
 
     def headline(self, rows):
         text = "'q' or CTRL+c to quit"
@@ -247,9 +183,9 @@ class Dashboard:
             text = "interrupt requested - please wait"
         elif self.is_deferred:
             text = "cannot interrupt current operation"
-        every, seconds = "", self.at // 10**9
+        every = ""
         if self.interval > 1000:
-            now = time.strftime("%Y-%m-%dT%H:%M:%S", time.gmtime(seconds))
+            now = written("%Y-%m-%dT%H:%M:%S", self.at)
             every = f" Every {self.interval // 1000}s → {now}"
         runs = sum(bool(it.progress and it.progress.phase == "running") for it in rows)
         groups = sum(it.progress is None for it in rows)
@@ -261,130 +197,122 @@ class Dashboard:
         """Draws the tree and the progress of tasks, and scrolls no further than to the last."""
         tree = 0 if area.width // 3 < 20 else self.tree_columns or area.width // 3
         overflows = area.height < len(rows)
-        height = max(area.height - 1, 0) if overflows else area.height
+        height = area.height - overflows
         first = self.tasks = min(self.tasks, max(len(rows) - height, 0))
         shown = rows[first : first + height]
         self.tree_columns = 0
-        place = area._replace(x=max(area.x - 1, 0), width=max(min(tree, area.width) - 1, 0))
-        for n, row in enumerate(shown if tree else ()):
-            text = f"{branches_of(rows, row)} {row.name}"
-            grid.short(line_of(place, n), text, PLAIN if row.progress else BOLD)
-            self.tree_columns = max(self.tree_columns, min(width_of(text) + 1, MOST))
-        place = behind(area, tree)
+        names = Rect(area.x - 1, area.y, min(tree, area.width) - 1, area.height)
         amounts = [width_of(amount_of(it.progress)) if it.progress else 0 for it in shown]
         for n, row in enumerate(shown):
-            following = rows[first + n + 1 : first + n + 2]
-            self.draw_row(grid, line_of(place, n), n, rows, (row, *following), max(amounts))
+            line, branches = area.behind(tree).rows(n), branches_of(rows, row)
+            if tree:
+                text = f"{branches} {row.name}"
+                grid.short(names.rows(n), text, PLAIN if row.progress else BOLD)
+                self.tree_columns = max(self.tree_columns, width_of(text) + 1)
+            grid.short(line, "│")
+            grid.short(line, branches)
+            place = line.behind(width_of(branches))
+            if row.progress:
+                draw_progress(grid, place, row.progress, line.behind(max(amounts)), n)
+            else:
+                draw_group(grid, place, row, rows[first + n + 1 :][:1], line.width)
         if overflows:
             hidden = rows[:first] + rows[first + height :]
-            self.draw_overflow(grid, bottom_of(area), tree, first, hidden)
-
-    def draw_row(self, grid, line, n, rows, pair, amount_columns):
-        """Draws the progress of the first of two rows on line n."""
-        row, p, branches = pair[0], pair[0].progress, branches_of(rows, pair[0])
-        grid.short(line, "│")
-        grid.short(line, branches)
-        place = behind(line, width_of(branches))
-        if not p:
-            has_child = any(it.progress and it.path[: len(row.path)] == row.path for it in pair[1:])
-            rule = behind(place, 1)
-            columns = max(1, line.width - 3) if has_child else 1
-            grid.fill(rule._replace(width=min(rule.width, columns)), "─")
-            grid.short(place, f" {row.name} ", BOLD)
-            return
-        label = f" {amount_of(p)}" + (" [replay]" if p.phase != "running" else "")
-        waits = {"blocked": RED, "halted": LIGHT_RED}.get(p.phase)
-        if p.bound is None:
-            grid.short(place, label)
-            room = behind(line, amount_columns)
-            spinner = behind(room, (p.step + n) % max(room.width, 1))
-            grid.paint(spinner._replace(width=min(spinner.width, 5)), waits or WHITE)
-            return
-        ink = waits or (GREEN if 4 * p.bound <= 5 * p.step else YELLOW)
-        draw_bar(grid, place, p.step, p.bound, ink)
-        filled = bar_columns(place.width, p.step, p.bound)
-        grid.text(place, label, PLAIN)
-        grid.text(place._replace(width=filled), label, Style(False, BLACK, ink))
+            self.draw_overflow(grid, area.rows(height), tree, first, hidden)
 
     def draw_overflow(self, grid, line, tree, first, hidden):
         """Draws how many rows are hidden, over a bar that says how much of them is done."""
         bounded = [it.progress for it in hidden if it.progress and it.progress.bound is not None]
-        share = sum(share_of(p, 10**6) for p in bounded) // max(1, len(hidden))
-        draw_bar(grid, line, share, 10**6, GREEN)
-        filled = bar_columns(line.width, share, 10**6)
-        grid.paint(behind(line, max(filled - 1, 0)), RED)
+        share = sum(share_of(p.step, p.bound, 10**6) for p in bounded) // max(1, len(hidden))
+        filled = draw_bar(grid, line, share, 10**6, GREEN)
+        grid.paint(line.behind(max(filled - 1, 0)), RED)
         bar = "│" if tree else ""
         text = f"{bar} …{first} skipped and {len(hidden) - first} more"
         keys = "⇊ = d|↓ = j|⇈ = u|↑ = k "
-        for column, it in ((tree, text), (max(line.width - width_of(keys), 0), keys)):
-            place, columns = behind(line, column), max(filled - column, 0)
+        for place, it in ((line.behind(tree), text), (line.last(width_of(keys)), keys)):
             grid.text(place, it, Style(False, BLACK, RED))
-            place = place._replace(width=min(place.width, columns))
-            grid.text(place, it, Style(False, BLACK, GREEN))
-
-    def draw_head(self, grid, area, title, keys):
-        """Draws the first row of a pane."""
-        grid.fill(top_of(area), "─")
-        grid.text(area, title, BOLD)
-        grid.short(last_columns(area, width_of(keys)), keys, BOLD)
+            grid.text(place.first(filled - place.x + line.x), it, Style(False, BLACK, GREEN))
 
     def draw_messages(self, grid, area, below):
         """Draws the messages, the newest first, and what is hidden of them below the window."""
-        self.draw_head(grid, area, "Messages", " ⨯ = `| ▢ = ~ ")
+        draw_head(grid, area, "Messages", " ⨯ = `| ▢ = ~ ")
         messages, height = self.tree.messages, area.height - 1
         first = self.messages = min(self.messages, max(len(messages) - height, 0))
         shown = messages[::-1][first : first + height]
         width = max((width_of(it.origin) for it in shown), default=0)
         for n, it in enumerate(shown):
-            line = line_of(area, n + 1)
-            text = behind(behind(line, 16), width)
-            if text.width < 30:
+            line = area.rows(n + 1)
+            if line.width - 16 - width < 30:
                 grid.short(line, it.text)
                 continue
-            word, paper = LEVELS[it.level]
-            grid.short(line, time.strftime("%H:%M:%S", time.gmtime(it.at // 10**9)))
-            grid.short(behind(line, 8), "│")
-            grid.short(behind(line, 9), word, Style(True, BLACK, paper))
-            grid.short(behind(line, 13), "│")
-            grid.short(behind(line, 14), it.origin)
-            grid.short(behind(behind(line, 14), width), "→")
-            grid.short(text, it.text)
+            parts = [(0, written("%H:%M:%S", it.at)), (8, "│"), (13, "│"), (14, it.origin)]
+            for column, part in [*parts, (14 + width, "→"), (16 + width, it.text)]:
+                grid.short(line.behind(column), part)
+            grid.short(line.behind(9), it.level, Style(True, BLACK, LEVELS[it.level]))
         more = max(len(messages) - first - height, 0)
         if first + more:
-            grid.short(behind(below, 1), f"… {first} skipped and {more} more", BOLD)
+            grid.short(below.behind(1), f"… {first} skipped and {more} more", BOLD)
             keys = " ⇊ = D|↓ = J|⇈ = U|↑ = K ┘"
-            grid.short(last_columns(below, width_of(keys)), keys, BOLD)
+            grid.short(below.last(width_of(keys)), keys, BOLD)
 
     def draw_information(self, grid, area):
         """Draws the lines of the information."""
-        grid.fill(bottom_of(area), "─")
-        self.draw_head(grid, area, "Information", " ⨯ = [ | ▢ = { ")
-        place = Rect(area.x, min(area.y + 1, MOST), max(area.width - 1, 0), max(area.height - 2, 0))
+        grid.fill(area.rows(area.height - 1), "─")
+        draw_head(grid, area, "Information", " ⨯ = [ | ▢ = { ")
+        place = Rect(area.x, area.y + 1, area.width - 1, area.height - 2)
         n = 0
         for i, (is_title, text) in enumerate(self.information):
             if n >= place.height:
                 break
-            line, is_last = line_of(place, n), i == len(self.information) - 1
+            line, is_last = place.rows(n), i == len(self.information) - 1
             if not is_title:
-                grid.short(behind(line, 1), text, BOLD if is_last else PLAIN)
+                grid.short(line.behind(1), text, BOLD if is_last else PLAIN)
             elif not is_last:
                 grid.short(line, text, BOLD)
-                grid.fill(behind(behind(line, width_of(text)), 1), "─")
+                grid.fill(line.behind(width_of(text) + 1), "─")
             n += 1 + is_title + (not is_last and self.information[i + 1][0])
 
 
-def bar_columns(columns, step, bound):
-    """Returns how many columns a bar has, with the one behind its filled ones."""
-    return min(share_of(Progress(step, bound, "", ""), columns) + 1, columns)
+def written(form, at):
+    """Returns a moment in nanoseconds, written in this form."""
+    return time.strftime(form, time.gmtime(at // 10**9))
+
+
+def draw_head(grid, area, title, keys):
+    """Draws the first row of a pane."""
+    grid.fill(area, "─")
+    grid.text(area, title, BOLD)
+    grid.short(area.last(width_of(keys)), keys, BOLD)
+
+
+def draw_group(grid, place, row, following, columns):
+    """Draws a group, which may be followed by a task of its own, in a row of so many columns."""
+    has_child = any(it.progress and it.path[: len(row.path)] == row.path for it in following)
+    grid.fill(place.behind(1).first(max(1, columns - 3) if has_child else 1), "─")
+    grid.short(place, f" {row.name} ", BOLD)
+
+
+def draw_progress(grid, place, p, spins, n):
+    """Draws a progress on line n, with a bar, or where it spins if it has no bound."""
+    label = f" {amount_of(p)}" + (" [replay]" if p.phase != "running" else "")
+    waits = {"blocked": RED, "halted": LIGHT_RED}.get(p.phase)
+    if p.bound is None:
+        grid.short(place, label)
+        grid.paint(spins.behind((p.step + n) % max(spins.width, 1)).first(5), waits or WHITE)
+        return
+    ink = waits or (GREEN if 4 * p.bound <= 5 * p.step else YELLOW)
+    filled = draw_bar(grid, place, p.step, p.bound, ink)
+    grid.text(place, label)
+    grid.text(place.first(filled), label, Style(False, BLACK, ink))
 
 
 def draw_bar(grid, area, step, bound, ink):
-    """Draws a bar, whose last cell is filled by eighths."""
-    filled = share_of(Progress(step, bound, "", ""), area.width)
-    grid.fill(area._replace(width=min(filled, area.width)), "█", Style(ink=ink))
+    """Draws a bar, whose last cell is filled by eighths. Returns its columns with that cell."""
+    filled = share_of(step, bound, area.width)
+    grid.fill(area.first(filled), "█", Style(ink=ink))
     rest = 0
     if bound:
         rest = (16 * (area.width * min(step, bound) % bound) + bound) // (2 * bound)
-    last = behind(area, filled)
     block = chr(0x2590 - rest) if rest else " "
-    grid.fill(last._replace(width=min(last.width, 1)), block, Style(ink=ink))
+    grid.fill(area.behind(filled).first(1), block, Style(ink=ink))
+    return min(filled + 1, area.width)
