@@ -36,6 +36,12 @@ docs/dashboard.svg is the picture of a dashboard.
   $ picture --dashboard --columns 96 "$top/docs/dashboard.events" >dashboard.svg
   $ cmp dashboard.svg "$top/docs/dashboard.svg"
 
+A wide character that moves by a column leaves no half.
+
+  $ printf 'title a日本\ntick 1\ntitle 日本\ntick 1000000000\n' >wide
+  $ picture --dashboard --columns 24 --rows 3 wide | grep -c '>日本<'
+  1
+
 A file whose lines draw no frame, one that has other lines, and one that doesn't exist.
 
   $ printf 'add 0 a\n' >none
