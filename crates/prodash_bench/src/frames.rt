@@ -4,7 +4,10 @@ use prodash::messages::MessageLevel;
 use prodash::render::line::draw::{self, Input, OverWrite};
 use prodash::tree::{Item, Root};
 use prodash::unit::display::Mode;
-use prodash::unit::{Unit, label, label_and_mode};
+use prodash::unit::human::{Formatter, Human};
+use prodash::unit::{
+    Bytes, Duration, Kind, Unit, dynamic, dynamic_and_mode, label, label_and_mode,
+};
 use std::alloc::Global;
 use std::io;
 use std::sync::Wait;
@@ -75,88 +78,73 @@ pub(crate) struct Scene {
     rows: u16,
 }
 
+/// Tasks without a unit on one level, each of which is set before a frame.
+const PLAIN: Scene = Scene {
+    name: NAME,
+    unit: None,
+    has_groups: false,
+    colored: false,
+    throughput: false,
+    times: false,
+    change: Change::Each,
+    messages: 0,
+    defensive: false,
+    rows: 20,
+};
+
 impl Scene {
     /// Returns the scene that a workload of this name draws, or `None` if it draws none.
     pub(crate) fn named(name: &str) -> Option<Scene> {
-        let plain = Scene {
-            name: NAME,
-            unit: None,
-            has_groups: false,
-            colored: false,
-            throughput: false,
-            times: false,
-            change: Change::Each,
-            messages: 0,
-            defensive: false,
-            rows: 20,
-        };
-        let unit = Some(label("items"));
+        if let Some(names) = name_in(name) {
+            return Some(Scene {
+                name: names,
+                ..PLAIN
+            });
+        }
+        if let Some(unit) = unit_in(name) {
+            return Some(Scene {
+                unit: Some(unit),
+                has_groups: name == "levels",
+                colored: name == "bytes",
+                throughput: measures_throughput(name),
+                ..PLAIN
+            });
+        }
+        Scene::without_unit(name)
+    }
+
+    /// Returns the scene of a workload whose tasks have the usual name and no unit.
+    fn without_unit(name: &str) -> Option<Scene> {
         Some(match name {
-            "frame" => plain,
-            "unit" => Scene { unit, ..plain },
-            "levels" => Scene {
-                unit,
-                has_groups: true,
-                ..plain
-            },
+            "frame" => PLAIN,
             "defensive" => Scene {
                 defensive: true,
                 // as many as make room for all tasks
                 rows: 65535,
-                ..plain
+                ..PLAIN
             },
             "window" => Scene {
                 defensive: true,
                 rows: 24,
-                ..plain
+                ..PLAIN
             },
             "colored" => Scene {
                 colored: true,
-                ..plain
-            },
-            "throughput" => Scene {
-                unit: Some(label_and_mode("items", Mode::with_throughput())),
-                throughput: true,
-                ..plain
+                ..PLAIN
             },
             "times" => Scene {
                 times: true,
-                ..plain
-            },
-            "unchanged" => Scene {
-                change: Change::None,
-                ..plain
-            },
-            "few" => Scene {
-                change: Change::Few,
-                ..plain
-            },
-            "renewed" => Scene {
-                change: Change::Renewed,
-                ..plain
-            },
-            "wide" => Scene {
-                name: WIDE_NAME,
-                ..plain
-            },
-            "emoji" => Scene {
-                name: EMOJI_NAME,
-                ..plain
-            },
-            "long" => Scene {
-                name: LONG_NAME,
-                ..plain
-            },
-            "wide_and_long" => Scene {
-                name: WIDE_AND_LONG_NAME,
-                ..plain
+                ..PLAIN
             },
             "messages" => Scene {
                 change: Change::None,
                 messages: 10,
-                ..plain
+                ..PLAIN
             },
-            _ => return None,
+            _ => Scene {
+                change: change_in(name)?,
+                ..PLAIN
+            },
         })
     }
 
@@ -214,6 +202,47 @@ impl Scene {
         }
         Ok(())
     }
+}
+
+/// Returns the name of the tasks of a workload, if it is called after that.
+fn name_in(workload: &str) -> Option<&'static str> {
+    Some(match workload {
+        "wide" => WIDE_NAME,
+        "emoji" => EMOJI_NAME,
+        "long" => LONG_NAME,
+        "wide_and_long" => WIDE_AND_LONG_NAME,
+        _ => return None,
+    })
+}
+
+/// Returns the unit of the tasks of a workload, if it is called after that.
+fn unit_in(workload: &str) -> Option<Unit> {
+    Some(match workload {
+        "unit" | "levels" => label("items"),
+        "throughput" => label_and_mode("items", Mode::with_throughput()),
+        "bytes" => dynamic_and_mode(Kind::Bytes(Bytes), Mode::with_throughput()),
+        "duration" => dynamic(Kind::Duration(Duration)),
+        "human" => {
+            let human = Human::new(Formatter::default(), "items");
+            dynamic_and_mode(Kind::Human(human), Mode::with_percentage())
+        }
+        _ => return None,
+    })
+}
+
+/// Returns whether the throughput of the tasks of a workload is measured.
+fn measures_throughput(workload: &str) -> bool {
+    workload == "throughput" || workload == "bytes"
+}
+
+/// Returns what happens to the tasks of a workload, if it is called after that.
+fn change_in(workload: &str) -> Option<Change> {
+    Some(match workload {
+        "unchanged" => Change::None,
+        "few" => Change::Few,
+        "renewed" => Change::Renewed,
+        _ => return None,
+    })
 }
 
 /// Sets one of each 1,000 tasks to a step.

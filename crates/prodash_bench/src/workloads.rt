@@ -28,6 +28,7 @@ pub(crate) fn run<R: Wait + Clone + Drop>(
     let root = Root::new(rt, alloc)?;
     let items = match name {
         "snapshot_of_levels" => add_groups(&root, alloc, tasks, None)?,
+        "tasks" => Vec::new(alloc),
         _ => add_tasks(&root, alloc, tasks, NAME, None)?,
     };
     match name {
@@ -37,6 +38,7 @@ pub(crate) fn run<R: Wait + Clone + Drop>(
             }
         }
         "children" => add_and_drop(&root, alloc, count)?,
+        "tasks" => add_and_drop_tasks(&root, alloc, tasks, count)?,
         "message" => send_messages(&items, alloc, count)?,
         "rows" => take_rows(&root, alloc, &items, count)?,
         "snapshot" | "snapshot_of_levels" => take_snapshots(&root, alloc, &items, count)?,
@@ -149,6 +151,19 @@ fn add_and_drop<R: Wait + Clone + Drop>(
     for _ in 0..count {
         let item = root.add_child(alloc, NAME)?;
         item.inc();
+    }
+    Ok(())
+}
+
+/// Adds the tasks and drops them again, that many times.
+fn add_and_drop_tasks<R: Wait + Clone + Drop>(
+    root: &Root<R>,
+    alloc: Global,
+    tasks: u64,
+    count: u64,
+) -> Result<(), Refusal> {
+    for _ in 0..count {
+        add_tasks(root, alloc, tasks, NAME, None)?;
     }
     Ok(())
 }
