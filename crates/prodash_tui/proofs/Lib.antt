@@ -11,6 +11,8 @@ pub mod PlayedFrames
 pub mod ShownScreens
 pub mod ShownRuns
 pub mod SpelledSigns
+pub mod OneSpelling
+pub mod ReadableFrames
 pub mod WorkedSigns
 pub mod WorkedDisplays
 pub mod WorkedScreens
@@ -25,8 +27,10 @@ pub mod WorkedRates
 pub mod WorkedRects
 pub mod DrawnPieces
 pub mod CountedRows
-pub mod FittingPanes
-pub mod FittingProgress
+pub mod KeptPanes
+pub mod KeptProgress
+pub mod FittingGrids
+pub mod ReadableGrids
 pub mod WorkedDashboards
 pub mod WorkedBoards
 pub mod WorkedPanes

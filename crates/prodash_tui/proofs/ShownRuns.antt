@@ -17,8 +17,9 @@ use Rattle.prodash_tui.specs.Grids.{Sheet, blank_sheet}
 use Rattle.prodash_tui.specs.Screens.{Agrees, Buffers, Fits, blank_buffers, enter, frame, with_next}
 use Rattle.prodash_tui.specs.BoardRuns.{HasToldSize, Run, ShowsEachFrame, ShowsMainAgain, Step, Handles, Resizes, Draws, after_drawing, after_step, after_steps}
 use Rattle.prodash_tui.specs.Boards.{Board, area_of, closing, handled, handled_running, input_of, is_running, next_grid, opening, rates_in}
-use Rattle.prodash_tui.proofs.FittingPanes.{fit_dashboard}
-use Rattle.prodash_tui.proofs.FittingProgress.{fit_pane}
+use Rattle.prodash_tui.proofs.FittingGrids.{fitting}
+use Rattle.prodash_tui.proofs.KeptPanes.{kept_dashboard}
+use Rattle.prodash_tui.proofs.KeptProgress.{kept_pane}
 use Rattle.prodash_tui.proofs.PlayedChanges.{after_append}
 use Rattle.prodash_tui.proofs.ProperGrids.{proper_blank}
 use Rattle.prodash_tui.proofs.ProperRows.{space_columns}
@@ -55,11 +56,11 @@ record Follows (r : Run) : Type 0 where
   agrees : Agree r.board.screen r.display
 
 -- the next grid fits a display of the size that the dashboard was told
-next_fits : (s : Board) (c : Contents) (d : Display) → d.grid.width ≡ s.width → d.grid.height ≡ s.height → Fits char_columns d (next_grid s c)
+pub next_fits : (s : Board) (c : Contents) (d : Display) → d.grid.width ≡ s.width → d.grid.height ≡ s.height → Fits char_columns d (next_grid s c)
 next_fits s c d width height =
     let input = input_of s c in
-    fit_dashboard (with_task_pane (rates_in s c) input s.state.task_offset)
-    (λ e area g h. fit_pane e (rows_of input.rows.now) (rates_in s c) input.at (scroll_of input s.state.task_offset) area g h) s.state input d (area_of s)
+    kept_dashboard (fitting d) (with_task_pane (rates_in s c) input s.state.task_offset)
+    (λ area g h. kept_pane (fitting d) (rows_of input.rows.now) (rates_in s c) input.at (scroll_of input s.state.task_offset) area g h) s.state input (area_of s)
     (blank_sheet s.width s.height)
     (record { proper = proper_blank char_columns space_columns s.width s.height; size = record { width = width; height = height } })
 

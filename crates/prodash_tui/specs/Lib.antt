@@ -23,4 +23,5 @@ pub mod Lends
 pub mod Dashboards
 pub mod Boards
 pub mod BoardRuns
+pub mod Reading
 pub mod plumbing

@@ -11,6 +11,7 @@ ghost use Rattle.prodash_tui.specs.Frames.{DrawsFirst, DrawsNext};
 ghost use Rattle.prodash_tui.specs.Grids.{blank_sheet, with_background, with_border, with_filling, with_shortened, with_text};
 ghost use Rattle.prodash_tui.specs.Rects.{intersect};
 ghost use Rattle.prodash_tui.specs.Screens.{DrawsEntered, DrawsFrames, Restores, RestoresFrames};
+ghost use Rattle.prodash_tui.specs.Reading.{DashboardsAreReadBack, FramesAreReadBack, HaveOneSpelling};
 ghost use Rattle.prodash_tui.specs.BoardRuns.{ShowsEachFrame, ShowsMainAgain};
 ghost use Rattle.prodash_core.specs.declared.render.tui.event.Line.{Line};
 ghost use Rattle.prodash_core.specs.declared.render.tui.event.Rect.{Rect};
@@ -91,6 +92,15 @@ pub fn frames()
 pub fn drawn()
     ensures frames { (columns : ℕ → ℕ) → columns 32 ≡ 1 → DrawsFrames columns }
     ensures entered { (columns : ℕ → ℕ) → columns 32 ≡ 1 → DrawsEntered columns }
+{}
+
+/// No two lists of signs without control characters are spelled by the same bytes. So the bytes of
+/// a frame are those of its signs alone: of a grid that has no control characters, and of every
+/// dashboard, whatever its texts are.
+pub fn read_back()
+    ensures one { HaveOneSpelling }
+    ensures frames { FramesAreReadBack }
+    ensures dashboards { DashboardsAreReadBack }
 {}
 
 /// A display that has entered the alternate screen and left it is as it was before, with its cursor
