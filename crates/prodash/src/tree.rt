@@ -6,6 +6,7 @@ pub mod recorded;
 pub mod root;
 mod shared_task;
 mod shared_tree;
+mod spare_rows;
 mod steps;
 mod traits;
 pub(crate) mod turns;

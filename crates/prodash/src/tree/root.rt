@@ -13,6 +13,7 @@ use crate::progress::{Id, Row, Rows, UNKNOWN};
 use crate::tree::item::Item;
 use crate::tree::locked::LockedTree;
 use crate::tree::shared_tree::SharedTree;
+use crate::tree::spare_rows;
 use crate::tree::turns::{TakesTurns, Turns};
 use prodash_base::Refusal;
 use std::alloc::Global;
@@ -214,7 +215,8 @@ impl<R: TakesTurns> Root<R> {
     /// reuses the memory of `spare`, whatever it contains. A name is copied only if `spare` has a
     /// different one at that index: if it has the rows of an earlier look, and the tasks are still
     /// the same, nothing is allocated for them. Nor is anything allocated for a message if `spare`
-    /// has one at that index whose texts are as long.
+    /// has one at that index whose texts are as long. Memory for further rows, with names of up to
+    /// 24 bytes, is allocated before the look takes the lock, so other threads don't wait for it.
     ///
     /// # Errors
     ///
@@ -229,7 +231,10 @@ impl<R: TakesTurns> Root<R> {
         ensures ascending { IfOk result (λ seen. IsAscending (keys_of seen.0)) }
         ensures reason { IsOkUnless result Refusal.Memory }
     {
-        self.tree.look(&mut Turns::new(&self.rt), spare, previous)
+        let (rows, messages) = spare;
+        let rows = spare_rows::resized(rows, self.num_tasks())?;
+        self.tree
+            .look(&mut Turns::new(&self.rt), (rows, messages), previous)
     }
 
     /// Returns an owner of a copy of the tree, with the same tasks, messages and capacity. Its
