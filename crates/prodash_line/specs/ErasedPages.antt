@@ -11,8 +11,9 @@ use Rattle.prodash_line.specs.Signs.{spelling}
 use Rattle.prodash_line.specs.Lines.{Line, columns_of, line_text}
 use Rattle.prodash_line.specs.DrawnLines.{erases_rows, prints_whole}
 use Rattle.prodash_line.specs.Frames.{Body, Unchanged, Draws, Closes, Frame, body_lines, frame_signs, all_lines_after, printed_lines}
-use Rattle.prodash_line.specs.CellRows.{blank_cells, played, wrapped, text_columns, shown}
+use Rattle.prodash_line.specs.CellRows.{blank_cells, char_columns, played, wrapped, text_columns, shown}
 use Rattle.prodash_line.specs.declared.render.line.page.cell.Cell.{Cell}
+use Rattle.prodash_line.specs.declared.render.line.page.cell.Cell.TheVariants.{Holds}
 use Rattle.prodash_line.specs.Terminals.{Terminal, terminal_after}
 use Rattle.prodash_line.specs.Reading.{AreProper}
 use Rattle.prodash_line.specs.Renderer.{Renderer, remember, frame_at}
@@ -30,6 +31,12 @@ pub record HasSize (size : ℕ × ℕ) (page : Terminal) : Type 0 where
 -- the row of a line: what its text leaves in a blank row, where no character goes to the next one
 abbrev pub line_row : (ℕ → ℕ) → ℕ → Line → List Cell
 line_row columns width line = played columns width (line_text line)
+
+-- On a terminal that gives characters the columns that the renderer gives them, the row of a line has its characters, one in each cell, and
+-- then blanks.
+abbrev pub ShowsPlainly : ℕ → Line → Type 0
+ShowsPlainly width line =
+    line_row char_columns width line ≡ map (λ c. Holds c []) (line_text line) ++ blank_cells (width - columns_of line)
 
 -- the rows of lines, one for each
 abbrev pub line_rows : (ℕ → ℕ) → ℕ → List Line → List (List Cell)

@@ -1,11 +1,12 @@
 -- The page of a terminal, for any widths of characters: all rows ever, of which the last are the window, and a cursor.
 use Rattle.std.specs.Prelude.{◌≡◌, ◌<◌, zero, suc, false, nat_le, ℕ, ◌+◌, ◌-◌, min, max, Bool, true, false, ◌&&◌, List, [], ◌∷◌, ◌++◌, length, map, ⊤, take, replicate, slice_index_or, slice_set, nat_lt, if◌then◌else◌}
+use Rattle.std.specs.List.{AllByRecursion}
 use Rattle.prodash_line.specs.declared.render.line.page.sign.Sign.{Sign}
 use Rattle.prodash_line.specs.declared.render.line.page.sign.Sign.TheVariants.{Char, LineFeed, CarriageReturn, Up, EraseLine, EraseBelow, HideCursor, ShowCursor, NoWrap, Wrap, BeginUpdate, EndUpdate, Open, Reset}
 use Rattle.prodash_line.specs.CellRows.{CellRow, blank_cells, torn, put}
 use Rattle.prodash_line.specs.declared.render.line.page.cell.Cell.{Cell}
 use Rattle.prodash_line.specs.declared.render.line.page.cell.Cell.TheVariants.{Holds}
-use Rattle.prodash_line.specs.Page.{Canvas}
+use Rattle.prodash_line.specs.Page.{Canvas, page_after}
 
 -- how many columns it has, the height of its window, its rows from the first ever on, the row and column of the cursor, and whether a character
 -- past the last column goes to the next row
@@ -119,3 +120,9 @@ in_cells p = record {
 abbrev pub HasOneColumn : (ℕ → ℕ) → Sign → Type 0
 HasOneColumn columns (Char c) = columns c ≡ 1
 HasOneColumn columns _ = ⊤
+
+-- A page of cells and a page of characters agree: signs of which each character has one column make of the page in cells what they make of the
+-- page.
+abbrev pub PagesAgree : (ℕ → ℕ) → Type 0
+PagesAgree columns = (ss : List Sign) (page : Canvas) → AllByRecursion (HasOneColumn columns) ss
+    → terminal_after columns ss (in_cells page) ≡ in_cells (page_after ss page)
