@@ -96,6 +96,11 @@ information_after (lines.AddText text) before = before ++ (false, text) ∷ []
 information_after lines.ClearInformation before = []
 information_after line before = before
 
+-- the information is afterwards what a line makes of it
+abbrev pub ChangesInformation : DashboardLine → Vec Line → Vec Line → Type 0
+ChangesInformation line old new =
+    plain_lines new.items ≡ information_after line (plain_lines old.items)
+
 -- an event that sets this information
 abbrev pub SetsInformation : List (Bool × List ℕ) → Event → Type 0
 SetsInformation information event =

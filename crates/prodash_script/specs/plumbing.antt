@@ -1,3 +1,4 @@
+pub mod AddedLines
 pub mod Commands
 pub mod Lines
 pub mod Names

@@ -1,5 +1,6 @@
-ghost use Rattle.std.specs.Prelude.{◌≡◌, ◌++◌, ◌∷◌, [], IfOk, OnErr, OnOk};
-ghost use Rattle.prodash_script.specs.DashboardLines.{IsEventOf, SetsInformation, char_key_of, information_after, interrupt_of, key_of, lone_line, only_char_of, plain_line, plain_lines, read_dashboard_line, window_of};
+ghost use Rattle.std.specs.Prelude.{◌≡◌, IfOk, OnErr, OnOk};
+ghost use Rattle.prodash_script.specs.DashboardLines.{ChangesInformation, IsEventOf, SetsInformation, char_key_of, interrupt_of, key_of, lone_line, only_char_of, plain_lines, read_dashboard_line, window_of};
+ghost use Rattle.prodash_script.specs.plumbing.AddedLines.{AddsLine};
 
 use crate::reading::{cut, small};
 use crate::script::after;
@@ -35,8 +36,7 @@ impl DashboardLine {
     /// `AllocError`, if there is no memory for the information. It is then as it was.
     pub fn into_event(self, alloc: Global, information: &mut Vec<Line>) -> Result<Event, AllocError>
         ensures event { IfOk result (IsEventOf self (plain_lines information.new.items)) }
-        ensures ok { OnOk result (plain_lines information.new.items
-            ≡ information_after self (plain_lines information.old.items)) }
+        ensures ok { OnOk result (ChangesInformation self information.old information.new) }
         ensures err { OnErr result (information.new.items ≡ information.old.items) }
     {
         match self {
@@ -57,8 +57,7 @@ impl DashboardLine {
 /// Adds a line to the information, and returns the event that sets it.
 fn join(information: &mut Vec<Line>, line: Line) -> Result<Event, AllocError>
     ensures event { IfOk result (SetsInformation (plain_lines information.new.items)) }
-    ensures ok { OnOk result (plain_lines information.new.items
-        ≡ plain_lines information.old.items ++ plain_line line ∷ []) }
+    ensures ok { OnOk result (AddsLine line information.old information.new) }
     ensures err { OnErr result (information.new.items ≡ information.old.items) }
 {
     information.push(line)?;

@@ -70,8 +70,8 @@ impl Labels {
         alloc: Global,
         word: &str,
     ) -> Result<Option<Option<Unit>>, AllocError>
-        ensures ok { IfOk result (λ found.
-            option_map (option_map plain_unit) found ≡ script_unit_in word.now) }
+        ensures ok { IfOk result (λ u.
+            option_map (option_map plain_unit) u ≡ script_unit_in word.now) }
         ensures names { IfOk result (λ _.
             self.new ≡ names_after self.old (script_unit_in word.now)) }
         ensures err { OnErr result (self.new ≡ self.old) }

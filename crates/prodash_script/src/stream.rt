@@ -113,8 +113,8 @@ impl Part {
     /// Appends bytes up to the line feed. Returns how many it took, and whether the line ends.
     fn extend_to_line_feed(&mut self, bytes: &[u8]) -> Result<(usize, bool), AllocError>
         ensures count { IfOk result (λ taken. taken.0 ≤ length bytes.now) }
-        ensures part { IfOk result (λ taken.
-            TakesPart bytes.now taken.1 (drop taken.0 bytes.now) self.old self.new) }
+        ensures part { IfOk result (λ r.
+            TakesPart bytes.now r.1 (drop r.0 bytes.now) self.old self.new) }
     {
         match find_line_feed(bytes) {
             Some(n) => {
@@ -247,8 +247,8 @@ impl<I: Read + Drop> Lines<I> {
 
     /// Takes bytes up to the line feed. Returns whether there is one.
     fn take_part(&mut self, line: &mut Part) -> Result<bool, AllocError>
-        ensures ok { IfOk result (λ is_whole.
-            TakesPart self.old.waiting is_whole self.new.waiting line.old line.new) }
+        ensures ok { IfOk result (λ r.
+            TakesPart self.old.waiting r self.new.waiting line.old line.new) }
         ensures err { OnErr result (self.new ≡ self.old) }
         ensures to_come { self.new.to_come ≡ self.old.to_come }
     {
