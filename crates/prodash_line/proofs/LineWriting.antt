@@ -52,6 +52,12 @@ same_line w = record { width = refl; limit = refl; room = refl }
 pub same_then : {a b c : LineWriter} → SameLine a b → SameLine b c → SameLine a c
 same_then h i = record { width = i.width ∙ h.width; limit = i.limit ∙ h.limit; room = i.room ∙ h.room }
 
+-- pieces follow a line to which nothing was counted since
+pub appends_since : {old kept new : LineWriter} {pieces : Line} → kept.bytes ≡ old.bytes → SameLine old kept → Appends kept pieces new → Appends old pieces new
+appends_since b s h = record {
+  writes = λ limit before line w. h.writes limit before line (record { bytes = b ∙ w.bytes; width = s.width ∙ w.width; limit = s.limit ∙ w.limit; room = s.room ∙ w.room });
+}
+
 -- a text behind spaces, of which this many spaces and this prefix are written
 pub appends_indented : (old new : LineWriter) (style : Option Style) (n spaces size width : ℕ) (text prefix o spaced w : List ℕ) → IsUtf8 prefix → n ≤ 65535
     → replicate spaces 32 ++ chars prefix ≡ written_in old.room (replicate n 32 ++ chars text)

@@ -5,6 +5,7 @@ pub mod Calls
 pub mod SignReading
 pub mod AddedWidths
 pub mod Cutting
+pub mod MeasuredNames
 pub mod Writing
 pub mod RowWriting
 pub mod OverwriteBytes

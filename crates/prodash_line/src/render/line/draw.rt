@@ -15,6 +15,7 @@ mod frame;
 mod input;
 mod layout;
 mod line_writer;
+mod measured_names;
 mod memory_screen;
 mod message;
 mod more;

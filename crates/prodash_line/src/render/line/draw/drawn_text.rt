@@ -5,6 +5,7 @@ ghost use Rattle.prodash_line.specs.DrawnLines.{safe_char, drawn_chars};
 ghost use Rattle.prodash_line.specs.UnsafeCharacters.{is_unsafe};
 ghost use Rattle.prodash_line.specs.plumbing.Writing.{IsMeasured};
 
+use crate::render::line::draw::measured_names::{MeasuredNames, is_short};
 use crate::render::line::draw::text::{printable_width, text_width};
 use std::alloc::AllocError;
 
@@ -89,4 +90,46 @@ fn drawn_other_text<'a>(
         text: drawn,
         width: text_width(drawn),
     })
+}
+
+/// Does what `drawn_text` does for a name of a row. One with characters other than printable ASCII
+/// isn't measured again if it is the one whose width was kept at its place.
+#[inline(always)]
+pub(crate) fn drawn_name<'a>(
+    defensive: bool,
+    name: &'a str,
+    replaced: &'a mut String,
+    measured: &mut MeasuredNames,
+) -> Result<DrawnText<'a>, AllocError>
+    ensures text { IfOk result (λ drawn. chars drawn.text.now ≡ drawn_chars defensive name.now) }
+    ensures width { IfOk result IsMeasured }
+{
+    match printable_width(name) {
+        Some(width) => Ok(DrawnText { text: name, width }),
+        None => match measured.next_width(name) {
+            Some(width) => Ok(DrawnText { text: name, width }),
+            None => drawn_new_name(defensive, name, replaced, measured),
+        },
+    }
+}
+
+/// Does what `drawn_name` does for a name whose width isn't known. The width is kept, unless
+/// the name is long or has unsafe characters.
+#[cold]
+#[inline(never)]
+fn drawn_new_name<'a>(
+    defensive: bool,
+    name: &'a str,
+    replaced: &'a mut String,
+    measured: &mut MeasuredNames,
+) -> Result<DrawnText<'a>, AllocError>
+    ensures text { IfOk result (λ drawn. chars drawn.text.now ≡ drawn_chars defensive name.now) }
+    ensures width { IfOk result IsMeasured }
+{
+    if !is_short(name) || has_unsafe(name) {
+        return drawn_other_text(defensive, name, replaced);
+    }
+    let width = text_width(name);
+    measured.keep(name, width)?;
+    Ok(DrawnText { text: name, width })
 }

@@ -12,6 +12,7 @@ use crate::render::line::draw::drawn_text::DrawnText;
 use crate::render::line::draw::erasing::start_row;
 use crate::render::line::draw::fitting::{fit_indented, fit_printable, fit_text};
 use crate::render::line::draw::layout::Layout;
+use crate::render::line::draw::measured_names::MeasuredNames;
 use crate::render::line::draw::plain_progress::{PlainProgress, PlainText};
 use crate::render::line::draw::room::Room;
 use crate::render::line::draw::text::text_width;
@@ -29,6 +30,8 @@ pub(crate) struct LineWriter {
     limit: Option<u16>,
     /// How much of the line is still written.
     room: Room,
+    /// The widths of the names that the latest frames have drawn.
+    pub(crate) names: MeasuredNames,
 }
 
 impl LineWriter {
@@ -42,6 +45,7 @@ impl LineWriter {
             width: 0,
             limit: None,
             room: Room::Unlimited,
+            names: MeasuredNames::new(alloc),
         }
     }
 
@@ -59,11 +63,12 @@ impl LineWriter {
         self.width
     }
 
-    /// Empties the buffer and keeps its memory.
+    /// Begins a frame: empties the buffer and keeps its memory.
     pub(crate) fn clear(&mut self)
         ensures { self.new.bytes ≡ [] }
     {
         self.bytes.clear();
+        self.names.begin_frame();
     }
 
     /// Begins a line that is cut to `limit` columns, or written whole.

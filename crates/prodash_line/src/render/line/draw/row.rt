@@ -8,7 +8,7 @@ ghost use Rattle.prodash_line.specs.plumbing.RowWriting.{FollowsStep, end_of_val
 ghost use Rattle.prodash_line.specs.plumbing.Writing.{is_printable};
 
 use crate::render::line::draw::bar::{ARROW, BRACKETS, bar_columns, filled_cells, push_bar};
-use crate::render::line::draw::drawn_text::drawn_text;
+use crate::render::line::draw::drawn_text::{drawn_name, drawn_text};
 use crate::render::line::draw::input::Options;
 use crate::render::line::draw::line_writer::{LineWriter, style_of_length};
 use crate::render::line::draw::plain_progress::{PlainProgress, PlainText};
@@ -397,8 +397,8 @@ fn format_bound(digits: &mut Buffer, done_at: Option<Step>) -> (&'static str, &s
     }
 }
 
-/// Appends the name of a row. If it is drawn with other characters, those are written to
-/// `replaced`.
+/// Appends the name of a row, whose width is kept for the next frame. If it is drawn with other
+/// characters, those are written to `replaced`.
 #[inline(always)]
 fn push_name(
     out: &mut LineWriter,
@@ -408,7 +408,12 @@ fn push_name(
 ) -> Result<(), AllocError>
     ensures { OnOk result (AppendsName options.now row.now out.old out.new) }
 {
-    let name = drawn_text(options.defensive, row.name.as_str(), replaced)?;
+    let name = drawn_name(
+        options.defensive,
+        row.name.as_str(),
+        replaced,
+        &mut out.names,
+    )?;
     let style = options.colored.then_some(name_style(&row.progress));
     out.push_drawn(style, &name)?;
     Ok(())
