@@ -7,8 +7,7 @@ use Rattle.prodash_base.specs.Path.{Path}
 use Rattle.prodash_base.specs.plumbing.EqualityTests.{sound, texts}
 use Rattle.prodash_base.specs.Rows.{row_of}
 use Rattle.prodash_base.specs.declared.progress.Row.{Row}
-use Rattle.prodash_core.specs.Tables.{pair_of, RowShows}
-use Rattle.prodash_core.specs.declared.tree.table.Task.{Task}
+use Rattle.prodash_core.specs.Tables.{BoxedTask, pair_of, RowShows}
 use Rattle.prodash_core.proofs.RowsOfTasks.{ShowsRestAt, shows_replaced, shows_pushed}
 use Rattle.prodash_core.specs.plumbing.MissingNames.{missing_name, missing_names}
 
@@ -28,38 +27,38 @@ pub none_lacks : (name wanted : List ℕ) (others : List (List ℕ)) → [] ≡ 
 none_lacks name wanted others h = none_by name wanted others (pointwise nat_eq name wanted) refl h
 
 -- the names that one more row lacks
-missing_more : {C : Type 0} (names pushed all : List (List ℕ)) (tasks : List (Path × Task C)) (rows : List Row) → names ++ missing_names tasks rows ≡ all
-    → (task : Path × Task C) (others : List (Path × Task C)) → tasks ≡ task ∷ others → (row : Row) (rest : List Row) → rows ≡ row ∷ rest
-    → pushed ≡ names ++ missing_name row.name task.1.name → pushed ++ missing_names others rest ≡ all
+missing_more : {C : Type 0} (names pushed all : List (List ℕ)) (tasks : List (Path × BoxedTask C)) (rows : List Row) → names ++ missing_names tasks rows ≡ all
+    → (task : Path × BoxedTask C) (others : List (Path × BoxedTask C)) → tasks ≡ task ∷ others → (row : Row) (rest : List Row) → rows ≡ row ∷ rest
+    → pushed ≡ names ++ missing_name row.name task.1.value.name → pushed ++ missing_names others rest ≡ all
 missing_more names pushed all tasks rows h task others t row rest r p =
     ap (λ ns. ns ++ missing_names others rest) p
-    ∙ append_assoc names (missing_name row.name task.1.name) (missing_names others rest)
+    ∙ append_assoc names (missing_name row.name task.1.value.name) (missing_names others rest)
     ∙ (λ i. names ++ missing_names (sym t i) (sym r i))
     ∙ h
 
-pub missing_pushed : {C : Type 0} (names pushed all : List (List ℕ)) (tasks : List (Path × Task C)) (rows : List Row) → names ++ missing_names tasks rows ≡ all
-    → (task : Path × Task C) (others : List (Path × Task C)) → tasks ≡ task ∷ others → (row : Row) (rest : List Row) → rows ≡ row ∷ rest
-    → pointwise nat_eq row.name task.1.name ≡ false → pushed ≡ names ++ task.1.name ∷ [] → pushed ++ missing_names others rest ≡ all
+pub missing_pushed : {C : Type 0} (names pushed all : List (List ℕ)) (tasks : List (Path × BoxedTask C)) (rows : List Row) → names ++ missing_names tasks rows ≡ all
+    → (task : Path × BoxedTask C) (others : List (Path × BoxedTask C)) → tasks ≡ task ∷ others → (row : Row) (rest : List Row) → rows ≡ row ∷ rest
+    → pointwise nat_eq row.name task.1.value.name ≡ false → pushed ≡ names ++ task.1.value.name ∷ [] → pushed ++ missing_names others rest ≡ all
 missing_pushed names pushed all tasks rows h task others t row rest r e p =
-    missing_more names pushed all tasks rows h task others t row rest r (p ∙ ap (λ ns. names ++ ns) (sym (lacks_name row.name task.1.name e)))
+    missing_more names pushed all tasks rows h task others t row rest r (p ∙ ap (λ ns. names ++ ns) (sym (lacks_name row.name task.1.value.name e)))
 
-pub missing_same : {C : Type 0} (names all : List (List ℕ)) (tasks : List (Path × Task C)) (rows : List Row) → names ++ missing_names tasks rows ≡ all
-    → (task : Path × Task C) (others : List (Path × Task C)) → tasks ≡ task ∷ others → (row : Row) (rest : List Row) → rows ≡ row ∷ rest
-    → pointwise nat_eq row.name task.1.name ≡ true → names ++ missing_names others rest ≡ all
+pub missing_same : {C : Type 0} (names all : List (List ℕ)) (tasks : List (Path × BoxedTask C)) (rows : List Row) → names ++ missing_names tasks rows ≡ all
+    → (task : Path × BoxedTask C) (others : List (Path × BoxedTask C)) → tasks ≡ task ∷ others → (row : Row) (rest : List Row) → rows ≡ row ∷ rest
+    → pointwise nat_eq row.name task.1.value.name ≡ true → names ++ missing_names others rest ≡ all
 missing_same names all tasks rows h task others t row rest r e =
-    missing_more names names all tasks rows h task others t row rest r (sym (append-nil names) ∙ ap (λ ns. names ++ ns) (sym (has_name row.name task.1.name e)))
+    missing_more names names all tasks rows h task others t row rest r (sym (append-nil names) ∙ ap (λ ns. names ++ ns) (sym (has_name row.name task.1.value.name e)))
 
 -- the name of a task behind the last row
-pub missing_past : {C : Type 0} (names pushed all : List (List ℕ)) (tasks : List (Path × Task C)) (rows : List Row) → names ++ missing_names tasks rows ≡ all
-    → (task : Path × Task C) (others : List (Path × Task C)) → tasks ≡ task ∷ others → rows ≡ []
-    → pushed ≡ names ++ task.1.name ∷ [] → pushed ++ missing_names others rows ≡ all
+pub missing_past : {C : Type 0} (names pushed all : List (List ℕ)) (tasks : List (Path × BoxedTask C)) (rows : List Row) → names ++ missing_names tasks rows ≡ all
+    → (task : Path × BoxedTask C) (others : List (Path × BoxedTask C)) → tasks ≡ task ∷ others → rows ≡ []
+    → pushed ≡ names ++ task.1.value.name ∷ [] → pushed ++ missing_names others rows ≡ all
 missing_past names pushed all tasks rows h task others t r p =
     (λ i. p i ++ missing_names others (r i))
-    ∙ append_assoc names (task.1.name ∷ []) (missing_names others [])
+    ∙ append_assoc names (task.1.value.name ∷ []) (missing_names others [])
     ∙ (λ i. names ++ missing_names (sym t i) (sym r i))
     ∙ h
 
-pub missing_all : {C : Type 0} (names all : List (List ℕ)) (tasks : List (Path × Task C)) (rows : List Row) → names ++ missing_names tasks rows ≡ all → tasks ≡ [] → names ≡ all
+pub missing_all : {C : Type 0} (names all : List (List ℕ)) (tasks : List (Path × BoxedTask C)) (rows : List Row) → names ++ missing_names tasks rows ≡ all → tasks ≡ [] → names ≡ all
 missing_all names all tasks rows h t = sym (append-nil names) ∙ (λ i. names ++ missing_names (sym t i) rows) ∙ h
 
 same_heads : (x y : List ℕ) (xs ys : List (List ℕ)) → x ∷ xs ≡ y ∷ ys → (xs ≡ ys) × (x ≡ y)
@@ -82,33 +81,33 @@ without_names name wanted names more n h =
     (n ∙ sym both.0, both.1)
 
 -- the first n rows are put, and the names are those that the others lack
-abbrev pub Puts : {C : Type 0} → (C → ℕ → Type 0) → List (Path × Task C) → List Row → ℕ → List (Path × Task C) → List (List ℕ) → Type 0
+abbrev pub Puts : {C : Type 0} → (C → ℕ → Type 0) → List (Path × BoxedTask C) → List Row → ℕ → List (Path × BoxedTask C) → List (List ℕ) → Type 0
 Puts shows all rows n left names = ShowsRestAt shows (map pair_of all) rows n (map pair_of left) × (names ≡ missing_names left (drop n rows))
 
-pub puts_within : {C : Type 0} (shows : C → ℕ → Type 0) (all : List (Path × Task C)) (rows : List Row) (n : ℕ) (left : List (Path × Task C)) (names : List (List ℕ)) → Puts shows all rows n left names
-    → (task : Path × Task C) (others : List (Path × Task C)) → left ≡ task ∷ others → n < length rows → (old : Row) → old ≡ get_or rows n old → (row : Row) (after : List (List ℕ))
-    → ((more : List (List ℕ)) → names ≡ missing_name old.name task.1.name ++ more → (after ≡ more) × RowShows shows (pair_of task) (row_of row))
+pub puts_within : {C : Type 0} (shows : C → ℕ → Type 0) (all : List (Path × BoxedTask C)) (rows : List Row) (n : ℕ) (left : List (Path × BoxedTask C)) (names : List (List ℕ)) → Puts shows all rows n left names
+    → (task : Path × BoxedTask C) (others : List (Path × BoxedTask C)) → left ≡ task ∷ others → n < length rows → (old : Row) → old ≡ get_or rows n old → (row : Row) (after : List (List ℕ))
+    → ((more : List (List ℕ)) → names ≡ missing_name old.name task.1.value.name ++ more → (after ≡ more) × RowShows shows (pair_of task) (row_of row))
     → (now : List Row) → now ≡ set rows n row → Puts shows all now (n + 1) others after
 puts_within shows all rows n left names h task others l inside old at row after f now p =
     let more = missing_names others (drop (n + 1) rows) in
-    let fit = f more (h.1 ∙ (λ i. missing_names (l i) (drop_more rows n old inside i)) ∙ ap (λ (r : Row). missing_name r.name task.1.name ++ more) (sym at)) in (
+    let fit = f more (h.1 ∙ (λ i. missing_names (l i) (drop_more rows n old inside i)) ∙ ap (λ (r : Row). missing_name r.name task.1.value.name ++ more) (sym at)) in (
       shows_replaced shows (map pair_of all) rows n (map pair_of left) h.0 (pair_of task) (map pair_of others) (ap (map pair_of) l) row fit.1 inside now p,
       fit.0 ∙ ap (missing_names others) (sym (ap (drop (n + 1)) p ∙ drop-set-lt (n + 1) rows n row (omega arith))),
     )
 
-pub puts_past : {C : Type 0} (shows : C → ℕ → Type 0) (all : List (Path × Task C)) (rows : List Row) (n : ℕ) (left : List (Path × Task C)) (names : List (List ℕ)) → Puts shows all rows n left names
-    → (task : Path × Task C) (others : List (Path × Task C)) → left ≡ task ∷ others → length rows ≤ n → (row : Row) (taken : List ℕ) (after : List (List ℕ)) → names ≡ taken ∷ after
-    → (taken ≡ task.1.name → RowShows shows (pair_of task) (row_of row))
+pub puts_past : {C : Type 0} (shows : C → ℕ → Type 0) (all : List (Path × BoxedTask C)) (rows : List Row) (n : ℕ) (left : List (Path × BoxedTask C)) (names : List (List ℕ)) → Puts shows all rows n left names
+    → (task : Path × BoxedTask C) (others : List (Path × BoxedTask C)) → left ≡ task ∷ others → length rows ≤ n → (row : Row) (taken : List ℕ) (after : List (List ℕ)) → names ≡ taken ∷ after
+    → (taken ≡ task.1.value.name → RowShows shows (pair_of task) (row_of row))
     → (now : List Row) → now ≡ rows ++ row ∷ [] → Puts shows all now (n + 1) others after
 puts_past shows all rows n left names h task others l outside row taken after t f now p =
-    let heads = same_heads taken task.1.name after (missing_names others []) (sym t ∙ h.1 ∙ (λ i. missing_names (l i) (drop_all n rows outside i))) in
+    let heads = same_heads taken task.1.value.name after (missing_names others []) (sym t ∙ h.1 ∙ (λ i. missing_names (l i) (drop_all n rows outside i))) in
     let len : length now ≡ length rows + 1 = ap length p ∙ length-append rows (row ∷ []) in (
       shows_pushed shows (map pair_of all) rows n (map pair_of left) h.0 (pair_of task) (map pair_of others) (ap (map pair_of) l) row (f heads.1) outside now p,
       heads.0 ∙ ap (missing_names others) (sym (drop_all (n + 1) now (omega arith))),
     )
 
 -- a task behind the last row has a name
-pub name_past : {C : Type 0} (shows : C → ℕ → Type 0) (all : List (Path × Task C)) (rows : List Row) (n : ℕ) (left : List (Path × Task C)) (names : List (List ℕ)) → Puts shows all rows n left names
-    → (task : Path × Task C) (others : List (Path × Task C)) → left ≡ task ∷ others → length rows ≤ n → names ≡ [] → ⊥
+pub name_past : {C : Type 0} (shows : C → ℕ → Type 0) (all : List (Path × BoxedTask C)) (rows : List Row) (n : ℕ) (left : List (Path × BoxedTask C)) (names : List (List ℕ)) → Puts shows all rows n left names
+    → (task : Path × BoxedTask C) (others : List (Path × BoxedTask C)) → left ≡ task ∷ others → length rows ≤ n → names ≡ [] → ⊥
 name_past shows all rows n left names h task others l outside e =
-    let both : [] ≡ task.1.name ∷ missing_names others [] = sym e ∙ h.1 ∙ (λ i. missing_names (l i) (drop_all n rows outside i)) in cc
+    let both : [] ≡ task.1.value.name ∷ missing_names others [] = sym e ∙ h.1 ∙ (λ i. missing_names (l i) (drop_all n rows outside i)) in cc

@@ -15,23 +15,22 @@ use Rattle.std.proofs.lemmas.Map.Views.{Contains-keys_from_lookup, IsSome-lookup
 use Rattle.prodash_base.specs.Path.{Path, path_cmp}
 use Rattle.prodash_base.specs.Rows.{PathRow}
 use Rattle.prodash_base.specs.plumbing.KeyHash.{same_path}
-use Rattle.prodash_core.specs.Tables.{TaskEntry, pair_of, RowShows, RowsShow, ListsEachOnce}
-use Rattle.prodash_core.specs.declared.tree.table.Task.{Task}
+use Rattle.prodash_core.specs.Tables.{TaskEntry, BoxedTask, pair_of, RowShows, RowsShow, ListsEachOnce}
 use Rattle.prodash_core.proofs.TableChanges.{table_of, is_some-table_of, sorted_list}
 
-keys-pairs : {C : Type 0} (es : List (Path × Task C)) → keys_of es ≡ keys_of (map pair_of es)
+keys-pairs : {C : Type 0} (es : List (Path × BoxedTask C)) → keys_of es ≡ keys_of (map pair_of es)
 keys-pairs [] = refl
 keys-pairs (e ∷ es) = ap (λ ks. e.0 ∷ ks) (keys-pairs es)
 
 -- the entries of a table, in the order of their paths, are those of the map
-entries-table_of : {C : Type 0} (es : List (Path × Task C)) → IsStrictlySortedBy path_cmp (keys_of es) → entries (table_of es) ≡ map pair_of es
+entries-table_of : {C : Type 0} (es : List (Path × BoxedTask C)) → IsStrictlySortedBy path_cmp (keys_of es) → entries (table_of es) ≡ map pair_of es
 entries-table_of es h =
     let s = sorted_list (map pair_of es) (subst (IsStrictlySortedBy path_cmp) (keys-pairs es) h) in
     let same : table_of es ≡ from_sorted (map pair_of es) = same_map nat_list_cmp_total (slice_cmp-IsAntisymmetric nat_cmp-IsAntisymmetric) _ _ (λ q.
     get-from_entries nat_list_cmp_total (map pair_of es) q ∙ sym (get-from_sorted path_cmp (map pair_of es) q s)) in
     ap entries same ∙ entries-from_sorted path_cmp (map pair_of es) s
 
-pub len-table_of : {C : Type 0} (es : List (Path × Task C)) → IsStrictlySortedBy path_cmp (keys_of es) → len (table_of es) ≡ length es
+pub len-table_of : {C : Type 0} (es : List (Path × BoxedTask C)) → IsStrictlySortedBy path_cmp (keys_of es) → len (table_of es) ≡ length es
 len-table_of es h = len-entries (table_of es) ∙ ap length (entries-table_of es h) ∙ length-map es pair_of
 
 -- each key is less than the next
@@ -52,13 +51,13 @@ shown_paths shows (e ∷ es) [] h = absurd h
 shown_paths shows (e ∷ es) (r ∷ rows) h = λ i. h.0.path i ∷ shown_paths shows es rows h.1 i
 
 -- a table has a path if and only if the path is among its keys
-lists_each : {C : Type 0} (es : List (Path × Task C)) (q : Path) → IsSome (get (table_of es) q) ↔ Contains (keys_of es) q
+lists_each : {C : Type 0} (es : List (Path × BoxedTask C)) (q : Path) → IsSome (get (table_of es) q) ↔ Contains (keys_of es) q
 lists_each es q = (
   λ h. Contains-keys_from_lookup {eq = eq_by_cmp path_cmp} (λ x y e. same_path x y (texts_ties x y ∙ e)) q es (sym (is_some-table_of es q) ∙ h),
   λ c. is_some-table_of es q ∙ IsSome-lookup_from_Contains (eq_by_cmp_equiv nat_list_cmp_total) q es c,
 )
 
-pub rows_in_order : {C : Type 0} (shows : C → ℕ → Type 0) (es : List (Path × Task C)) (rows : List PathRow) → AllZip (RowShows shows) (map pair_of es) rows
+pub rows_in_order : {C : Type 0} (shows : C → ℕ → Type 0) (es : List (Path × BoxedTask C)) (rows : List PathRow) → AllZip (RowShows shows) (map pair_of es) rows
     → IsStrictlySortedBy path_cmp (keys_of es) → RowsShow shows (table_of es) rows × ListsEachOnce (table_of es) rows
 rows_in_order shows es rows h s =
     let paths = keys-pairs es ∙ sym (shown_paths shows (map pair_of es) rows h) in (

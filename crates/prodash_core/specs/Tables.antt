@@ -1,5 +1,6 @@
 -- The table of tasks: a map from paths to entries, and its rows.
-use Rattle.std.specs.Prelude.{◌≡◌, ◌↔◌, ℕ, List, map, Option, Some, None, Contains, IsSome}
+use Rattle.std.specs.Prelude.{◌≡◌, ◌↔◌, ℕ, List, map, Option, Some, None, Contains, IsSome, Box}
+use Rattle.std.specs.declared.alloc.Global.{Global}
 use Rattle.std.specs.List.{AllZip}
 use Rattle.std.specs.Map.{keys_of}
 use Rattle.std.specs.Option.{option_map, option_and_then, option_map_or}
@@ -44,9 +45,17 @@ counted_of p =
 abbrev pub entry_of : {C : Type 0} → Task C → TaskEntry C
 entry_of t = record { name = t.name; id = t.id; progress = option_map counted_of t.progress }
 
--- a path with the entry of its task
-abbrev pub pair_of : {C : Type 0} → Path × Task C → Path × TaskEntry C
-pair_of e = (e.0, entry_of e.1)
+-- a task as the table keeps it, in a box
+abbrev pub BoxedTask : Type 0 → Type 0
+BoxedTask C = Box (Task C) Global
+
+-- the entry of a boxed task
+abbrev pub entry_in : {C : Type 0} → BoxedTask C → TaskEntry C
+entry_in b = entry_of b.value
+
+-- a path with the entry of its boxed task
+abbrev pub pair_of : {C : Type 0} → Path × BoxedTask C → Path × TaskEntry C
+pair_of e = (e.0, entry_in e.1)
 
 -- the table with a change of the entry that was found at a path, if one was
 abbrev pub change_found : {C : Type 0} → Table C → Path → (TaskEntry C → TaskEntry C) → Option (TaskEntry C)

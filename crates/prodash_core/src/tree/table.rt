@@ -5,7 +5,7 @@ ghost use Rattle.std.specs.BTreeMap.{IsOrdered};
 ghost use Rattle.prodash_base.specs.Path.{Path, path_cmp};
 ghost use Rattle.prodash_base.specs.Rows.{phase_of, rows_of};
 ghost use Rattle.prodash_core.specs.plumbing.MissingNames.{missing_names, TakesName};
-ghost use Rattle.prodash_core.specs.Tables.{new_entry, change_at, with_name, with_progress, with_bound, with_phase, name_at, id_of, bound_of, unit_of, counted_of, RowsShow, ListsEachOnce, entry_of};
+ghost use Rattle.prodash_core.specs.Tables.{new_entry, change_at, with_name, with_progress, with_bound, with_phase, name_at, id_of, bound_of, unit_of, counted_of, RowsShow, ListsEachOnce, entry_of, entry_in};
 ghost use Rattle.prodash_core.specs.plumbing.TaskRows.{ValueShows, RowShowsTask, RowsShowTasks};
 
 use prodash_base::progress::{Id, Key, Row, Rows, State, Step, UNKNOWN, Value};
@@ -101,23 +101,41 @@ impl<C: Copy> Task<C> {
         }
     }
 
-    /// Sets the step at which the task is done, if it has progress, and returns the previous one.
-    fn set_max(&mut self, max: Option<Step>) -> Option<Step>
-        ensures before { result ≡ bound_of (Some (entry_of self.old)) }
-        ensures after { entry_of self.new ≡ with_bound max (entry_of self.old) }
+    // What changes a task takes its box: a proof follows a write to a box that a map lends only if
+    // the box is passed on.
+
+    /// Sets the name of a task.
+    fn set_name(task: &mut Box<Task<C>>, name: Text)
+        ensures { entry_in task.new ≡ with_name name (entry_in task.old) }
     {
-        let before = self.max();
-        if let Some(counted) = &mut self.progress {
+        task.name = name;
+    }
+
+    /// Sets the progress of a task.
+    fn set_progress(task: &mut Box<Task<C>>, progress: Option<Counted<C>>)
+        ensures { entry_in task.new
+            ≡ with_progress (option_map counted_of progress) (entry_in task.old) }
+    {
+        task.progress = progress;
+    }
+
+    /// Sets the step at which a task is done, if it has progress, and returns the previous one.
+    fn set_max(task: &mut Box<Task<C>>, max: Option<Step>) -> Option<Step>
+        ensures before { result ≡ bound_of (Some (entry_in task.old)) }
+        ensures after { entry_in task.new ≡ with_bound max (entry_in task.old) }
+    {
+        let before = task.max();
+        if let Some(counted) = &mut task.progress {
             counted.done_at = max;
         }
         before
     }
 
-    /// Sets the state of the task, if it has progress.
-    fn set_state(&mut self, state: State)
-        ensures { entry_of self.new ≡ with_phase (phase_of state) (entry_of self.old) }
+    /// Sets the state of a task, if it has progress.
+    fn set_state(task: &mut Box<Task<C>>, state: State)
+        ensures { entry_in task.new ≡ with_phase (phase_of state) (entry_in task.old) }
     {
-        if let Some(counted) = &mut self.progress {
+        if let Some(counted) = &mut task.progress {
             counted.state = state;
         }
     }
@@ -145,7 +163,8 @@ pub trait Counters<C> {
 /// ```
 #[derive(Drop)]
 pub struct TreeCore<C> {
-    tasks: BTreeMap<Key, Task<C>>,
+    // Boxed, so that an insert or a removal moves little in the map.
+    tasks: BTreeMap<Key, Box<Task<C>>>,
 }
 
 impl<C> Model for TreeCore<C> {
@@ -198,14 +217,13 @@ impl<C: Copy> TreeCore<C> {
         ensures reason { IsOkUnless result Refusal.Memory }
     {
         let name = Text::from_str(alloc, name)?;
-        self.tasks.insert(
-            key,
-            Task {
-                name,
-                id,
-                progress: None,
-            },
-        )?;
+        let task = Task {
+            name,
+            id,
+            progress: None,
+        };
+        let task = Box::new(alloc, task)?;
+        self.tasks.insert(key, task)?;
         Ok(())
     }
 
@@ -231,7 +249,7 @@ impl<C: Copy> TreeCore<C> {
         match self.tasks.get_mut(&key) {
             None => false,
             Some(task) => {
-                task.progress = progress;
+                Task::set_progress(task, progress);
                 true
             }
         }
@@ -249,7 +267,7 @@ impl<C: Copy> TreeCore<C> {
     {
         let name = Text::from_str(alloc, name)?;
         if let Some(task) = self.tasks.get_mut(&key) {
-            task.name = name;
+            Task::set_name(task, name);
         }
         Ok(())
     }
@@ -262,7 +280,7 @@ impl<C: Copy> TreeCore<C> {
     {
         match self.tasks.get_mut(&key) {
             None => None,
-            Some(task) => task.set_max(max),
+            Some(task) => Task::set_max(task, max),
         }
     }
 
@@ -271,7 +289,7 @@ impl<C: Copy> TreeCore<C> {
         ensures { self.new ≡ change_at self.old key (with_phase (phase_of state)) }
     {
         if let Some(task) = self.tasks.get_mut(&key) {
-            task.set_state(state);
+            Task::set_state(task, state);
         }
     }
 
@@ -476,7 +494,7 @@ fn update_row<C: Copy, N: Counters<C>>(
 /// Returns the rows of the tasks, in the order of the map: `rows` with each row updated to that of
 /// the task at its place, and rows added or removed at the end.
 fn rows_of_tasks<C: Copy, N: Counters<C>>(
-    tasks: &BTreeMap<Key, Task<C>>,
+    tasks: &BTreeMap<Key, Box<Task<C>>>,
     counters: &N,
     mut rows: Vec<Row>,
 ) -> Result<Vec<Row>, AllocError>
@@ -487,6 +505,7 @@ fn rows_of_tasks<C: Copy, N: Counters<C>>(
     rows.reserve(tasks.len().saturating_sub(rows.len()))?;
     let mut updated = 0;
     for (key, task) in tasks.iter() {
+        let task = task.as_ref();
         if updated < rows.len() {
             update_row(&mut rows[updated], *key, task, counters)?;
         } else {
@@ -502,7 +521,7 @@ fn rows_of_tasks<C: Copy, N: Counters<C>>(
 /// they were.
 fn refill_rows<C: Copy, N: Counters<C>>(
     alloc: Global,
-    tasks: &BTreeMap<Key, Task<C>>,
+    tasks: &BTreeMap<Key, Box<Task<C>>>,
     counters: &N,
     rows: &mut Vec<Row>,
 ) -> Result<(), AllocError>
@@ -520,7 +539,7 @@ fn refill_rows<C: Copy, N: Counters<C>>(
 /// Returns copies of the names of tasks that the rows at their places lack, in the order of the map.
 fn missing_names<C: Copy>(
     alloc: Global,
-    tasks: &BTreeMap<Key, Task<C>>,
+    tasks: &BTreeMap<Key, Box<Task<C>>>,
     rows: &[Row],
 ) -> Result<VecDeque<Text>, AllocError>
     ensures { IfOk result (λ names. names.items ≡ missing_names tasks.now.entries rows.now) }
@@ -528,6 +547,7 @@ fn missing_names<C: Copy>(
     let mut names = VecDeque::new(alloc);
     let mut left = rows;
     for (_, task) in tasks.iter() {
+        let task = task.as_ref();
         match left.split_first() {
             Some((row, rest)) => {
                 if row.name != task.name {
@@ -543,7 +563,7 @@ fn missing_names<C: Copy>(
 
 /// Replaces rows with those of the tasks, in the order of the map, with the names that they lack.
 fn put_rows<C: Copy, N: Counters<C>>(
-    tasks: &BTreeMap<Key, Task<C>>,
+    tasks: &BTreeMap<Key, Box<Task<C>>>,
     counters: &N,
     mut names: VecDeque<Text>,
     rows: &mut Vec<Row>,
@@ -555,6 +575,7 @@ fn put_rows<C: Copy, N: Counters<C>>(
 {
     let mut put = 0;
     for (key, task) in tasks.iter() {
+        let task = task.as_ref();
         if put < rows.len() {
             let row = &mut rows[put];
             put_name(row, task, &mut names);

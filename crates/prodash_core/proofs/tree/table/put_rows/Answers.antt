@@ -15,14 +15,14 @@ loop-key-preserved g c =
       | then-put-len w ↦ (
         puts_within shows all loop.rows.items loop.put loop.key-iterator loop.names.items loop.invariant.0 (c.in-Some.key.now, c.in-Some.task.now) c.next.new.self (search rules) (search rules)
             w.index_mut-row.result.now w.index_mut-row.ensures.value w.update_below_name.new.row c.if-put-len.names.items (λ more h.
-            let fit = w.put_name.ensures more h in
-            (ap (λ v. v.items) w.names-is ∙ fit.0, w.update_below_name.ensures fit.1))
+            let fit = (rw c.as_ref-task.ensures at w.put_name.ensures) more h in
+            (ap (λ v. v.items) w.names-is ∙ fit.0, (rw c.as_ref-task.ensures at w.update_below_name.ensures) fit.1))
             c.if-put-len.rows.items (ap (λ v. v.items) w.rows-is),
         search rules,
       )
       | else-put-len+in-Some-pop_front w ↦ (
         puts_past shows all loop.rows.items loop.put loop.key-iterator loop.names.items loop.invariant.0 (c.in-Some.key.now, c.in-Some.task.now) c.next.new.self (search rules) (search rules)
-            _ w.in-Some-pop_front.name c.if-put-len.names.items (search rules) (λ e. record { path = refl; name = e; id = refl; progress = w.value_of.ensures }) c.if-put-len.rows.items (search rules),
+            _ w.in-Some-pop_front.name c.if-put-len.names.items (search rules) (λ e. record { path = refl; name = e; id = ap (λ t. t.id) c.as_ref-task.ensures; progress = rw c.as_ref-task.ensures at w.value_of.ensures }) c.if-put-len.rows.items (search rules),
         search rules,
       )
       | else-put-len+in_default w ↦ absurd (name_past shows all loop.rows.items loop.put loop.key-iterator loop.names.items loop.invariant.0 (c.in-Some.key.now, c.in-Some.task.now) c.next.new.self (search rules) (search rules) (search rules))

@@ -12,10 +12,10 @@ loop-key-preserved g c =
     let left = map pair_of c.next.new.self in
     elim c.if-updated-len.branch [
       | then-updated-len+in_ok-update_row w ↦
-          shows_replaced shows _ c.loop-key.rows.items c.loop-key.updated (map pair_of c.loop-key.key-iterator) c.loop-key.invariant row left (search rules) w.update_row.new.row w.in_ok-update_row.ensures
+          shows_replaced shows _ c.loop-key.rows.items c.loop-key.updated (map pair_of c.loop-key.key-iterator) c.loop-key.invariant row left (search rules) w.update_row.new.row (rw c.as_ref-task.ensures at w.in_ok-update_row.ensures)
           (search rules) c.if-updated-len.rows.items (ap (λ v. v.items) w.rows-is)
       | else-updated-len+in_ok-row_of_task+in_ok-push w ↦
-          shows_pushed shows _ c.loop-key.rows.items c.loop-key.updated (map pair_of c.loop-key.key-iterator) c.loop-key.invariant row left (search rules) w.in_ok-row_of_task.field-0 w.in_ok-row_of_task.ensures
+          shows_pushed shows _ c.loop-key.rows.items c.loop-key.updated (map pair_of c.loop-key.key-iterator) c.loop-key.invariant row left (search rules) w.in_ok-row_of_task.field-0 (rw c.as_ref-task.ensures at w.in_ok-row_of_task.ensures)
           (search rules) c.if-updated-len.rows.items (search rules)
     ]
 

@@ -1,4 +1,4 @@
-use Rattle.std.proofs.Common.{rules, ◌∙◌, ap, sym, is_some, refl}
+use Rattle.std.proofs.Common.{rules, ◌∙◌, ap, sym, is_some}
 use Rattle.std.specs.Option.{option_map}
 use Rattle.prodash_core.specs.Tables.{counted_of, with_progress}
 use Rattle.prodash_core.proofs.TableChanges.{table_of, is_some-table_of, change_at-none, change_at-some}
@@ -21,6 +21,6 @@ returns-clause-after g c =
           ∙ change_at-none es c.args.key (with_progress (option_map counted_of c.args.progress)) w.in-None.ensures.value
       | in-Some w ↦ ap (λ t. table_of t.tasks.entries) w.self-inside-is
           ∙ change_at-some es _ c.args.key (with_progress (option_map counted_of c.args.progress)) w.in-Some.task.now
-          (record { name = w.in-Some.task.now.name; id = w.in-Some.task.now.id; progress = c.args.progress }) w.in-Some.ensures.value refl
-          ((c.get_mut.follows.holds (record { name = w.in-Some.task.now.name; id = w.in-Some.task.now.id; progress = c.args.progress })).3 (search (rules, w.in-Some.ensures.value))).0
+          w.set_progress.new.task w.in-Some.ensures.value w.set_progress.ensures
+          ((c.get_mut.follows.holds w.set_progress.new.task).3 (search (rules, w.in-Some.ensures.value))).0
     ])

@@ -19,6 +19,6 @@ returns-clause-after g c =
       | in-None w ↦ ap (λ t. table_of t.tasks.entries) w.self-inside-is ∙ ap (λ t. table_of t.entries) c.get_mut.follows.holds-at-none
           ∙ change_at-none es c.args.key (with_bound c.args.max) w.in-None.ensures.value
       | in-Some w ↦ ap (λ t. table_of t.tasks.entries) w.self-inside-is
-          ∙ change_at-some es _ c.args.key (with_bound c.args.max) w.in-Some.task.now w.set_max.new.self w.in-Some.ensures.value w.set_max.ensures.after
-          ((c.get_mut.follows.holds w.set_max.new.self).3 (search (rules, w.in-Some.ensures.value))).0
+          ∙ change_at-some es _ c.args.key (with_bound c.args.max) w.in-Some.task.now w.set_max.new.task w.in-Some.ensures.value w.set_max.ensures.after
+          ((c.get_mut.follows.holds w.set_max.new.task).3 (search (rules, w.in-Some.ensures.value))).0
     ])

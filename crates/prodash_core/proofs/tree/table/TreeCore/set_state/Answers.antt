@@ -11,8 +11,8 @@ returns g c =
     let change = with_phase (phase_of c.args.state) in
     rw (← c.self.view_is) (elim c.match-get_mut.branch [
       | in-Some w ↦ ap (λ t. table_of t.tasks.entries) w.self-inside-is
-          ∙ change_at-some es _ c.args.key change w.in-Some.task.now w.set_state.new.self w.in-Some.ensures.value w.set_state.ensures
-          ((c.get_mut.follows.holds w.set_state.new.self).3 (search (rules, w.in-Some.ensures.value))).0
+          ∙ change_at-some es _ c.args.key change w.in-Some.task.now w.set_state.new.task w.in-Some.ensures.value w.set_state.ensures
+          ((c.get_mut.follows.holds w.set_state.new.task).3 (search (rules, w.in-Some.ensures.value))).0
       | in_default w ↦ ap (λ t. table_of t.tasks.entries) w.self-inside-is ∙ ap (λ t. table_of t.entries) c.get_mut.follows.holds-at-none
           ∙ change_at-none es c.args.key change w.in_default.ensures.value
     ])

@@ -1,5 +1,5 @@
 use Rattle.std.proofs.Common.{◌∙◌, ap, Some, None}
-use Rattle.prodash_core.specs.Tables.{unit_of}
+use Rattle.prodash_core.specs.Tables.{unit_of, entry_of}
 use Rattle.prodash_core.proofs.TableChanges.{get_task}
 use Rattle.prodash_core.proofs.tree.table.TreeCore.unit.Goals as goal
 
@@ -11,4 +11,4 @@ returns-in-None g c =
 pub returns-in-Some : goal.returns-in-Some
 returns-in-Some g c =
     let es = c.self.inside.tasks.entries in
-    rw (← c.self.view_is) (c.unit.ensures ∙ ap unit_of (get_task es c.args.key (Some c.in-Some.task.now) c.in-Some.ensures.value))
+    rw (← c.self.view_is) (c.unit.ensures ∙ ap (λ t. unit_of (Some (entry_of t))) c.deref.ensures ∙ ap unit_of (get_task es c.args.key (Some c.in-Some.task.now) c.in-Some.ensures.value))
