@@ -4,6 +4,8 @@ prodash-replay reads all lines before it writes a frame, so it is run once for a
 frames are taken one by one. They are defensive: each ends in what turns wrapping on, which is
 nowhere else, and goes up again by the rows that it has drawn. Lines above those are its messages.
 """
+import io
+import itertools
 import os
 import re
 import subprocess
@@ -97,23 +99,29 @@ class Recording:
         self.path = path
         try:
             with open(path, "rb") as it:
-                self.lines = it.read().split(b"\n")[:-1]
+                text = it.read()
         except OSError as error:
             raise Faulty(f"{path}: {error.strerror}") from None
-        if not self.lines:
+        self.text = text[: text.rfind(b"\n") + 1]
+        if not self.text:
             raise Faulty(f"{path} is no recording of prodash: it has no line")
-        self.has_begin = self.lines[0].startswith(BEGIN)
-        if self.has_begin and self.lines[0] != BEGIN + VERSION:
-            version = shown(self.lines[0][len(BEGIN) :])
+        first = next(self.lines())
+        self.has_begin = first.startswith(BEGIN)
+        if self.has_begin and first != BEGIN + VERSION:
+            version = shown(first[len(BEGIN) :])
             raise Faulty(f"{path} is a recording in version {version}, and only '1' can be read")
-        self.is_whole = self.lines[-1].startswith(b"quit ")
-        moments = [it for it in map(moment_of, self.lines) if it is not None]
+        self.is_whole = self.text.startswith(b"quit ", self.text.rfind(b"\n", 0, -1) + 1)
+        moments = [it for it in map(moment_of, self.lines()) if it is not None]
         self.end = moments[-1] if moments else 0
         if not self.is_whole:
             # for what came behind the last frame
             moments.append(self.end)
-            self.lines.append(b"tick %d" % self.end)
+            self.text += b"tick %d\n" % self.end
         self.times = times_of(moments)
+
+    def lines(self):
+        """Yields each line. A list of them takes six times as much memory as the file."""
+        return (it[:-1] for it in io.BytesIO(self.text))
 
     def redrawn(self, columns, rows):
         """Returns the lines for this size, in which each line that draws draws all rows.
@@ -122,7 +130,7 @@ class Recording:
         and a `resize`, which draws its rows. The sizes of the run are left out.
         """
         size = b" %d %d" % (columns, rows)
-        for line in self.lines:
+        for line in self.lines():
             word, _, rest = line.partition(b" ")
             if word == b"tick":
                 yield b"hold " + rest
@@ -138,17 +146,17 @@ class Recording:
 
     def said(self, program, rows, options):
         """Yields the messages, as whole lines. They are aligned as on so many rows."""
-        lines = (it for it in self.lines if not it.startswith((b"resize ", b"quit ")))
+        lines = (it for it in self.lines() if not it.startswith((b"resize ", b"quit ")))
         held = (b"hold" + it[4:] if it.startswith(b"tick ") else it for it in lines)
         for frame in Frames(program, held, (MOST, rows), options):
             yield from lines_of(frame)
 
     def left(self, program, size, options):
         """Returns the rows of the last tick, for the columns of this size."""
-        lines = [it for it in self.lines if not it.startswith(b"quit ")]
-        lines.append(b"resize %d %d %d" % (self.end, size[0], MOST))
+        lines = (it for it in self.lines() if not it.startswith(b"quit "))
+        end = b"resize %d %d %d" % (self.end, size[0], MOST)
         last = b""
-        for last in Frames(program, lines, size, options):
+        for last in Frames(program, itertools.chain(lines, [end]), size, options):
             pass
         return lines_of(last)
 
@@ -157,13 +165,13 @@ class Recording:
         if not FAULT.fullmatch(str(failed)):
             return failed
         try:
-            for _ in Frames(program, self.lines, (1, 1), []):
+            for _ in Frames(program, self.lines(), (1, 1), []):
                 pass
         except Failed as its_own:
             # by the number that the line has in the file
             failed = its_own
         number = int(FAULT.fullmatch(str(failed))[1])
-        what = f"is no event: {shown(self.lines[number - 1])}"
+        what = f"is no event: {shown(list(self.lines())[number - 1])}"
         if self.has_begin:
             return Faulty(f"{self.path} is damaged: line {number} {what}")
         name = "first line" if number == 1 else f"line {number}"
