@@ -6,7 +6,6 @@ mod lines;
 
 pub use command::USAGE;
 use command::{Command, Format, FrameOptions, HELP, parse_command_line};
-use lines::read_lines;
 use prodash_programs::{Fault, report, version_line, write_all};
 use std::alloc::Global;
 use std::io::{Read, Write};
@@ -43,8 +42,8 @@ fn write_replay<R: Read, O: Write>(
     match parse_command_line(words)? {
         Command::Frames(options) => write_frames(alloc, &options, input, out),
         Command::Dashboard(options) => {
-            let lines = read_lines(alloc, input, options.any_unit)?;
-            write_all(out, &dashboard::drawn(alloc, &options, lines)?)
+            let bytes = dashboard::drawn(alloc, &options, input)?;
+            write_all(out, &bytes)
         }
         Command::Help => write_all(out, HELP.as_bytes()),
         Command::Version => {
@@ -61,8 +60,7 @@ fn write_frames<R: Read, O: Write>(
     input: &mut R,
     out: &mut O,
 ) -> Result<(), Fault> {
-    let events = read_lines(alloc, input, options.any_unit)?;
-    let screen = frames::drawn(alloc, options, &events)?;
+    let screen = frames::drawn(alloc, options, input)?;
     match options.format {
         Format::Bytes => write_all(out, screen.bytes()),
         Format::Page => {

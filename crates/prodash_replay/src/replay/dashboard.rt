@@ -1,5 +1,5 @@
 use crate::replay::command::DashboardOptions;
-use crate::replay::lines::Input;
+use crate::replay::lines::{Apply, Input, apply_lines};
 use prodash_base::Refusal;
 use prodash_base::messages::Messages;
 use prodash_base::time::{Moment, format_now_datetime_seconds};
@@ -8,6 +8,7 @@ use prodash_core::tree::{Event, Reply, RootOptions, TreeState};
 use prodash_programs::Fault;
 use prodash_tui::{Contents, Dashboard};
 use std::alloc::Global;
+use std::io::Read;
 
 /// A dashboard, the tree that it shows, and the bytes of its frames.
 #[derive(Drop)]
@@ -18,30 +19,39 @@ struct Replayed {
     information: Vec<Line>,
     /// The moment of the next frame, which is that of the latest line that has one.
     at: Moment,
+    /// Whether it has been stopped, or has no root to draw, so that lines do nothing.
+    has_ended: bool,
     bytes: Vec<u8>,
 }
 
-/// Returns the bytes of all frames of a dashboard that gets these lines. It is closed by a line
-/// that stops it, by a frame without a root, or after the last line.
-pub(super) fn drawn(
+/// Returns the bytes of all frames of a dashboard that gets the lines of the input. It ends by a
+/// line that stops it, by a frame without a root, or after the last line; then it is closed.
+pub(super) fn drawn<R: Read>(
     alloc: Global,
     options: &DashboardOptions,
-    lines: Vec<Input>,
+    input: &mut R,
 ) -> Result<Vec<u8>, Fault> {
     let mut replayed = Replayed::new(alloc, options)?;
-    for line in lines {
-        match replayed.apply(alloc, line)? {
-            Answer::Skip => {}
-            Answer::Redraw => {
-                if !replayed.draw(alloc)? {
-                    break;
-                }
-            }
-            Answer::Stop => break,
-        }
-    }
+    apply_lines(alloc, input, options.any_unit, &mut replayed)?;
     replayed.close()?;
     Ok(replayed.bytes)
+}
+
+impl Apply for Replayed {
+    type Line = Input;
+
+    /// Applies a line, and draws a frame if it asks for one. After the end a line does nothing.
+    fn apply(&mut self, alloc: Global, line: Input) -> Result<(), Fault> {
+        if self.has_ended {
+            return Ok(());
+        }
+        match self.answer(alloc, line)? {
+            Answer::Skip => {}
+            Answer::Redraw => self.has_ended = !self.draw(alloc)?,
+            Answer::Stop => self.has_ended = true,
+        }
+        Ok(())
+    }
 }
 
 impl Replayed {
@@ -54,12 +64,13 @@ impl Replayed {
             dashboard: Dashboard::new(alloc, shown, options.columns, options.rows),
             information: Vec::new(alloc),
             at: 0,
+            has_ended: false,
             bytes: Vec::new(alloc),
         })
     }
 
     /// Applies a line, and returns what to do next.
-    fn apply(&mut self, alloc: Global, line: Input) -> Result<Answer, Fault> {
+    fn answer(&mut self, alloc: Global, line: Input) -> Result<Answer, Fault> {
         match line {
             Input::Tree(event) => self.apply_event(alloc, &event),
             Input::Dashboard(line) => {

@@ -1,54 +1,75 @@
 ghost use Rattle.std.specs.Prelude.{◌<◌};
 
 use crate::replay::command::FrameOptions;
+use crate::replay::lines::{Apply, apply_lines};
 use prodash_base::Refusal;
-use prodash_core::tree::{Event, Reply, RootOptions, SessionOptions, run};
+use prodash_core::tree::{Event, Reply, RootOptions, Session, SessionOptions};
 use prodash_line::render::line::draw::{self, MemoryScreen};
 use prodash_line::render::line::page::{Cell, Page, UnicodeWidth, read};
 use prodash_programs::Fault;
 use std::alloc::{AllocError, Global};
+use std::io::Read;
 
-/// Returns a screen with the bytes of all frames that the events draw.
-pub(super) fn drawn(
-    alloc: Global,
-    options: &FrameOptions,
-    events: &[Event],
-) -> Result<MemoryScreen, Fault> {
-    let session = SessionOptions {
-        root: RootOptions::default(),
-        draw: draw::Options {
-            level_filter: None,
-            terminal_dimensions: (options.columns, options.rows),
-            keep_running_if_progress_is_empty: true,
-            output_is_terminal: true,
-            colored: options.colored,
-            timestamp: false,
-            hide_cursor: false,
-            defensive: options.defensive,
-            synchronized: false,
-            whole_messages: false,
-            bare_without_origin: false,
-            bar_columns: None,
-            ascii: false,
-            times: options.times,
-            prefer_running: options.prefer_running,
-        },
-        throughput: true,
-    };
-    let mut screen = MemoryScreen::new(alloc, 0)?;
-    let replies = run(alloc, &session, events, &mut screen)?;
-    if replies.iter().any(is_out_of_memory) {
-        return Err(Fault::Memory);
-    }
-    Ok(screen)
+/// A session, and the screen with the bytes of its frames.
+#[derive(Drop)]
+struct Replayed {
+    session: Session,
+    screen: MemoryScreen,
 }
 
-/// Whether an event ran out of memory. A `MemoryScreen` breaks only if it can't grow.
-fn is_out_of_memory(reply: &Reply) -> bool {
-    matches!(
-        reply,
-        Reply::Refused(Refusal::Memory) | Reply::Refused(Refusal::Broken)
-    )
+/// Returns a screen with the bytes of all frames that the events of the input draw.
+pub(super) fn drawn<R: Read>(
+    alloc: Global,
+    options: &FrameOptions,
+    input: &mut R,
+) -> Result<MemoryScreen, Fault> {
+    let mut replayed = Replayed::new(alloc, options)?;
+    apply_lines(alloc, input, options.any_unit, &mut replayed)?;
+    Ok(replayed.screen)
+}
+
+impl Replayed {
+    /// Returns a session of an empty tree. It has drawn no frame.
+    fn new(alloc: Global, options: &FrameOptions) -> Result<Replayed, Fault> {
+        let session = SessionOptions {
+            root: RootOptions::default(),
+            draw: draw::Options {
+                level_filter: None,
+                terminal_dimensions: (options.columns, options.rows),
+                keep_running_if_progress_is_empty: true,
+                output_is_terminal: true,
+                colored: options.colored,
+                timestamp: false,
+                hide_cursor: false,
+                defensive: options.defensive,
+                synchronized: false,
+                whole_messages: false,
+                bare_without_origin: false,
+                bar_columns: None,
+                ascii: false,
+                times: options.times,
+                prefer_running: options.prefer_running,
+            },
+            throughput: true,
+        };
+        Ok(Replayed {
+            session: Session::new(alloc, &session)?,
+            screen: MemoryScreen::new(alloc, 0)?,
+        })
+    }
+}
+
+impl Apply for Replayed {
+    type Line = Event;
+
+    /// Applies an event. One that is refused, unless for want of memory, is passed over.
+    fn apply(&mut self, alloc: Global, event: Event) -> Result<(), Fault> {
+        match self.session.apply(alloc, &event, &mut self.screen) {
+            // A `MemoryScreen` breaks only if it can't grow.
+            Reply::Refused(Refusal::Memory) | Reply::Refused(Refusal::Broken) => Err(Fault::Memory),
+            _ => Ok(()),
+        }
+    }
 }
 
 /// Plays the bytes on a new page, and returns its rows, each with a line feed.

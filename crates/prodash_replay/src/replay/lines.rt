@@ -51,25 +51,39 @@ impl Parse for Input {
     }
 }
 
-/// Reads and parses all lines.
-pub(super) fn read_lines<T: Parse, R: Read>(
+/// What the lines of the input are applied to.
+pub(super) trait Apply: Drop {
+    /// What a line is parsed as.
+    type Line: Parse;
+
+    /// Applies a line.
+    fn apply(&mut self, alloc: Global, line: Self::Line) -> Result<(), Fault>;
+}
+
+/// Reads the whole input, and applies each line as it is parsed.
+pub(super) fn apply_lines<T: Apply, R: Read>(
     alloc: Global,
     input: &mut R,
     any_unit: bool,
-) -> Result<Vec<T>, Fault> {
+    replayed: &mut T,
+) -> Result<(), Fault> {
     let mut bytes = Vec::new(alloc);
     if let Err(error) = input.read_to_end(&mut bytes) {
         return Err(Fault::of_input(&error));
     }
-    parse_lines(alloc, &bytes, any_unit)
+    apply_each(alloc, &bytes, any_unit, replayed)
 }
 
-/// Parses each line. The last line may lack its line feed.
-fn parse_lines<T: Parse>(alloc: Global, bytes: &[u8], any_unit: bool) -> Result<Vec<T>, Fault> {
-    let mut parsed = Vec::new(alloc);
+/// Parses each line and applies it. The last line may lack its line feed.
+fn apply_each<T: Apply>(
+    alloc: Global,
+    bytes: &[u8],
+    any_unit: bool,
+    replayed: &mut T,
+) -> Result<(), Fault> {
     let mut labels = Labels::new(alloc);
     if bytes.is_empty() {
-        return Ok(parsed);
+        return Ok(());
     }
     let bytes = bytes.strip_suffix(b"\n").unwrap_or(bytes);
     for (i, line) in bytes.split(|b| *b == b'\n').enumerate() {
@@ -77,12 +91,12 @@ fn parse_lines<T: Parse>(alloc: Global, bytes: &[u8], any_unit: bool) -> Result<
         let Ok(text) = str::from_utf8(line) else {
             return Err(fault);
         };
-        match T::parse(alloc, &mut labels, text)? {
-            Some(it) if any_unit || has_listed_unit(text) => parsed.push(it)?,
+        match T::Line::parse(alloc, &mut labels, text)? {
+            Some(it) if any_unit || has_listed_unit(text) => replayed.apply(alloc, it)?,
             _ => return Err(fault),
         }
     }
-    Ok(parsed)
+    Ok(())
 }
 
 /// Returns whether a line begins no item, or one in a unit that is read without `--any-unit`.
