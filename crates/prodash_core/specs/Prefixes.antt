@@ -1,6 +1,6 @@
 -- The prefix of a row, which draws the branches of the tree that lead to it.
 use Prim.Native.Char.{code}
-use Rattle.std.specs.Prelude.{◌≡◌, ℕ, Bool, true, false, not, ◌==◌, List, [], ◌∷◌, take, length, slice_get, Option, Some, encode_utf8_all}
+use Rattle.std.specs.Prelude.{◌≡◌, ℕ, Bool, true, false, not, ◌==◌, List, [], ◌∷◌, ◌++◌, take, length, slice_get, Option, Some, String, string_bytes, encode_utf8_all}
 use Rattle.std.specs.Option.{option_map}
 use Rattle.prodash_base.specs.Path.{Path}
 use Rattle.prodash_base.specs.Adjacency.{adjacency, locations, level_of}
@@ -53,3 +53,10 @@ prefix_at paths i = option_map (λ p. prefix_of (adjacency paths p) (length p)) 
 -- the bytes of the prefix of the path at an index
 abbrev pub IsPrefixAt : List Path → ℕ → List ℕ → Type 0
 IsPrefixAt paths i bytes = option_map encode_utf8_all (prefix_at paths i) ≡ Some bytes
+
+-- the string after has the bytes of the string before, and then those of the prefix of the path at
+-- an index
+abbrev pub AppendsPrefixAt : {Z : Type 0} → List Path → ℕ → String Z → String Z → Type 0
+AppendsPrefixAt paths i before after =
+    option_map (λ prefix. string_bytes before ++ encode_utf8_all prefix) (prefix_at paths i)
+    ≡ Some (string_bytes after)

@@ -8,6 +8,6 @@ pub mod engine;
 pub use engine::{JoinHandle, StackSizes, render, render_with_stacks};
 pub use prodash_core::render::tui::{
     Answer, Event, Interrupt, InterruptMode, Key, KeyCode, Line, Options, Rect, State,
-    VERTICAL_LINE, level_prefix,
+    VERTICAL_LINE, level_prefix, push_level_prefix,
 };
 pub use prodash_tui::{Contents, Dashboard};

@@ -9,7 +9,7 @@ mod state;
 
 pub use event::{Answer, Event, Interrupt, Key, KeyCode, Line, Rect};
 pub use options::Options;
-pub use prefix::level_prefix;
+pub use prefix::{level_prefix, push_level_prefix};
 pub use state::{InterruptMode, State};
 
 /// The vertical line that a dashboard draws between columns.
