@@ -1,11 +1,17 @@
--- Rows that pass a test.
-use Rattle.std.proofs.Common.{◌≡◌, Bool, true, false, List, [], ◌∷◌, length, map, refl, ap, cond, suc}
+-- Rows that are counted, one after another.
+use Rattle.std.proofs.Common.{◌≡◌, ℕ, ◌+◌, Bool, true, false, cond, Option, List, [], ◌∷◌, length, arith}
 use Rattle.std.specs.Prelude.{filter}
+use Rattle.std.specs.Int.{from_bool}
+use Rattle.prodash_base.specs.Rows.{PathRow, RowProgress}
+use Rattle.prodash_tui.specs.Headlines.{how_many}
 
--- a test of what is made of elements
-pub count_map : {A B : Type 0} → (f : A → B) (test : B → Bool) (xs : List A) → length (filter test (map f xs)) ≡ length (filter (λ (x : A). test (f x)) xs)
-count_map f test [] = refl
-count_map f test (x ∷ xs) = elim (test (f x)) as (λ (b : Bool). length (cond b (f x ∷ filter test (map f xs)) (filter test (map f xs))) ≡ length (cond b (x ∷ filter (λ y. test (f y)) xs) (filter (λ y. test (f y)) xs))) [
-  | true ↦ ap suc (count_map f test xs)
-  | false ↦ count_map f test xs
-]
+one_more : (b : Bool) (row : PathRow) (kept : List PathRow) → length (cond b (row ∷ kept) kept) ≡ from_bool b + length kept
+one_more true row kept = omega arith
+one_more false row kept = omega arith
+
+-- a row is counted if it passes the test
+pub counted : (test : Option RowProgress → Bool) (row : PathRow) (rest : List PathRow) (before after all : ℕ) → after ≡ before + from_bool (test row.1.progress)
+    → before + how_many test (row ∷ rest) ≡ all → after + how_many test rest ≡ all
+counted test row rest before after all more so_far =
+    let here : how_many test (row ∷ rest) ≡ from_bool (test row.1.progress) + how_many test rest = one_more (test row.1.progress) row (filter (λ (r : PathRow). test r.1.progress) rest) in
+    omega arith

@@ -1,19 +1,20 @@
 -- The rows of a progress pane, and lines that are drawn one after another.
 use Rattle.std.proofs.Common.{◌≡◌, ℕ, suc, ◌+◌, ◌-◌, ◌/◌, ◌<◌, Option, Some, None, List, [], ◌∷◌, ◌++◌, length, get_or, map, take, drop, refl, sym, ap, subst, inl, inr, ◌∙◌, arith}
-use Rattle.std.specs.Prelude.{◌↔◌, Bool, true, false, IsTrue, encode_utf8_all, max, min, sum, if◌then◌else◌}
+use Rattle.std.specs.Prelude.{◌↔◌, Bool, true, false, IsTrue, String, encode_utf8_all, string_bytes, max, min, sum, if◌then◌else◌}
 use Rattle.std.specs.Option.{is_some, option_map, option_map_or}
 use Rattle.std.proofs.Math.Utf8.{encode}
 use Rattle.std.proofs.lemmas.Bool.{cases_lt}
 use Rattle.std.proofs.lemmas.List.{drop-map, drop_all, get_or-map, length-append, length-drop, length-map, length-take, map-append, take-map, take_all}
 use Rattle.std.proofs.lemmas.List.Sums.{sum_by-append}
 use Rattle.prodash_base.specs.Adjacency.{paths_of}
+use Rattle.prodash_base.specs.Appending.{Appends}
 use Rattle.prodash_base.specs.Numbers.{same_numbers}
 use Rattle.prodash_base.specs.Path.{Path, SharesPrefix}
 use Rattle.prodash_base.specs.Rows.{PathRow, RowProgress, progress_of, row_of, rows_of}
 use Rattle.prodash_base.specs.declared.progress.Row.{Row}
 use Rattle.prodash_base.specs.declared.progress.Value.{Value}
 use Rattle.prodash_base.specs.plumbing.EqualityTests.{itself, sound, texts}
-use Rattle.prodash_core.specs.Prefixes.{IsPrefixAt, prefix_at}
+use Rattle.prodash_core.specs.Prefixes.{AppendsPrefixAt, prefix_at}
 use Rattle.prodash_core.specs.declared.render.tui.event.Rect.{Rect}
 use Rattle.prodash_tui.specs.declared.draw.progress.lines.Lines.{Lines}
 use Rattle.prodash_tui.specs.Grids.{Sheet}
@@ -34,14 +35,15 @@ paths_said : (rows : List Row) → map (λ (row : PathRow). row.0) (rows_of rows
 paths_said [] = refl
 paths_said (r ∷ rows) = ap (λ (ps : List Path). r.key ∷ ps) (paths_said rows)
 
-given : (o : Option (List ℕ)) (bytes : List ℕ) → option_map encode_utf8_all o ≡ Some bytes → bytes ≡ option_map_or encode_utf8_all o []
-given None bytes h = cc
-given (Some chars) bytes h = cc
+behind : (o : Option (List ℕ)) (before after : List ℕ) → option_map (λ prefix. before ++ encode_utf8_all prefix) o ≡ Some after → after ≡ before ++ option_map_or encode_utf8_all o []
+behind None before after h = cc
+behind (Some chars) before after h = cc
 
--- the branches of a row
-pub branches_at : (rows : List Row) (i : ℕ) (bytes : List ℕ) → IsPrefixAt (paths_of rows) i bytes → bytes ≡ branches_of (rows_of rows) i
-branches_at rows i bytes h =
-    given (prefix_at (paths_of rows) i) bytes h ∙ ap (λ (ps : List Path). option_map_or encode_utf8_all (prefix_at ps i) []) (sym (paths_said rows))
+-- the branches of a row behind a text
+pub branches_behind : {Z : Type 0} → (rows : List Row) (i : ℕ) (before after : String Z) → AppendsPrefixAt (paths_of rows) i before after → Appends before (branches_of (rows_of rows) i) after
+branches_behind rows i before after h =
+    behind (prefix_at (paths_of rows) i) (string_bytes before) (string_bytes after) h
+    ∙ ap (λ (ps : List Path). string_bytes before ++ option_map_or encode_utf8_all (prefix_at ps i) []) (sym (paths_said rows))
 
 -- one more line
 pub line_more : (n : ℕ) (draw : ℕ → Sheet → Sheet) (g : Sheet) → with_lines (n + 1) draw g ≡ draw n (with_lines n draw g)

@@ -1,6 +1,7 @@
 //! The dashboard, and its panes.
 pub mod all;
 mod bounds;
+mod counts;
 pub mod headline;
 pub mod information;
 mod input;

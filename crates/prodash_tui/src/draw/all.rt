@@ -146,7 +146,7 @@ fn draw_panes(
     let interval = input.nanoseconds_per_frame;
     let mode = state.interrupt_mode;
     let behind = headline_bound(bounds.window, state.title.as_str());
-    headline(alloc, input.rows, mode, interval, input.time, behind, grid)?;
+    headline(text, input.rows, mode, interval, input.time, behind, grid)?;
     let skipped = state.task_offset;
     let scroll = draw_tasks(alloc, text, input, rates, skipped, bounds.tasks, grid)?;
     state.task_offset = scroll.offset;

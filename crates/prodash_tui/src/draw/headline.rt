@@ -1,29 +1,33 @@
 //! The headline.
-ghost use Rattle.std.specs.Prelude.{◌≡◌, ◌++◌, IfOk, IsOkUnless, OnErr, OnOk, filter, length, string_bytes};
+ghost use Rattle.std.specs.Prelude.{◌≡◌, ◌++◌, IsOkUnless, OnErr, OnOk};
 ghost use Rattle.std.specs.Fmt.{decimal};
+ghost use Rattle.prodash_base.specs.Appending.{Appends};
 ghost use Rattle.prodash_base.specs.Rows.{row_of, rows_of};
-ghost use Rattle.prodash_tui.specs.Headlines.{DrawsHeadline, count_words, counts_text, in_three, interrupt_text, interval_text, is_group, runs, waits};
+ghost use Rattle.prodash_tui.specs.Headlines.{DrawsHeadline, count_words, counts_text, how_many, in_three, interrupt_text, interval_text, is_group, runs, waits};
 ghost use Rattle.prodash_tui.specs.plumbing.PaneParts.{IsHeadline};
 
+use crate::draw::counts::Counts;
 use crate::draw::parts::bold;
 use crate::grid::Grid;
 use crate::rect::snap_to_right;
 use crate::text::block_width;
+use itoa::Buffer;
 use prodash_base::Refusal;
 use prodash_base::progress::{Row, State};
 use prodash_core::render::tui::{InterruptMode, Rect};
-use std::alloc::Global;
+use std::alloc::AllocError;
 
 const NANOSECONDS_PER_SECOND: u64 = 1_000_000_000;
 
 /// Draws the headline at the right end of the first row of a rectangle, before a column that stays
 /// free: what `q` does, and how many tasks run, wait for something, and are groups. If more than a
 /// second is between two frames, it has that time in seconds, and `now`, the moment of this frame.
-/// `interval` is the time between two frames in nanoseconds.
+/// `interval` is the time between two frames in nanoseconds, and `text` memory for the text, which
+/// is written over.
 ///
 /// `Memory`: out of memory. The grid is then as it was.
 pub fn headline(
-    alloc: Global,
+    text: &mut String,
     rows: &[Row],
     mode: InterruptMode,
     interval: u64,
@@ -36,28 +40,33 @@ pub fn headline(
     ensures err { OnErr result (grid.new ≡ grid.old) }
     ensures reason { IsOkUnless result Refusal.Memory }
 {
-    let text = headline_text(alloc, rows, mode, interval, now)?;
+    write_headline(text, rows, mode, interval, now)?;
     let text = text.as_str();
     let right = snap_to_right(bound, block_width(text).saturating_add(1));
     grid.draw_text_with_ellipsis(right, text, bold());
     Ok(())
 }
 
-/// Returns the text of the headline.
-fn headline_text(
-    alloc: Global,
+/// Writes the text of the headline over the text.
+fn write_headline(
+    text: &mut String,
     rows: &[Row],
     mode: InterruptMode,
     interval: u64,
     now: &str,
-) -> Result<String, Refusal>
-    ensures ok { IfOk result (IsHeadline mode interval now.now rows.now) }
+) -> Result<(), Refusal>
+    ensures ok { OnOk result (IsHeadline mode interval now.now rows.now text.new) }
     ensures reason { IsOkUnless result Refusal.Memory }
 {
-    let quit = interrupt_text(mode);
-    let interval = interval_text(alloc, interval, now)?;
-    let counts = counts_text(alloc, rows)?;
-    Ok(format!(in alloc; " {quit} {interval} {counts} ")?)
+    text.clear();
+    text.push_str(" ")?;
+    text.push_str(interrupt_text(mode))?;
+    text.push_str(" ")?;
+    push_interval(text, interval, now)?;
+    text.push_str(" ")?;
+    push_counts(text, rows)?;
+    text.push_str(" ")?;
+    Ok(())
 }
 
 /// Returns what `q` does.
@@ -71,55 +80,50 @@ fn interrupt_text(mode: InterruptMode) -> &'static str
     }
 }
 
-/// Returns how often a frame is drawn, and when this one is, if there is more than a second between
-/// frames, and else an empty text.
-fn interval_text(alloc: Global, interval: u64, now: &str) -> Result<String, Refusal>
-    ensures ok { IfOk result (λ text. string_bytes text ≡ interval_text interval now.now) }
-    ensures reason { IsOkUnless result Refusal.Memory }
+/// Appends how often a frame is drawn, and when this one is, if there is more than a second between
+/// frames.
+fn push_interval(text: &mut String, interval: u64, now: &str) -> Result<(), AllocError>
+    ensures { OnOk result (Appends text.old (interval_text interval now.now) text.new) }
 {
     if interval <= NANOSECONDS_PER_SECOND {
-        return Ok(String::new(alloc));
+        return Ok(());
     }
-    let seconds = interval / NANOSECONDS_PER_SECOND;
-    Ok(format!(in alloc; " Every {seconds}s → {now}")?)
+    text.push_str(" Every ")?;
+    text.push_str(Buffer::new().format(interval / NANOSECONDS_PER_SECOND))?;
+    text.push_str("s → ")?;
+    text.push_str(now)?;
+    Ok(())
 }
 
-/// Returns how many tasks run, wait, and are groups, and how many there are, as a text.
-fn counts_text(alloc: Global, rows: &[Row]) -> Result<String, Refusal>
-    ensures ok { IfOk result (λ text. string_bytes text ≡ counts_text (rows_of rows.now)) }
-    ensures reason { IsOkUnless result Refusal.Memory }
+/// Appends how many tasks run, wait, and are groups, and how many there are.
+fn push_counts(text: &mut String, rows: &[Row]) -> Result<(), AllocError>
+    ensures { OnOk result (Appends text.old (counts_text (rows_of rows.now)) text.new) }
 {
-    let running = count_running(rows);
-    let waiting = count_waiting(rows);
-    let groups = count_groups(rows);
-    count_words(alloc, running, waiting, groups, rows.len())
+    let counts = count_tasks(rows);
+    push_count_words(text, counts, rows.len())
 }
 
-/// Returns these numbers of tasks as a text.
-fn count_words(
-    alloc: Global,
-    running: usize,
-    waiting: usize,
-    groups: usize,
-    all: usize,
-) -> Result<String, Refusal>
-    ensures ok { IfOk result (λ text.
-        string_bytes text ≡ count_words running waiting groups all) }
-    ensures reason { IsOkUnless result Refusal.Memory }
+/// Appends these numbers of tasks.
+fn push_count_words(text: &mut String, counts: Counts, all: usize) -> Result<(), AllocError>
+    ensures { OnOk result (Appends text.old
+        (count_words counts.running counts.waiting counts.groups all) text.new) }
 {
-    let running = in_three(alloc, running)?;
-    let waiting = in_three(alloc, waiting)?;
-    let groups = in_three(alloc, groups)?;
-    Ok(format!(in alloc; "{running} running + {waiting} blocked + {groups} groups = {all}")?)
+    push_in_three(text, counts.running)?;
+    text.push_str(" running + ")?;
+    push_in_three(text, counts.waiting)?;
+    text.push_str(" blocked + ")?;
+    push_in_three(text, counts.groups)?;
+    text.push_str(" groups = ")?;
+    text.push_str(Buffer::new().format(all))?;
+    Ok(())
 }
 
-/// Returns a number after spaces that bring it to three columns.
-fn in_three(alloc: Global, n: usize) -> Result<String, Refusal>
-    ensures ok { IfOk result (λ text. string_bytes text ≡ in_three n) }
-    ensures reason { IsOkUnless result Refusal.Memory }
+/// Appends a number after spaces that bring it to three columns.
+fn push_in_three(text: &mut String, n: usize) -> Result<(), AllocError>
+    ensures { OnOk result (Appends text.old (in_three n) text.new) }
 {
-    let padding = padding(n);
-    Ok(format!(in alloc; "{padding}{n}")?)
+    text.push_str(padding(n))?;
+    text.push_str(Buffer::new().format(n))
 }
 
 /// Returns the spaces that bring a number to three columns.
@@ -135,25 +139,25 @@ fn padding(n: usize) -> &'static str
     }
 }
 
-/// Returns how many tasks run.
-fn count_running(rows: &[Row]) -> usize
-    ensures { result ≡ length (filter (λ row. runs (row_of row).1.progress) rows.now) }
+/// Counts the tasks that run, wait, and are groups.
+fn count_tasks(rows: &[Row]) -> Counts
+    ensures running { result.running ≡ how_many runs (rows_of rows.now) }
+    ensures waiting { result.waiting ≡ how_many waits (rows_of rows.now) }
+    ensures groups { result.groups ≡ how_many is_group (rows_of rows.now) }
 {
-    rows.iter().filter(|row| runs(row)).count()
-}
-
-/// Returns how many tasks wait for something.
-fn count_waiting(rows: &[Row]) -> usize
-    ensures { result ≡ length (filter (λ row. waits (row_of row).1.progress) rows.now) }
-{
-    rows.iter().filter(|row| waits(row)).count()
-}
-
-/// Returns how many tasks have no progress of their own.
-fn count_groups(rows: &[Row]) -> usize
-    ensures { result ≡ length (filter (λ row. is_group (row_of row).1.progress) rows.now) }
-{
-    rows.iter().filter(|row| is_group(row)).count()
+    let (mut running, mut waiting, mut groups) = (0, 0, 0);
+    let mut left = rows;
+    while let Some((row, rest)) = left.split_first() {
+        running += usize::from(runs(row));
+        waiting += usize::from(waits(row));
+        groups += usize::from(is_group(row));
+        left = rest;
+    }
+    Counts {
+        running,
+        waiting,
+        groups,
+    }
 }
 
 /// Returns whether a task runs.

@@ -71,7 +71,6 @@ fn tree_width(area: Rect, known: u16) -> u16
 
 /// Draws the tree on so many columns, if there are any, and returns how many the widest row has.
 fn draw_tree_on(
-    alloc: Global,
     grid: &mut Grid,
     text: &mut String,
     rows: &[Row],
@@ -89,14 +88,7 @@ fn draw_tree_on(
     if columns == 0 {
         return Ok(0);
     }
-    draw_tree(
-        alloc,
-        grid,
-        text,
-        rows,
-        first_columns(area, columns),
-        offset,
-    )
+    draw_tree(grid, text, rows, first_columns(area, columns), offset)
 }
 
 /// Returns the lines behind a tree of so many columns. Writes over the text.
@@ -172,7 +164,7 @@ pub fn pane(
     let shown = rows_area(rows, area);
     let offset = sanitize_offset(scroll.offset, rows.len(), shown.height);
     let tree = tree_width(area, scroll.tree_columns);
-    let tree_columns = draw_tree_on(alloc, grid, text, rows, tree, shown, offset)?;
+    let tree_columns = draw_tree_on(grid, text, rows, tree, shown, offset)?;
     let lines = lines_behind(alloc, text, rows, tree, shown, offset, tasks.at)?;
     draw_rows(alloc, grid, text, rows, tasks.rates, &lines)?;
     draw_hidden_line(grid, text, rows, offset, tree, area)?;

@@ -16,7 +16,7 @@ use crate::draw::progress::bar::{
 };
 use crate::draw::progress::lines::Lines;
 use crate::draw::progress::texts::{
-    branches_of, has_child, write_amount, write_label, write_title,
+    has_child, write_amount, write_branches, write_label, write_title,
 };
 use crate::draw::progress::tree::shown_count;
 use crate::grid::Grid;
@@ -29,10 +29,11 @@ use prodash_base::unit::display::Throughput;
 use prodash_core::render::tui::{Rect, VERTICAL_LINE};
 use std::alloc::Global;
 
-/// Draws the branches that lead to a row on a line, and returns what is behind them.
+/// Draws the branches that lead to a row on a line, and returns what is behind them. Writes over
+/// the text.
 fn draw_branches(
-    alloc: Global,
     grid: &mut Grid,
+    text: &mut String,
     rows: &[Row],
     index: usize,
     line: Rect,
@@ -44,10 +45,11 @@ fn draw_branches(
     ensures behind { IfOk result (λ r. r ≡ behind_branches (rows_of rows.now) index line) }
     ensures reason { IsOkUnless result Refusal.Memory }
 {
-    let branches = branches_of(alloc, rows, index)?;
+    write_branches(text, rows, index)?;
+    let branches = text.as_str();
     grid.draw_text_with_ellipsis(line, VERTICAL_LINE, Style::new());
-    grid.draw_text_with_ellipsis(line, branches.as_str(), Style::new());
-    Ok(offset_x(line, block_width(branches.as_str())))
+    grid.draw_text_with_ellipsis(line, branches, Style::new());
+    Ok(offset_x(line, block_width(branches)))
 }
 
 /// Returns how many columns the line of a group has.
@@ -130,7 +132,7 @@ fn draw_row(
 {
     let index = usize::from(lines.offset) + usize::from(line);
     let bound = line_bound(lines.area, usize::from(line));
-    let behind = draw_branches(alloc, grid, rows, index, bound)?;
+    let behind = draw_branches(grid, text, rows, index, bound)?;
     let row = &rows[index];
     match &row.progress {
         Some(value) => {

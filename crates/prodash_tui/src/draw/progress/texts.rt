@@ -17,7 +17,7 @@ use prodash_base::progress::{Row, State, Step, Value};
 use prodash_base::time::Moment;
 use prodash_base::times::seconds_text;
 use prodash_base::unit::display::Throughput;
-use prodash_core::render::tui::level_prefix;
+use prodash_core::render::tui::push_level_prefix;
 use std::alloc::{AllocError, Global};
 
 /// The keys that scroll.
@@ -25,14 +25,25 @@ pub(crate) const KEYS: &str = "⇊ = d|↓ = j|⇈ = u|↑ = k ";
 
 const NANOSECONDS_PER_SECOND: u64 = 1_000_000_000;
 
-/// Returns the branches that lead to a row.
-pub(crate) fn branches_of(alloc: Global, rows: &[Row], index: usize) -> Result<String, Refusal>
+/// Appends the branches that lead to a row.
+fn push_branches(text: &mut String, rows: &[Row], index: usize) -> Result<(), AllocError>
     requires sorted { IsAscending (paths_of rows.now) }
     requires inside { index < length rows.now }
-    ensures ok { IfOk result (λ s. string_bytes s ≡ branches_of (rows_of rows.now) index) }
+    ensures { OnOk result (Appends text.old (branches_of (rows_of rows.now) index) text.new) }
+{
+    push_level_prefix(text, rows, index)
+}
+
+/// Writes the branches that lead to a row over the text.
+pub(crate) fn write_branches(text: &mut String, rows: &[Row], index: usize) -> Result<(), Refusal>
+    requires sorted { IsAscending (paths_of rows.now) }
+    requires inside { index < length rows.now }
+    ensures ok { OnOk result (string_bytes text.new ≡ branches_of (rows_of rows.now) index) }
     ensures reason { IsOkUnless result Refusal.Memory }
 {
-    level_prefix(alloc, rows, index)
+    text.clear();
+    push_branches(text, rows, index)?;
+    Ok(())
 }
 
 /// Returns whether a row has a child with progress.
@@ -48,20 +59,14 @@ pub(crate) fn has_child(rows: &[Row], index: usize) -> bool
 }
 
 /// Writes a row of the tree over the text.
-pub(crate) fn write_tree_text(
-    alloc: Global,
-    text: &mut String,
-    rows: &[Row],
-    index: usize,
-) -> Result<(), Refusal>
+pub(crate) fn write_tree_text(text: &mut String, rows: &[Row], index: usize) -> Result<(), Refusal>
     requires sorted { IsAscending (paths_of rows.now) }
     requires inside { index < length rows.now }
     ensures ok { OnOk result (string_bytes text.new ≡ tree_text (rows_of rows.now) index) }
     ensures reason { IsOkUnless result Refusal.Memory }
 {
-    let branches = branches_of(alloc, rows, index)?;
     text.clear();
-    text.push_str(branches.as_str())?;
+    push_branches(text, rows, index)?;
     text.push_str(" ")?;
     text.push_str(rows[index].name.as_str())?;
     Ok(())

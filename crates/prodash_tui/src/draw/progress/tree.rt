@@ -16,7 +16,6 @@ use crate::text::block_width;
 use prodash_base::Refusal;
 use prodash_base::progress::{Row, Value};
 use prodash_core::render::tui::Rect;
-use std::alloc::Global;
 
 /// Returns how many rows from an offset on a rectangle shows.
 pub(crate) fn shown_count(rows: &[Row], area: Rect, offset: u16) -> u16
@@ -50,7 +49,6 @@ fn tree_line(area: Rect, line: u16) -> Rect
 
 /// Draws a row of the tree, and returns how many columns it has, with one behind it.
 fn draw_tree_row(
-    alloc: Global,
     grid: &mut Grid,
     text: &mut String,
     rows: &[Row],
@@ -64,7 +62,7 @@ fn draw_tree_row(
     ensures columns { IfOk result (λ n. n ≡ tree_row_columns (rows_of rows.now) index) }
     ensures reason { IsOkUnless result Refusal.Memory }
 {
-    write_tree_text(alloc, text, rows, index)?;
+    write_tree_text(text, rows, index)?;
     grid.draw_text_with_ellipsis(line, text.as_str(), tree_style(&rows[index].progress));
     Ok(block_width(text.as_str()).saturating_add(1))
 }
@@ -72,7 +70,6 @@ fn draw_tree_row(
 /// Draws the tree of the rows from an offset on, and returns how many columns the widest has, with
 /// one behind it.
 pub(crate) fn draw_tree(
-    alloc: Global,
     grid: &mut Grid,
     text: &mut String,
     rows: &[Row],
@@ -88,7 +85,7 @@ pub(crate) fn draw_tree(
     let mut columns = 0;
     for line in 0..shown_count(rows, area, offset) {
         let index = usize::from(offset) + usize::from(line);
-        let width = draw_tree_row(alloc, grid, text, rows, index, tree_line(area, line))?;
+        let width = draw_tree_row(grid, text, rows, index, tree_line(area, line))?;
         columns = width.max(columns);
     }
     Ok(columns)

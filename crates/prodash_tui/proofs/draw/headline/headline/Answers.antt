@@ -9,7 +9,7 @@ use Rattle.prodash_tui.proofs.draw.headline.headline.Goals as goal
 pub returns-clause-ok : goal.returns-clause-ok
 returns-clause-ok c =
     let area = c.args.bound in
-    let text : c.as_str-text.result.now ≡ headline_text c.args.mode c.args.interval c.args.now.now (rows_of c.args.rows.now) = c.as_str-text.ensures.value ∙ c.in_ok-text.ensures.ok in
+    let text : c.as_str-text.result.now ≡ headline_text c.args.mode c.args.interval c.args.now.now (rows_of c.args.rows.now) = c.as_str-text.ensures.value ∙ c.in_ok-write_headline.ensures.ok in
     let width = block_width c.as_str-text.result.now in
     let drawn : c.block_width.result ≡ width = c.block_width.ensures in
     let left : area.width - c.saturating_add.result ≡ area.width - (width + 1) = omega arith in

@@ -17,6 +17,6 @@ returns-clause-drawn c =
     ∙ ap (λ (s : Style). with_shortened line s (0xE2 ∷ 0x94 ∷ 0x82 ∷ []) grid) c.new.ensures
     ∙ ap (λ (t : List ℕ). with_shortened line plain t grid) line_bytes in
     c.draw_text_with_ellipsis-2.ensures
-    ∙ ap (λ (s : Style). with_shortened line s c.as_str.result.now c.draw_text_with_ellipsis.new.self) c.new-2.ensures
-    ∙ ap (λ (t : List ℕ). with_shortened line plain t c.draw_text_with_ellipsis.new.self) (c.as_str.ensures.value ∙ c.in_ok-branches.ensures.ok)
+    ∙ ap (λ (s : Style). with_shortened line s c.as_str-branches.result.now c.draw_text_with_ellipsis.new.self) c.new-2.ensures
+    ∙ ap (λ (t : List ℕ). with_shortened line plain t c.draw_text_with_ellipsis.new.self) (c.as_str-branches.ensures.value ∙ c.in_ok-write_branches.ensures.ok)
     ∙ ap (λ (g : Sheet). with_shortened line plain (branches_of (rows_of c.args.rows.now) c.args.index) g) first
