@@ -47,7 +47,11 @@ pub(crate) fn filled_cells(cells: u64, step: Step, bound: Step) -> u64
     if bound == 0 {
         return cells;
     }
-    (u128::from(cells) * u128::from(step.min(bound)) / u128::from(bound)) as u64
+    let done = step.min(bound);
+    match cells.checked_mul(done) {
+        Some(product) => product / bound,
+        None => (u128::from(cells) * u128::from(done) / u128::from(bound)) as u64,
+    }
 }
 
 /// Returns how many eighths of the cell behind the filled ones are filled, rounded to the nearest.
