@@ -33,6 +33,8 @@ pub struct Grid {
     width: u16,
     height: u16,
     rows: Vec<Row>,
+    /// Whether nothing was drawn on it since it was blank.
+    is_blank: bool,
 }
 
 impl Model for Grid {
@@ -108,6 +110,7 @@ impl Grid {
             width,
             height,
             rows,
+            is_blank: true,
         })
     }
 
@@ -142,10 +145,14 @@ impl Grid {
         self.rows.as_slice()
     }
 
-    /// Blanks all cells.
+    /// Blanks all cells. It does nothing if nothing was drawn since they were blank.
     pub fn clear(&mut self)
         ensures { self.new ≡ blank_sheet self.old.width self.old.height }
     {
+        if self.is_blank {
+            return;
+        }
+        self.is_blank = true;
         clear_rows(&mut self.rows, self.width);
     }
 
@@ -160,6 +167,7 @@ impl Grid {
         }
         let x = area.x.min(self.width);
         let end = x + area.width.min(self.width - x);
+        self.is_blank = false;
         let row = &mut self.rows[usize::from(area.y)];
         row.draw_text(usize::from(x), usize::from(end), text, style);
     }
@@ -174,6 +182,7 @@ impl Grid {
         }
         let x = area.x.min(self.width);
         let end = x + area.width.min(self.width - x);
+        self.is_blank = false;
         let row = &mut self.rows[usize::from(area.y)];
         row.draw_shortened(usize::from(x), usize::from(end), text, style);
     }
@@ -186,6 +195,7 @@ impl Grid {
         let end = x + area.width.min(self.width - x);
         let y = area.y.min(self.height);
         let last = y + area.height.min(self.height - y);
+        self.is_blank = false;
         fill_rows(
             &mut self.rows,
             usize::from(y),
@@ -205,6 +215,7 @@ impl Grid {
         let end = x + area.width.min(self.width - x);
         let y = area.y.min(self.height);
         let last = y + area.height.min(self.height - y);
+        self.is_blank = false;
         color_rows(
             &mut self.rows,
             usize::from(y),

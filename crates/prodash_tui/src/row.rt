@@ -50,6 +50,15 @@ fn color_cells(cells: &mut Vec<PackedCell>, first: usize, last: usize, color: Co
     }
 }
 
+/// Blanks all cells.
+fn clear_cells(cells: &mut [PackedCell])
+    ensures { cells.new ≡ blank_cells (length cells.old) }
+{
+    for k in 0..cells.len() {
+        cells[k] = blank_cell();
+    }
+}
+
 impl Row {
     /// Returns a blank row. Fails if out of memory.
     pub(crate) fn blank(alloc: Global, width: u16) -> Result<Row, AllocError>
@@ -204,8 +213,6 @@ impl Row {
     pub(crate) fn clear(&mut self)
         ensures { self.new ≡ blank_cells (length self.old) }
     {
-        for k in 0..self.cells.len() {
-            self.cells[k] = blank_cell();
-        }
+        clear_cells(&mut self.cells);
     }
 }
