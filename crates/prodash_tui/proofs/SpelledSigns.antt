@@ -15,7 +15,7 @@ use Rattle.prodash_tui.specs.Grids.{IsSheet, Sheet}
 use Rattle.prodash_tui.specs.Signs.{spelling, spelling_of}
 use Rattle.prodash_tui.specs.Differences.{half_of, row_changes}
 use Rattle.prodash_tui.specs.Frames.{change_signs, changes_of, cursor_behind, first_frame, row_cursor, row_signs, rows_signs}
-use Rattle.prodash_tui.specs.plumbing.Appended.{blank_like, cursor_past, first_signs, signs_at}
+use Rattle.prodash_tui.specs.plumbing.Appended.{blank_like, changes_from, cursor_past, first_signs, signs_at}
 
 pub spelling-append : (a b : List Sign) → spelling (a ++ b) ≡ spelling a ++ spelling b
 spelling-append [] b = refl
@@ -26,10 +26,6 @@ pub spelled_more : (out : List ℕ) (a b : List Sign) → (out ++ spelling a) ++
 spelled_more out a b = append_assoc out (spelling a) (spelling b) ∙ ap (λ (bytes : List ℕ). out ++ bytes) (sym (spelling-append a b))
 
 -- ---- what is left of a row
-
--- the changes from column k on
-abbrev pub left : ℕ → List Cell → List Cell → List (ℕ × List Cell)
-left k old new = row_changes same_cell k (drop k old) (drop k new)
 
 signs_either : (row k : ℕ) (half : List Cell) (rest : List (ℕ × List Cell)) (cursor : Option Cursor) (t : Bool) (b : Cell)
     → row_signs row (cond (t || is_half b) rest ((k, b ∷ half) ∷ rest)) cursor
@@ -46,22 +42,22 @@ cursor_either row k half rest cursor false Half = refl
 
 -- the signs of one cell, and then those of the rest
 signs_left : (row k : ℕ) (old new : List Cell) (cursor : Option Cursor) → k < length old → k < length new
-    → row_signs row (left k old new) cursor
-    ≡ signs_at row k (cell_at old k) (drop k new) cursor ++ row_signs row (left (k + 1) old new) (cursor_past row k (cell_at old k) (drop k new) cursor)
+    → row_signs row (changes_from k old new) cursor
+    ≡ signs_at row k (cell_at old k) (drop k new) cursor ++ row_signs row (changes_from (k + 1) old new) (cursor_past row k (cell_at old k) (drop k new) cursor)
 signs_left row k old new cursor inside within =
     let a = drop_more old k blank_cell inside in
     let b = drop_more new k blank_cell within in
-    let rest = left (k + 1) old new in
+    let rest = changes_from (k + 1) old new in
     (λ i. row_signs row (row_changes same_cell k (a i) (b i)) cursor)
     ∙ signs_either row k (half_of (drop (k + 1) new)) rest cursor (same_cell (cell_at old k) (cell_at new k)) (cell_at new k)
     ∙ ap (λ (cells : List Cell). signs_at row k (cell_at old k) cells cursor ++ row_signs row rest (cursor_past row k (cell_at old k) cells cursor)) (sym b)
 
 cursor_left : (row k : ℕ) (old new : List Cell) (cursor : Option Cursor) → k < length old → k < length new
-    → row_cursor row (left k old new) cursor ≡ row_cursor row (left (k + 1) old new) (cursor_past row k (cell_at old k) (drop k new) cursor)
+    → row_cursor row (changes_from k old new) cursor ≡ row_cursor row (changes_from (k + 1) old new) (cursor_past row k (cell_at old k) (drop k new) cursor)
 cursor_left row k old new cursor inside within =
     let a = drop_more old k blank_cell inside in
     let b = drop_more new k blank_cell within in
-    let rest = left (k + 1) old new in
+    let rest = changes_from (k + 1) old new in
     (λ i. row_cursor row (row_changes same_cell k (a i) (b i)) cursor)
     ∙ cursor_either row k (half_of (drop (k + 1) new)) rest cursor (same_cell (cell_at old k) (cell_at new k)) (cell_at new k)
     ∙ ap (λ (cells : List Cell). row_cursor row rest (cursor_past row k (cell_at old k) cells cursor)) (sym b)
@@ -70,33 +66,46 @@ cursor_left row k old new cursor inside within =
 pub row_more : (row k : ℕ) (a : Cell) (cells old new : List Cell) (before after all : List ℕ) (cursor next : Option Cursor) → k < length old → k < length new
     → cell_at old k ≡ a → drop k new ≡ cells
     → after ≡ before ++ spelling (signs_at row k a cells cursor) → next ≡ cursor_past row k a cells cursor
-    → before ++ spelling (row_signs row (left k old new) cursor) ≡ all
-    → after ++ spelling (row_signs row (left (k + 1) old new) next) ≡ all
+    → before ++ spelling (row_signs row (changes_from k old new) cursor) ≡ all
+    → after ++ spelling (row_signs row (changes_from (k + 1) old new) next) ≡ all
 row_more row k a cells old new before after all cursor next inside within first rest bytes moves so_far =
-    let rest_signs = row_signs row (left (k + 1) old new) (cursor_past row k a cells cursor) in
-    ap (λ (c : Option Cursor). after ++ spelling (row_signs row (left (k + 1) old new) c)) moves
+    let rest_signs = row_signs row (changes_from (k + 1) old new) (cursor_past row k a cells cursor) in
+    ap (λ (c : Option Cursor). after ++ spelling (row_signs row (changes_from (k + 1) old new) c)) moves
     ∙ ap (λ (bs : List ℕ). bs ++ spelling rest_signs) bytes
     ∙ spelled_more before (signs_at row k a cells cursor) rest_signs
-    ∙ (λ i. before ++ spelling (signs_at row k (sym first i) (sym rest i) cursor ++ row_signs row (left (k + 1) old new) (cursor_past row k (sym first i) (sym rest i) cursor)))
+    ∙ (λ i. before ++ spelling (signs_at row k (sym first i) (sym rest i) cursor ++ row_signs row (changes_from (k + 1) old new) (cursor_past row k (sym first i) (sym rest i) cursor)))
     ∙ ap (λ (signs : List Sign). before ++ spelling signs) (sym (signs_left row k old new cursor inside within))
     ∙ so_far
 
 -- the cursor then
 pub cursor_more : (row k : ℕ) (a : Cell) (cells old new : List Cell) (all cursor next : Option Cursor) → k < length old → k < length new
-    → cell_at old k ≡ a → drop k new ≡ cells → next ≡ cursor_past row k a cells cursor → row_cursor row (left k old new) cursor ≡ all
-    → row_cursor row (left (k + 1) old new) next ≡ all
+    → cell_at old k ≡ a → drop k new ≡ cells → next ≡ cursor_past row k a cells cursor → row_cursor row (changes_from k old new) cursor ≡ all
+    → row_cursor row (changes_from (k + 1) old new) next ≡ all
 cursor_more row k a cells old new all cursor next inside within first rest moves so_far =
-    ap (row_cursor row (left (k + 1) old new)) moves
-    ∙ (λ i. row_cursor row (left (k + 1) old new) (cursor_past row k (sym first i) (sym rest i) cursor))
+    ap (row_cursor row (changes_from (k + 1) old new)) moves
+    ∙ (λ i. row_cursor row (changes_from (k + 1) old new) (cursor_past row k (sym first i) (sym rest i) cursor))
     ∙ sym (cursor_left row k old new cursor inside within)
     ∙ so_far
+
+-- a cell that stays is no change
+pub same_left : (k n : ℕ) (a b : Cell) (old new : List Cell) → k < length old → k < length new → get_or old k a ≡ a → get_or new k b ≡ b → same_cell a b ≡ true → n ≡ k + 1
+    → changes_from k old new ≡ changes_from n old new
+same_left k n a b old new inside within first second same is =
+    let d = drop-cons old k a inside ∙ ap (λ (c : Cell). c ∷ drop (suc k) old) first in
+    let e = drop-cons new k b within ∙ ap (λ (c : Cell). c ∷ drop (suc k) new) second in
+    let next : suc k ≡ n = omega arith in
+    let one : suc k ≡ k + 1 = omega arith in
+    (λ i. row_changes same_cell k (d i) (e i))
+    ∙ (λ i. cond (same i || is_half b) (row_changes same_cell (k + 1) (drop (suc k) old) (drop (suc k) new)) ((k, b ∷ half_of (drop (suc k) new)) ∷ row_changes same_cell (k + 1) (drop (suc k) old) (drop (suc k) new)))
+    ∙ (λ i. row_changes same_cell (sym one i) (drop (suc k) old) (drop (suc k) new))
+    ∙ ap (λ (m : ℕ). changes_from m old new) next
 
 none_of : (k : ℕ) (old : List Cell) → row_changes same_cell k old [] ≡ []
 none_of k [] = refl
 none_of k (a ∷ old) = refl
 
 -- behind the end nothing is left
-pub none_left : (k : ℕ) (old new : List Cell) → k ≡ min (length old) (length new) → left k old new ≡ []
+pub none_left : (k : ℕ) (old new : List Cell) → k ≡ min (length old) (length new) → changes_from k old new ≡ []
 none_left k old new end = elim (cases_lt (length old) (length new)) [
   | inl shorter ↦ ap (λ (cells : List Cell). row_changes same_cell k cells (drop k new)) (drop_all k old (omega arith))
   | inr longer ↦ ap (λ (cells : List Cell). row_changes same_cell k (drop k old) cells) (drop_all k new (omega arith)) ∙ none_of k (drop k old)
@@ -132,7 +141,7 @@ blank_at new k inside = get_or-replicate (length new) k blank_cell blank_cell in
 pub length-blank_like : (new : List Cell) → length (blank_like new) ≡ length new
 length-blank_like new = length-replicate (length new) blank_cell
 
-pub none_over_blank : (k : ℕ) (new : List Cell) → k ≡ length new → left k (blank_like new) new ≡ []
+pub none_over_blank : (k : ℕ) (new : List Cell) → k ≡ length new → changes_from k (blank_like new) new ≡ []
 none_over_blank k new end = none_left k (blank_like new) new (let e : k ≡ min (length (blank_like new)) (length new) = omega (arith, length-blank_like new) in e)
 
 pub rows_over_blank : (y : ℕ) (new : List (List Cell)) (cursor : Option Cursor) → y < length new

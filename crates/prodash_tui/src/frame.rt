@@ -2,12 +2,12 @@
 //!
 //! A private call that runs out of memory may have appended a part of its bytes, and leaves what
 //! the buffer held before.
-ghost use Rattle.std.specs.Prelude.{◌≡◌, ◌+◌, ◌^◌, ◌<◌, ◌∷◌, ◌++◌, length, map, take, None, IsOkUnless, OnErr, OnOk};
+ghost use Rattle.std.specs.Prelude.{◌≡◌, true, ◌+◌, ◌^◌, ◌<◌, ◌≤◌, ◌∷◌, ◌++◌, length, map, take, None, IsOkUnless, OnErr, OnOk};
 ghost use Rattle.prodash_base.specs.Appending.{IsPrefix};
 ghost use Rattle.prodash_tui.specs.Cells.{plain};
 ghost use Rattle.prodash_tui.specs.Frames.{difference, first_frame, is_certain, motion, rows_signs, style_change};
 ghost use Rattle.prodash_tui.specs.declared.sign.Sign.TheVariants.{Char};
-ghost use Rattle.prodash_tui.specs.plumbing.Appended.{AreCounted, Spells, all_over_blank, begins_certain, begins_wide, clearing_at, cursor_over_blank, cursor_past, cursor_past_row, first_signs, known_behind, signs_at, signs_of_row, signs_over_blank};
+ghost use Rattle.prodash_tui.specs.plumbing.Appended.{AreCounted, Spells, all_over_blank, begins_certain, begins_wide, changes_from, clearing_at, cursor_over_blank, cursor_past, cursor_past_row, first_signs, known_behind, signs_at, signs_of_row, signs_over_blank};
 
 use crate::cell::Cell;
 use crate::cursor::Cursor;
@@ -18,6 +18,9 @@ use crate::sign::{Sign, push_sign};
 use crate::style::{Style, same_style};
 use prodash_base::Refusal;
 use std::alloc::AllocError;
+
+/// How many cells are compared without a test of where the row ends.
+const RUN: usize = 8;
 
 /// Appends a motion to a row and column, unless the cursor is known to be there.
 fn push_motion(
@@ -182,6 +185,44 @@ fn push_changed(
     Ok(())
 }
 
+/// Returns whether the `RUN` cells of two rows from column `x` on are the same.
+#[inline(always)]
+fn is_same_run(old: &[PackedCell], new: &[PackedCell], x: usize) -> bool
+    requires old { x + RUN ≤ length old.now }
+    requires new { x + RUN ≤ length new.now }
+    ensures { result ≡ true
+        → changes_from x old.now new.now ≡ changes_from (x + RUN) old.now new.now }
+{
+    for k in 0..RUN {
+        if old[x + k] != new[x + k] {
+            return false;
+        }
+    }
+    true
+}
+
+/// Returns the first column from `x` up to `end` in which two rows differ, or `end`.
+fn next_change(old: &[PackedCell], new: &[PackedCell], x: usize, end: usize) -> usize
+    requires order { x ≤ end }
+    requires old { end ≤ length old.now }
+    requires new { end ≤ length new.now }
+    ensures behind { x ≤ result }
+    ensures within { result ≤ end }
+    ensures same { changes_from x old.now new.now ≡ changes_from result old.now new.now }
+{
+    let mut k = x;
+    while RUN <= end - k {
+        if !is_same_run(old, new, k) {
+            break;
+        }
+        k += RUN;
+    }
+    while k < end && old[k] == new[k] {
+        k += 1;
+    }
+    k
+}
+
 /// Appends the characters of row `y` that aren't those of the row before.
 fn push_row(
     out: &mut Vec<u8>,
@@ -196,10 +237,11 @@ fn push_row(
     ensures cursor { OnOk result (cursor.new ≡ cursor_past_row y old.now new.now cursor.old) }
     ensures kept { IsPrefix out.old.items out.new.items }
 {
-    for k in 0..old.len().min(new.len()) {
-        if old[k] != new[k] {
-            push_changed(out, y, k as u16, &old[k], &new[k..], cursor)?;
-        }
+    let end = old.len().min(new.len());
+    let mut k = next_change(old, new, 0, end);
+    while k < end {
+        push_changed(out, y, k as u16, &old[k], &new[k..], cursor)?;
+        k = next_change(old, new, k + 1, end);
     }
     Ok(())
 }

@@ -1,5 +1,5 @@
 -- What is appended for a part of a grid.
-use Rattle.std.specs.Prelude.{◌≡◌, ℕ, ◌+◌, ◌^◌, ◌<◌, Bool, true, false, List, [], ◌∷◌, ◌++◌, length, map, Option, Some, None, Result, OnOk, if◌then◌else◌}
+use Rattle.std.specs.Prelude.{◌≡◌, ℕ, ◌+◌, ◌^◌, ◌<◌, Bool, true, false, List, [], ◌∷◌, ◌++◌, length, drop, map, Option, Some, None, Result, OnOk, if◌then◌else◌}
 use Rattle.std.specs.List.{All}
 use Rattle.prodash_tui.specs.declared.cell.Cell.{Cell}
 use Rattle.prodash_tui.specs.declared.cell.Cell.TheVariants.{Half}
@@ -8,7 +8,7 @@ use Rattle.prodash_tui.specs.declared.sign.Sign.{Sign}
 use Rattle.prodash_tui.specs.declared.sign.Sign.TheVariants.{EraseScreen, SetStyle}
 use Rattle.prodash_tui.specs.declared.style.Style.{Style}
 use Rattle.prodash_tui.specs.Cells.{blank_cells, plain, same_cell}
-use Rattle.prodash_tui.specs.Differences.{half_of}
+use Rattle.prodash_tui.specs.Differences.{half_of, row_changes}
 use Rattle.prodash_tui.specs.Frames.{are_certain, change_signs, changes_of, clearing, cursor_behind, row_cursor, row_signs, rows_signs}
 use Rattle.prodash_tui.specs.Signs.{spelling}
 
@@ -48,6 +48,10 @@ signs_of_row row old new cursor = row_signs row (changes_of old new) cursor
 -- the cursor behind them
 abbrev pub cursor_past_row : ℕ → List Cell → List Cell → Option Cursor → Option Cursor
 cursor_past_row row old new cursor = row_cursor row (changes_of old new) cursor
+
+-- the changes of a row from column k on
+abbrev pub changes_from : ℕ → List Cell → List Cell → List (ℕ × List Cell)
+changes_from k old new = row_changes same_cell k (drop k old) (drop k new)
 
 -- as many blank cells as these
 abbrev pub blank_like : List Cell → List Cell
