@@ -1,9 +1,13 @@
-//! What the threads of a renderer share: the requests to the thread that draws, the ticker, and the
-//! handle.
+//! The threads of a renderer: its event loop, its ticker, and the handle, which share the requests
+//! to the event loop.
+mod event_loop;
 mod handle;
 mod mailbox;
+mod start;
 mod ticker;
 
+pub(crate) use event_loop::Serve;
 pub(crate) use handle::RendererHandle;
-pub(crate) use mailbox::{Mailbox, Requests};
-pub(crate) use ticker::{Shared, start_ticker};
+pub(crate) use mailbox::Requests;
+pub(crate) use start::{DEFAULT_STACK, start_threads};
+pub(crate) use ticker::Shared;

@@ -23,6 +23,9 @@ pub(crate) trait Requests {
     /// Requests a last frame and then the closing frame.
     fn add_quit(&mut self);
 
+    /// Returns what is left to request of a request that is refused.
+    fn rest(request: &Self::Request) -> Self::Request;
+
     /// Requests again what must not be lost of what was refused, and returns whether it did.
     fn restore(&mut self, refused: Self::Request) -> bool;
 }

@@ -85,6 +85,10 @@ impl Requests for Pending {
         self.quit = true;
     }
 
+    fn rest(request: &Request) -> Request {
+        *request
+    }
+
     /// A size that was requested since then stays. Of frames only the last one before a quit is
     /// requested again, since the ticker requests the others.
     fn restore(&mut self, refused: Request) -> bool {

@@ -8,7 +8,7 @@ use crate::render::line::engine::handle::JoinHandle;
 use crate::render::line::engine::mailbox::{Pending, Request};
 use crate::render::line::engine::options::Options;
 use crate::render::line::engine::step::Engine;
-use crate::render::threads::{RendererHandle, Shared, start_ticker};
+use crate::render::threads::{DEFAULT_STACK, Serve, Shared, start_threads};
 use crate::time::{Clock, Moment};
 use prodash_base::Refusal;
 use prodash_core::traits::{Root, WeakRoot};
@@ -16,7 +16,7 @@ use std::alloc::Global;
 use std::io::Write;
 use std::sync::atomic::{AtomicBool, Ordering};
 use std::sync::{Arc, Wait};
-use std::thread::{self, Builder, Threads};
+use std::thread::{Builder, Threads};
 
 /// The stack sizes of the threads that a renderer starts, in bytes: 2 MiB each by default.
 #[derive(Clone, Copy, Debug)]
@@ -32,9 +32,9 @@ pub struct StackSizes {
 impl Default for StackSizes {
     fn default() -> StackSizes {
         StackSizes {
-            event_loop: 0x20_0000,
-            ticker: 0x20_0000,
-            delay: 0x20_0000,
+            event_loop: DEFAULT_STACK,
+            ticker: DEFAULT_STACK,
+            delay: DEFAULT_STACK,
         }
     }
 }
@@ -108,108 +108,38 @@ pub fn render_with_stacks<
         options.draw(),
         options.throughput,
     )?;
-    start_threads(rt, alloc, engine, clock, options, stacks)
-}
-
-/// Starts the threads of a renderer, which wait until all of them have been started.
-fn start_threads<
-    R: Wait + Threads + Clone + Drop + Send + Sync + 'static,
-    S: Screen + Drop + Send + 'static,
-    T: Root + Drop + Send + 'static,
-    W: WeakRoot<Root = T> + Drop + Send + 'static,
-    K: Clock + Drop + Send + Sync + 'static,
->(
-    rt: R,
-    alloc: Global,
-    engine: Engine<S, W>,
-    clock: Arc<K>,
-    options: Options,
-    stacks: StackSizes,
-) -> Result<JoinHandle<R>, Refusal>
-    ensures { IfErr result RefusesThread }
-{
     let delay = options.initial_delay.unwrap_or(0);
     let shown = Arc::new(alloc, AtomicBool::new(delay == 0))?;
-    let shared = Shared::new(
-        rt,
-        alloc,
-        clock,
-        Pending::new(),
-        options.nanoseconds_per_frame,
-    )?;
-    let event_loop = start_event_loop(&shared, &shown, engine, stacks.event_loop)?;
-    if let Err(refusal) = start_timers(&shared, &shown, delay, stacks) {
-        shared.mailbox.mark_cancelled(&shared.rt);
-        event_loop.join(&shared.rt);
+    let interval = options.nanoseconds_per_frame;
+    let shared = Shared::new(rt, alloc, clock, Pending::new(), interval)?;
+    let delayed = DelayedEngine {
+        engine,
+        shown: Arc::try_clone(&shown)?,
+    };
+    let threads = start_threads(shared, delayed, stacks.event_loop, stacks.ticker)?;
+    if let Err(refusal) = start_delay(&threads.shared, shown, delay, stacks.delay) {
+        threads.cancel();
         return Err(refusal);
     }
-    shared.mailbox.mark_running(&shared.rt);
-    let Shared { rt, mailbox, .. } = shared;
-    Ok(JoinHandle::new(RendererHandle::new(rt, mailbox, event_loop)))
+    Ok(JoinHandle::new(threads.begin()))
 }
 
-/// Starts the thread that draws.
-fn start_event_loop<
-    R: Wait + Threads + Clone + Drop + Send + Sync + 'static,
-    S: Screen + Drop + Send + 'static,
-    T: Root + Drop + Send + 'static,
-    W: WeakRoot<Root = T> + Drop + Send + 'static,
-    K: Clock + Drop + Send + Sync + 'static,
->(
-    shared: &Shared<R, Pending, K>,
-    shown: &Arc<AtomicBool>,
-    engine: Engine<S, W>,
-    stack: usize,
-) -> Result<thread::JoinHandle<()>, Refusal>
-    ensures { IfErr result RefusesThread }
-{
-    let for_loop = shared.try_clone()?;
-    let shown = Arc::try_clone(shown)?;
-    Builder::new()
-        .stack_size(stack)
-        .spawn(&shared.rt, move || run_event_loop(for_loop, shown, engine))
-        .or(Err(Refusal::NoThread))
-}
-
-/// Starts the ticker and, if there is a delay, the thread that shows the rows after it. If the
-/// latter can't be started, the ticker has ended.
-fn start_timers<
-    R: Wait + Threads + Clone + Drop + Send + Sync + 'static,
-    K: Clock + Drop + Send + Sync + 'static,
->(
-    shared: &Shared<R, Pending, K>,
-    shown: &Arc<AtomicBool>,
-    delay: u64,
-    stacks: StackSizes,
-) -> Result<(), Refusal>
-    ensures { IfErr result RefusesThread }
-{
-    let ticker = start_ticker(shared, stacks.ticker)?;
-    if delay == 0 {
-        return Ok(());
-    }
-    let started = start_delay(shared, shown, delay, stacks.delay);
-    if started.is_err() {
-        shared.mailbox.mark_cancelled(&shared.rt);
-        ticker.join(&shared.rt);
-    }
-    started
-}
-
-/// Starts the thread that shows the rows after a delay.
+/// Starts the thread that shows the rows after a delay, if there is one.
 fn start_delay<
     R: Wait + Threads + Clone + Drop + Send + Sync + 'static,
     K: Clock + Drop + Send + Sync + 'static,
 >(
     shared: &Shared<R, Pending, K>,
-    shown: &Arc<AtomicBool>,
+    shown: Arc<AtomicBool>,
     delay: u64,
     stack: usize,
 ) -> Result<(), Refusal>
     ensures { IfErr result RefusesThread }
 {
+    if delay == 0 {
+        return Ok(());
+    }
     let clock = Arc::try_clone(&shared.clock)?;
-    let shown = Arc::try_clone(shown)?;
     let started = Builder::new().stack_size(stack).spawn(&shared.rt, move || {
         clock.sleep(delay);
         shown.store(true, Ordering::SeqCst);
@@ -220,43 +150,30 @@ fn start_delay<
     }
 }
 
-/// Draws a frame for each request until the renderer has ended. A size, a last frame or a quit that
-/// is refused for lack of memory or of handles is tried again after the frame interval.
-fn run_event_loop<
-    R: Wait + Drop,
-    K: Clock + Drop,
-    S: Screen + Drop,
-    T: Root + Drop,
-    W: WeakRoot<Root = T> + Drop,
->(shared: Shared<R, Pending, K>, shown: Arc<AtomicBool>, mut engine: Engine<S, W>) {
-    for _ in shared.rt.forever() {
-        let Some(request) = shared.mailbox.wait_for_request(&shared.rt) else {
-            break;
-        };
-        let (at, show) = (shared.clock.now(), shown.load(Ordering::SeqCst));
-        match engine.step(event_for(request, at, show)) {
-            Ok(Answer::Drawn) => {}
-            Err(Refusal::Memory | Refusal::TooManyHandles) => {
-                if shared.mailbox.request_again(&shared.rt, request) {
-                    shared.clock.sleep(shared.interval);
-                }
-            }
-            Ok(Answer::Ended) | Err(_) => break,
-        }
-    }
-    shared.mailbox.mark_ended(&shared.rt);
+/// An engine that hides its rows until they are to be shown.
+#[derive(Drop)]
+struct DelayedEngine<S: Screen + Drop, W: WeakRoot + Drop> {
+    engine: Engine<S, W>,
+    /// Whether the rows are shown.
+    shown: Arc<AtomicBool>,
 }
 
-/// Returns the event for a request at this moment, at which rows are shown or hidden.
-fn event_for(request: Request, at: Moment, show: bool) -> EngineEvent {
-    match request {
-        Request::Resize(columns, rows) => EngineEvent::Resize {
-            at,
-            show,
-            columns,
-            rows,
-        },
-        Request::Tick => EngineEvent::Tick { at, show },
-        Request::Quit => EngineEvent::Quit { at },
+impl<S: Screen + Drop, W: WeakRoot + Drop> Serve<Request> for DelayedEngine<S, W>
+where
+    W::Root: Root + Drop,
+{
+    fn serve(&mut self, request: Request, at: Moment) -> Result<bool, Refusal> {
+        let show = self.shown.load(Ordering::SeqCst);
+        let event = match request {
+            Request::Resize(columns, rows) => EngineEvent::Resize {
+                at,
+                show,
+                columns,
+                rows,
+            },
+            Request::Tick => EngineEvent::Tick { at, show },
+            Request::Quit => EngineEvent::Quit { at },
+        };
+        Ok(self.engine.step(event)? == Answer::Ended)
     }
 }

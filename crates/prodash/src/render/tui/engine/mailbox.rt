@@ -18,17 +18,6 @@ pub(crate) enum Request {
     Quit,
 }
 
-impl Request {
-    /// Returns what is left to request if this is refused. An event or a size isn't lost then: the
-    /// dashboard has taken it, and shows it in its next frame.
-    pub(crate) fn rest(&self) -> Request {
-        match self {
-            Request::Handle(_) | Request::Resize(..) | Request::Tick => Request::Tick,
-            Request::Quit => Request::Quit,
-        }
-    }
-}
-
 /// The requests that the event loop has not taken yet. Those that are sent take memory; a tick and
 /// a quit don't.
 #[derive(Drop)]
@@ -97,6 +86,14 @@ impl Requests for Queue {
         // a tick that is requested already becomes the last frame
         self.before_tick = Some(self.sent.len());
         self.quit = true;
+    }
+
+    /// An event or a size isn't lost: the dashboard has taken it, and shows it in its next frame.
+    fn rest(request: &Request) -> Request {
+        match request {
+            Request::Handle(_) | Request::Resize(..) | Request::Tick => Request::Tick,
+            Request::Quit => Request::Quit,
+        }
     }
 
     /// Of frames only the last one before a quit is requested again, since the ticker requests the

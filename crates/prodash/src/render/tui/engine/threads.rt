@@ -3,7 +3,7 @@ ghost use Rattle.std.specs.Prelude.{IfErr};
 ghost use Rattle.prodash_base.specs.Refusals.{RefusesThread};
 
 use crate::render::line::draw::{OverWrite, Screen};
-use crate::render::threads::{RendererHandle, Shared, start_ticker};
+use crate::render::threads::{DEFAULT_STACK, Serve, Shared, start_threads};
 use crate::render::tui::engine::event::{EngineAnswer, EngineEvent};
 use crate::render::tui::engine::handle::JoinHandle;
 use crate::render::tui::engine::mailbox::{Queue, Request};
@@ -15,7 +15,7 @@ use prodash_core::traits::{Root, WeakRoot};
 use std::alloc::Global;
 use std::io::Write;
 use std::sync::{Arc, Wait};
-use std::thread::{self, Builder, Threads};
+use std::thread::Threads;
 
 /// The stack sizes of the threads that a dashboard starts, in bytes: 2 MiB each by default.
 #[derive(Clone, Copy, Debug)]
@@ -29,8 +29,8 @@ pub struct StackSizes {
 impl Default for StackSizes {
     fn default() -> StackSizes {
         StackSizes {
-            event_loop: 0x20_0000,
-            ticker: 0x20_0000,
+            event_loop: DEFAULT_STACK,
+            ticker: DEFAULT_STACK,
         }
     }
 }
@@ -118,91 +118,24 @@ pub fn render_with_stacks<
     let interval = options.nanoseconds_per_frame;
     let engine = Engine::new(alloc, OverWrite::new(out), weak, options, size);
     let shared = Shared::new(rt, alloc, clock, Queue::new(alloc), interval)?;
-    start_threads(shared, engine, stacks)
+    let threads = start_threads(shared, engine, stacks.event_loop, stacks.ticker)?;
+    Ok(JoinHandle::new(threads.begin()))
 }
 
-/// Starts the threads of a dashboard, which wait until both have been started.
-fn start_threads<
-    R: Wait + Threads + Clone + Drop + Send + Sync + 'static,
-    S: Screen + Drop + Send + 'static,
-    T: Root + Drop + Send + 'static,
-    W: WeakRoot<Root = T> + Drop + Send + 'static,
-    K: Clock + Drop + Send + Sync + 'static,
->(
-    shared: Shared<R, Queue, K>,
-    engine: Engine<S, W>,
-    stacks: StackSizes,
-) -> Result<JoinHandle<R>, Refusal>
-    ensures { IfErr result RefusesThread }
+impl<S: Screen, W: WeakRoot> Serve<Request> for Engine<S, W>
+where
+    W::Root: Root + Drop,
 {
-    let event_loop = start_event_loop(&shared, engine, stacks.event_loop)?;
-    if let Err(refusal) = start_ticker(&shared, stacks.ticker) {
-        shared.mailbox.mark_cancelled(&shared.rt);
-        event_loop.join(&shared.rt);
-        return Err(refusal);
-    }
-    shared.mailbox.mark_running(&shared.rt);
-    let Shared { rt, mailbox, .. } = shared;
-    Ok(JoinHandle::new(RendererHandle::new(rt, mailbox, event_loop)))
-}
-
-/// Starts the thread that draws.
-fn start_event_loop<
-    R: Wait + Threads + Clone + Drop + Send + Sync + 'static,
-    S: Screen + Drop + Send + 'static,
-    T: Root + Drop + Send + 'static,
-    W: WeakRoot<Root = T> + Drop + Send + 'static,
-    K: Clock + Drop + Send + Sync + 'static,
->(
-    shared: &Shared<R, Queue, K>,
-    engine: Engine<S, W>,
-    stack: usize,
-) -> Result<thread::JoinHandle<()>, Refusal>
-    ensures { IfErr result RefusesThread }
-{
-    let for_loop = shared.try_clone()?;
-    Builder::new()
-        .stack_size(stack)
-        .spawn(&shared.rt, move || run_event_loop(for_loop, engine))
-        .or(Err(Refusal::NoThread))
-}
-
-/// Takes a step for each request until the dashboard has ended. An end that is refused for lack of
-/// memory or of handles is tried again after the frame interval, and so is the last frame.
-fn run_event_loop<
-    R: Wait + Drop,
-    K: Clock + Drop,
-    S: Screen + Drop,
-    T: Root + Drop,
-    W: WeakRoot<Root = T> + Drop,
->(shared: Shared<R, Queue, K>, mut engine: Engine<S, W>) {
-    for _ in shared.rt.forever() {
-        let Some(request) = shared.mailbox.wait_for_request(&shared.rt) else {
-            break;
+    fn serve(&mut self, request: Request, at: Moment) -> Result<bool, Refusal> {
+        let event = match request {
+            Request::Handle(event) => EngineEvent::Handle { at, event },
+            Request::Resize(columns, rows) => EngineEvent::Resize { at, columns, rows },
+            Request::Tick => EngineEvent::Handle {
+                at,
+                event: Event::Tick,
+            },
+            Request::Quit => EngineEvent::Quit { at },
         };
-        let rest = request.rest();
-        match engine.step(event_for(request, shared.clock.now())) {
-            Ok(EngineAnswer::Drawn | EngineAnswer::Skipped) => {}
-            Err(Refusal::Memory | Refusal::TooManyHandles) => {
-                if shared.mailbox.request_again(&shared.rt, rest) {
-                    shared.clock.sleep(shared.interval);
-                }
-            }
-            Ok(EngineAnswer::Ended) | Err(_) => break,
-        }
-    }
-    shared.mailbox.mark_ended(&shared.rt);
-}
-
-/// Returns the event for a request at this moment.
-fn event_for(request: Request, at: Moment) -> EngineEvent {
-    match request {
-        Request::Handle(event) => EngineEvent::Handle { at, event },
-        Request::Resize(columns, rows) => EngineEvent::Resize { at, columns, rows },
-        Request::Tick => EngineEvent::Handle {
-            at,
-            event: Event::Tick,
-        },
-        Request::Quit => EngineEvent::Quit { at },
+        Ok(self.step(event)? == EngineAnswer::Ended)
     }
 }
