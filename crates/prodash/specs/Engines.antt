@@ -12,7 +12,7 @@ use Rattle.prodash_line.specs.declared.render.line.draw.input.Answer.{Answer}
 use Rattle.prodash_line.specs.declared.render.line.draw.input.Options.{Options as DrawOptions}
 use Rattle.prodash_line.specs.Renderer.{Renderer, Seen, Accepts, RunsOutOfMemory, Refuses, Breaks, new_renderer, default_options as draw_defaults}
 use Rattle.prodash_line.specs.Screens.{ScreenState}
-use Rattle.prodash_line.specs.Environments.{is_colored}
+use Rattle.prodash_line.specs.Environments.{IsReadFrom, is_colored}
 use Rattle.prodash_line.specs.declared.render.line.terminal.Environment.{Environment}
 use Rattle.prodash.specs.declared.render.line.engine.options.Options.{Options}
 use Rattle.prodash.specs.declared.render.line.engine.event.EngineEvent.{EngineEvent}
@@ -63,6 +63,11 @@ terminal_options is_terminal it = record default_options {
   );
   ascii = not it.is_utf8;
 }
+
+-- These are the options for an output, by an answer to whether it is a terminal, and by what the environment gave.
+abbrev pub AreDetected : (Bool → Type 0) → (List ℕ → List ℕ → Type 0) → Options → Type 0
+AreDetected answered gave options = (is_terminal : Bool) × (it : Environment)
+    × answered is_terminal × IsReadFrom gave it × (options ≡ terminal_options is_terminal it)
 
 -- what one look at a root may show, by how many messages were seen before
 abbrev pub Looks : Type 0 → Type 1

@@ -1,5 +1,5 @@
 -- Plain lines: what is said of tasks where rows can't be drawn, as in a log.
-use Rattle.std.specs.Prelude.{ℕ, ◌-◌, nat_eq, nat_le, Bool, true, false, not, ◌&&◌, List, [], ◌++◌, codes, length, take, Option, Some, None, if◌then◌else◌, ◌||◌, unwrap_or}
+use Rattle.std.specs.Prelude.{◌≡◌, ℕ, String, string_bytes, Result, IfOk, ◌-◌, nat_eq, nat_le, Bool, true, false, not, ◌&&◌, List, [], ◌++◌, codes, length, take, Option, Some, None, if◌then◌else◌, ◌||◌, unwrap_or}
 use Rattle.std.specs.Fmt.{decimal}
 use Rattle.std.specs.FinMap as finite
 use Rattle.std.specs.Option.{option_map, option_eq}
@@ -7,6 +7,7 @@ use Rattle.std.specs.Str.{encode_utf8_all}
 use Rattle.prodash_base.specs.Path.{Path, path_cmp}
 use Rattle.prodash_base.specs.Rows.{RowProgress, PathRow}
 use Rattle.prodash_base.specs.Units.{Measure}
+use Rattle.prodash_base.specs.declared.refusal.Refusal.{Refusal}
 use Rattle.prodash_base.specs.Kinds.{quantity_shown}
 use Rattle.prodash_base.specs.Displays.{amount, all_text}
 use Rattle.prodash_base.specs.Quantities.{percentage_of}
@@ -146,6 +147,10 @@ told_after (Some told) now label p = record told {
 abbrev pub said_at_end : Option Told → ℕ → Option RowProgress → Option (List ℕ)
 said_at_end None now p = None
 said_at_end (Some told) now p = if is_done told.said && has_finished p then None else Some (ended_text told now p)
+
+-- a call that is not refused returns this text, or none where there is nothing to say
+abbrev pub Says : {Z : Type 0} → Result (Option (String Z)) Refusal → Option (List ℕ) → Type 0
+Says result text = IfOk result (λ given. option_map string_bytes given ≡ text)
 
 -- a line: the time since the log began, a space, and a text without unsafe characters
 abbrev pub line_of : PlainLog → ℕ → List ℕ → List ℕ

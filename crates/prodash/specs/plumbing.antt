@@ -4,3 +4,4 @@ pub mod EngineFrames
 pub mod DashboardSteps
 pub mod Histories
 pub mod Recordings
+pub mod SaidTexts

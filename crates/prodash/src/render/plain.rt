@@ -3,7 +3,7 @@ ghost use Rattle.std.specs.Prelude.{◌≡◌, OnOk, OnErr, IfOk, is_some, strin
 ghost use Rattle.std.specs.FinMap as finite;
 ghost use Rattle.std.specs.Option.{option_map};
 ghost use Rattle.prodash_base.specs.Rows.{row_of};
-ghost use Rattle.prodash.specs.PlainLines.{new_log, observed_line, observed, dropped_line, dropped, labelled_line, outcome_at};
+ghost use Rattle.prodash.specs.PlainLines.{new_log, observed_line, observed, dropped_line, dropped, labelled_line, outcome_at, Says};
 
 mod lines;
 mod told;
@@ -95,8 +95,7 @@ impl Plain {
         row: &Row,
         now: Moment,
     ) -> Result<Option<String>, Refusal>
-        ensures line { IfOk result (λ line. option_map string_bytes line
-            ≡ observed_line self.old now (row_of row.now)) }
+        ensures line { Says result (observed_line self.old now (row_of row.now)) }
         ensures ok { OnOk result (self.new ≡ observed self.old now (row_of row.now)) }
         ensures err { OnErr result (self.new ≡ self.old) }
         ensures reason { IsOkUnless result Refusal.Memory }
@@ -117,8 +116,7 @@ impl Plain {
     ///
     /// `Memory`, if there is no memory for it. The log stays as it was.
     pub fn end(&mut self, alloc: Global, row: &Row, now: Moment) -> Result<Option<String>, Refusal>
-        ensures line { IfOk result (λ line. option_map string_bytes line
-            ≡ dropped_line self.old now (row_of row.now)) }
+        ensures line { Says result (dropped_line self.old now (row_of row.now)) }
         ensures ok { OnOk result (self.new ≡ dropped self.old (row_of row.now)) }
         ensures err { OnErr result (self.new ≡ self.old) }
         ensures reason { IsOkUnless result Refusal.Memory }
@@ -144,8 +142,7 @@ impl Plain {
         now: Moment,
         is_dropped: bool,
     ) -> Result<Option<Outcome>, Refusal>
-        ensures ok { IfOk result (λ outcome. outcome
-            ≡ outcome_at self.now now is_dropped (row_of row.now)) }
+        ensures ok { IfOk result (λ o. o ≡ outcome_at self.now now is_dropped (row_of row.now)) }
         ensures reason { IsOkUnless result Refusal.Memory }
     {
         let Some(told) = self.tasks.get(row.key) else {
@@ -164,8 +161,8 @@ impl Plain {
         label: &str,
         said: Option<String>,
     ) -> Result<Option<String>, Refusal>
-        ensures ok { IfOk result (λ line. option_map string_bytes line
-            ≡ labelled_line self.now now label.now (option_map string_bytes said)) }
+        ensures ok { Says result
+            (labelled_line self.now now label.now (option_map string_bytes said)) }
         ensures reason { IsOkUnless result Refusal.Memory }
     {
         let Some(said) = said else {

@@ -4,7 +4,8 @@ ghost use Rattle.std.specs.Str.{encode_utf8_all};
 ghost use Rattle.prodash_base.specs.Rows.{progress_of};
 ghost use Rattle.prodash_line.specs.DrawnLines.{drawn_chars};
 ghost use Rattle.prodash_base.specs.Times.{is_past, left_text};
-ghost use Rattle.prodash.specs.PlainLines.{reached_of, is_done, is_same, was_said, values_in, percentage_text, progress_text, remaining_of, changed_text, last_progress, outcome_text, bound_of, step_of, has_finished, ended_text, said_again, said_of, told_after, said_at_end, has_come_out, values_of, outcome_of, known_outcome};
+ghost use Rattle.prodash.specs.PlainLines.{reached_of, is_done, is_same, was_said, percentage_text, progress_text, remaining_of, changed_text, last_progress, outcome_text, bound_of, step_of, has_finished, ended_text, said_again, said_of, told_after, said_at_end, has_come_out, values_of, outcome_of, Says};
+ghost use Rattle.prodash.specs.plumbing.SaidTexts.{progress_in, GivesText, IsOutcome};
 
 use crate::progress::{Step, Value};
 use crate::render::line::draw::safe_char;
@@ -54,7 +55,7 @@ fn is_done(reached: Option<Reached>) -> bool
 
 /// Returns how far a progress is, if there is one.
 fn reached(progress: &Option<Value>) -> Option<Reached>
-    ensures { result ≡ option_map reached_of (option_map progress_of progress.now) }
+    ensures { result ≡ option_map reached_of (progress_in progress.now) }
 {
     match progress {
         None => None,
@@ -64,8 +65,7 @@ fn reached(progress: &Option<Value>) -> Option<Reached>
 
 /// Returns the step with its bound and its unit, as `3/4 files`.
 fn values_text(alloc: Global, value: &Value) -> Result<String, Refusal>
-    ensures ok { IfOk result (λ text. let p = progress_of value.now in
-        string_bytes text ≡ values_in p.unit p) }
+    ensures ok { GivesText result (values_of (Some (progress_of value.now))) }
     ensures reason { IsOkUnless result Refusal.Memory }
 {
     let step = value.step;
@@ -97,7 +97,7 @@ fn percentage_text(alloc: Global, step: Step, bound: Option<Step>) -> Result<Str
 
 /// Returns how far a progress is, as ` 3/4 75%`.
 fn progress_text(alloc: Global, value: &Value) -> Result<String, Refusal>
-    ensures ok { IfOk result (λ text. string_bytes text ≡ progress_text (progress_of value.now)) }
+    ensures ok { GivesText result (progress_text (progress_of value.now)) }
     ensures reason { IsOkUnless result Refusal.Memory }
 {
     let values = values_text(alloc, value)?;
@@ -135,8 +135,7 @@ fn remaining_of(told: &Told, now: Moment, step: Step, bound: Option<Step>) -> Op
 
 /// Returns what is said of a task that has gone on, as ` 3/4 75%, 12s left`.
 fn changed_text(alloc: Global, told: &Told, now: Moment, value: &Value) -> Result<String, Refusal>
-    ensures ok { IfOk result (λ text. string_bytes text
-        ≡ changed_text told.now now (progress_of value.now)) }
+    ensures ok { GivesText result (changed_text told.now now (progress_of value.now)) }
     ensures reason { IsOkUnless result Refusal.Memory }
 {
     let progress = progress_text(alloc, value)?;
@@ -147,8 +146,7 @@ fn changed_text(alloc: Global, told: &Told, now: Moment, value: &Value) -> Resul
 
 /// Returns the progress before an end, as ` 3/4 75%,`.
 fn last_progress(alloc: Global, progress: &Option<Value>) -> Result<String, Refusal>
-    ensures ok { IfOk result (λ text. string_bytes text
-        ≡ last_progress (option_map progress_of progress.now)) }
+    ensures ok { GivesText result (last_progress (progress_in progress.now)) }
     ensures reason { IsOkUnless result Refusal.Memory }
 {
     match progress {
@@ -173,7 +171,7 @@ fn outcome_text(is_done: bool, bound: Option<Step>) -> &'static str
 
 /// Returns the bound of a progress, if there is one.
 fn bound_of(progress: &Option<Value>) -> Option<Step>
-    ensures { result ≡ bound_of (option_map progress_of progress.now) }
+    ensures { result ≡ bound_of (progress_in progress.now) }
 {
     match progress {
         None => None,
@@ -183,7 +181,7 @@ fn bound_of(progress: &Option<Value>) -> Option<Step>
 
 /// Returns the step of a progress, or 0 without progress.
 fn step_of(progress: &Option<Value>) -> Step
-    ensures { result ≡ step_of (option_map progress_of progress.now) }
+    ensures { result ≡ step_of (progress_in progress.now) }
 {
     match progress {
         None => 0,
@@ -198,8 +196,7 @@ fn ended_text(
     now: Moment,
     progress: &Option<Value>,
 ) -> Result<String, Refusal>
-    ensures ok { IfOk result (λ text. string_bytes text
-        ≡ ended_text told.now now (option_map progress_of progress.now)) }
+    ensures ok { GivesText result (ended_text told.now now (progress_in progress.now)) }
     ensures reason { IsOkUnless result Refusal.Memory }
 {
     let last = last_progress(alloc, progress)?;
@@ -226,8 +223,7 @@ fn said_again(
     now: Moment,
     progress: &Option<Value>,
 ) -> Result<Option<String>, Refusal>
-    ensures ok { IfOk result (λ said. option_map string_bytes said
-        ≡ said_of (Some told.now) now (option_map progress_of progress.now)) }
+    ensures ok { Says result (said_of (Some told.now) now (progress_in progress.now)) }
     ensures reason { IsOkUnless result Refusal.Memory }
 {
     let Some(value) = progress else {
@@ -255,8 +251,8 @@ pub(super) fn said_of(
     now: Moment,
     progress: &Option<Value>,
 ) -> Result<Option<String>, Refusal>
-    ensures ok { IfOk result (λ said. option_map string_bytes said
-        ≡ said_of (option_copied told.entry) now (option_map progress_of progress.now)) }
+    ensures ok { Says result
+        (said_of (option_copied told.entry) now (progress_in progress.now)) }
     ensures reason { IsOkUnless result Refusal.Memory }
 {
     match told {
@@ -273,7 +269,7 @@ pub(super) fn told_after(
     progress: &Option<Value>,
 ) -> Told
     ensures { result
-        ≡ told_after (option_copied told.entry) now label (option_map progress_of progress.now) }
+        ≡ told_after (option_copied told.entry) now label (progress_in progress.now) }
 {
     match told {
         None => Told {
@@ -301,8 +297,8 @@ pub(super) fn said_at_end(
     now: Moment,
     progress: &Option<Value>,
 ) -> Result<Option<String>, Refusal>
-    ensures ok { IfOk result (λ said. option_map string_bytes said
-        ≡ said_at_end (option_copied told.entry) now (option_map progress_of progress.now)) }
+    ensures ok { Says result
+        (said_at_end (option_copied told.entry) now (progress_in progress.now)) }
     ensures reason { IsOkUnless result Refusal.Memory }
 {
     let Some(told) = told else {
@@ -316,15 +312,14 @@ pub(super) fn said_at_end(
 
 /// Returns whether a task has come to its end: at its bound, or without a bound if it was dropped.
 fn has_come_out(is_dropped: bool, progress: &Option<Value>) -> bool
-    ensures { result ≡ has_come_out is_dropped (option_map progress_of progress.now) }
+    ensures { result ≡ has_come_out is_dropped (progress_in progress.now) }
 {
     is_done(reached(progress)) || (is_dropped && bound_of(progress).is_none())
 }
 
 /// Returns the values of a progress, as `4/4 files`, or nothing without progress.
 fn values_of(alloc: Global, progress: &Option<Value>) -> Result<String, Refusal>
-    ensures ok { IfOk result (λ text. string_bytes text
-        ≡ values_of (option_map progress_of progress.now)) }
+    ensures ok { GivesText result (values_of (progress_in progress.now)) }
     ensures reason { IsOkUnless result Refusal.Memory }
 {
     match progress {
@@ -340,8 +335,7 @@ fn outcome_of(
     progress: &Option<Value>,
     nanoseconds: u64,
 ) -> Result<String, Refusal>
-    ensures ok { IfOk result (λ text. string_bytes text
-        ≡ outcome_of has_come_out (option_map progress_of progress.now) nanoseconds) }
+    ensures ok { GivesText result (outcome_of has_come_out (progress_in progress.now) nanoseconds) }
     ensures reason { IsOkUnless result Refusal.Memory }
 {
     let duration = duration_text(alloc, nanoseconds)?;
@@ -369,9 +363,8 @@ pub(super) fn known_outcome(
     label: String,
     progress: &Option<Value>,
 ) -> Result<Outcome, Refusal>
-    ensures ok { IfOk result (λ outcome. outcome
-        ≡ known_outcome told.now now is_dropped (string_bytes label)
-        (option_map progress_of progress.now)) }
+    ensures ok { IfOk result
+        (IsOutcome told.now now is_dropped label (progress_in progress.now)) }
     ensures reason { IsOkUnless result Refusal.Memory }
 {
     let finished = finished_at(is_done(reached(progress)), told.finished, now);

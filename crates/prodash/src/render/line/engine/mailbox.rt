@@ -1,5 +1,6 @@
 //! The requests to the event loop, from the ticker and from the handle of the renderer.
-ghost use Rattle.std.specs.Prelude.{◌≡◌, Some, true, false, is_some};
+ghost use Rattle.std.specs.Prelude.{◌≡◌};
+ghost use Rattle.std.specs.Option.{option_or};
 
 use crate::render::threads::Requests;
 use prodash_base::Refusal;
@@ -37,9 +38,8 @@ impl Pending {
 
     /// Requests a size again that was refused, unless another was requested since then.
     fn restore_size(&mut self, columns: u16, rows: u16)
-        ensures newer { is_some self.old.size ≡ true → self.new ≡ self.old }
-        ensures refused { is_some self.old.size ≡ false
-            → self.new ≡ record self.old { size = Some (columns, rows) } }
+        ensures { self.new
+            ≡ record self.old { size = option_or self.old.size (Some (columns, rows)) } }
     {
         if self.size.is_none() {
             self.size = Some((columns, rows));

@@ -1,8 +1,6 @@
 //! The options for a stream, as the system and the environment describe it.
-ghost use Rattle.std.specs.Prelude.{◌≡◌, Bool};
-ghost use Rattle.prodash_line.specs.declared.render.line.terminal.Environment.{Environment as Said};
-ghost use Rattle.prodash_line.specs.Environments.{IsReadFrom};
-ghost use Rattle.prodash.specs.Engines.{terminal_options};
+ghost use Rattle.std.specs.Prelude.{◌≡◌};
+ghost use Rattle.prodash.specs.Engines.{AreDetected, terminal_options};
 
 use crate::render::line::engine::options::{Environment, Options, StreamKind, VariableSource};
 use std::io::IsTerminal;
@@ -44,9 +42,7 @@ impl Options {
     /// let renderer = render(rt, alloc, rt.stderr(), root.downgrade()?, clock, options)?;
     /// ```
     pub fn detect<R: VariableSource + StandardStreams>(rt: &R, output: StreamKind) -> Options
-        ensures { (is_terminal : Bool) × (said : Said)
-            × R.answered rt.now output is_terminal × IsReadFrom (R.gave rt.now) said
-            × (result ≡ terminal_options is_terminal said) }
+        ensures { AreDetected (R.answered rt.now output) (R.gave rt.now) result }
     {
         Options::for_terminal(rt.is_terminal(output), Environment::read(rt))
     }
