@@ -1,8 +1,10 @@
 -- Views of recorded trees: what a look shows, and which calls came before it.
-use Rattle.std.specs.Prelude.{◌≡◌, ℕ, ◌+◌, Bool, cond, not, nat_eq, List, [], length, take, Option, Some, None, unwrap_or, Result, Ok, Err}
+use Rattle.std.specs.Prelude.{◌≡◌, ℕ, ◌+◌, Bool, cond, not, nat_eq, List, [], length, take, Option, Some, None, unwrap_or, Result, Ok, Err, IfOk}
 use Rattle.std.specs.FinMap as finite
-use Rattle.prodash_base.specs.Rows.{PathRow}
+use Rattle.std.specs.Global.{Vec}
+use Rattle.prodash_base.specs.Rows.{PathRow, rows_of}
 use Rattle.prodash_base.specs.declared.messages.Message.{Message}
+use Rattle.prodash_base.specs.declared.progress.Row.{Row}
 use Rattle.prodash_base.specs.declared.refusal.Refusal.{Refusal}
 use Rattle.prodash_line.specs.Renderer.{Renderer, Seen, Accepts}
 use Rattle.prodash_line.specs.Screens.{ScreenState}
@@ -110,6 +112,35 @@ LooksMessages capacity messages tree =
 abbrev pub LooksNews : ℕ → Option ℕ → List Message → ℕ → Viewed → Type 0
 LooksNews capacity previous messages sent tree =
     (shown : Shown) × HasLook capacity previous shown tree × (messages ≡ shown.1) × (sent ≡ shown.2)
+
+-- One turn found a recorded tree of which this is a look.
+abbrev pub ReadsLook : OfViewTurn → OfViewTurn → ℕ → Option ℕ → Shown → Type 0
+ReadsLook found left capacity previous shown = Reads found left (HasLook capacity previous shown)
+
+-- the same, with the calls that led to the tree
+abbrev pub ReadsLookAfter : OfViewTurn → OfViewTurn → ℕ → Option ℕ → Shown × List (Event × Reply) → Type 0
+ReadsLookAfter found left capacity previous look =
+    Reads found left (IsLook capacity previous look.1 look.0)
+
+-- One turn found a recorded tree with these rows.
+abbrev pub ReadsRows : OfViewTurn → OfViewTurn → ℕ → Vec Row → Type 0
+ReadsRows found left capacity rows = Reads found left (LooksRows capacity (rows_of rows.items))
+
+-- One turn found a recorded tree with these messages.
+abbrev pub ReadsMessages : OfViewTurn → OfViewTurn → ℕ → Vec Message → Type 0
+ReadsMessages found left capacity messages =
+    Reads found left (LooksMessages capacity messages.items)
+
+-- One turn found a recorded tree with these messages after `previous` were seen, and so many sent.
+abbrev pub ReadsNews : OfViewTurn → OfViewTurn → ℕ → Option ℕ → Vec Message → ℕ → Type 0
+ReadsNews found left capacity previous messages sent =
+    Reads found left (LooksNews capacity previous messages.items sent)
+
+-- Unless the call is refused, one turn found a recorded tree of which these rows and messages are a
+-- look, after `previous` messages were seen. What is returned is how many were sent by then.
+abbrev pub Copies : OfViewTurn → OfViewTurn → ℕ → Option ℕ → Vec Row → Vec Message → Result ℕ Refusal → Type 0
+Copies found left capacity previous rows messages result = IfOk result (λ sent.
+    Reads found left (HasLook capacity previous (rows_of rows.items, messages.items, sent)))
 
 -- the number of tasks that a view shows of the tree
 abbrev pub ShowsTasks : ℕ → Viewed → Type 0

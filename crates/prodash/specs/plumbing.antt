@@ -4,4 +4,5 @@ pub mod EngineFrames
 pub mod DashboardSteps
 pub mod Histories
 pub mod Recordings
+pub mod SeenTrees
 pub mod SaidTexts

@@ -1,11 +1,12 @@
 -- Turns at the lock of a tree that are counted: how many a call takes, and what each found and left.
 use Rattle.std.specs.Prelude.{◌≡◌, ℕ, ◌-◌, List, ◌∷◌, [], Option, is_some, option_map, String, string_bytes, Result, IfOk, OnOk, OnErr, ◌⊎◌}
+use Rattle.std.specs.Global.{Vec}
 use Rattle.prodash_base.specs.Path.{Path}
 use Rattle.prodash_base.specs.Rows.{PathRow, rows_of}
 use Rattle.prodash_base.specs.declared.messages.Message.{Message}
 use Rattle.prodash_base.specs.declared.progress.Row.{Row}
 use Rattle.prodash_base.specs.declared.refusal.Refusal.{Refusal}
-use Rattle.prodash.specs.Turns.{OfTurn, HasName, HasRowsAndNews, Stays, Upgrades}
+use Rattle.prodash.specs.Turns.{OfTurn, HasName, HasRows, HasRowsAndNews, Stays, Upgrades}
 use Rattle.prodash.specs.declared.tree.locked.LockedTree.{LockedTree}
 use Rattle.prodash.specs.declared.tree.turns.Turn.{Turn}
 use Rattle.prodash.specs.plumbing.LockedCalls.{Removes}
@@ -64,14 +65,35 @@ Gives result fact tree = IfOk result (λ x. fact x tree)
 abbrev pub Shows : {A : Type 0} → Result A Refusal → (LockedTree → Type 0) → LockedTree → Type 0
 Shows result fact tree = OnOk result (fact tree)
 
+-- Exactly one turn is taken. It makes the change if the call is accepted, and else leaves the tree.
+abbrev pub Tries : {T A : Type 0} → OfTaken T → T → T → Result A Refusal → Change → Type 0
+Tries took old new result change = TakesOne took old new (OrStays result change)
+
+-- Exactly one turn is taken, and looks. What is returned holds of the tree, unless the call is refused.
+abbrev pub Gets : {T A : Type 0} → OfTaken T → T → T → Result A Refusal → (A → LockedTree → Type 0) → Type 0
+Gets took old new result fact = LooksOnce took old new (Gives result fact)
+
+-- Exactly one turn is taken, and makes the change of what is returned, unless the call is refused.
+abbrev pub TakesOnOk : {T A : Type 0} → OfTaken T → T → T → Result A Refusal → (A → Change) → Type 0
+TakesOnOk took old new result change = IfOk result (λ x. TakesOne took old new (change x))
+
 -- the string is the name of the task at the path, if there is one
 abbrev pub HasNameOf : {Z : Type 0} → Path → Option (String Z) → LockedTree → Type 0
 HasNameOf path name tree = HasName path (option_map string_bytes name) tree
 
--- the rows, as they are copied, and the messages are those of the tree
-abbrev pub HasCopies : Option ℕ → List Row → List Message → ℕ → LockedTree → Type 0
+-- the rows, as they are copied, are those of the tree
+abbrev pub HasRowCopies : List Row → LockedTree → Type 0
+HasRowCopies rows tree = HasRows (rows_of rows) tree
+
+-- the rows and the messages, as they are copied, are those of the tree
+abbrev pub HasCopies : Option ℕ → Vec Row → Vec Message → ℕ → LockedTree → Type 0
 HasCopies previous rows messages sent tree =
-    HasRowsAndNews previous (rows_of rows) messages sent tree
+    HasRowsAndNews previous (rows_of rows.items) messages.items sent tree
+
+-- the rows, as they are copied, and the messages are those of the tree
+abbrev pub HasCopiesAndNews : Option ℕ → List Row → List Message × ℕ → LockedTree → Type 0
+HasCopiesAndNews previous rows news tree =
+    HasRowsAndNews previous (rows_of rows) news.0 news.1 tree
 
 -- what a look returns is of the tree: the rows, the messages, and how many were sent
 abbrev pub HasSeen : Option ℕ → List PathRow × List Message × ℕ → LockedTree → Type 0

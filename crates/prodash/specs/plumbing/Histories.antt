@@ -4,6 +4,8 @@ use mathlib.Core.List.{IsPrefix}
 use Rattle.logbook.specs.Pages.{Cell, Step, View, Book, Named}
 use Rattle.prodash_core.specs.declared.tree.event.Event.{Event}
 use Rattle.prodash_core.specs.declared.tree.event.Reply.{Reply}
+use Rattle.prodash_core.specs.Trees.{Tree}
+use Rattle.prodash.specs.Journals.{Recorded}
 use Rattle.prodash.specs.declared.tree.recorded.history.HistoryEntry.{HistoryEntry}
 use Rattle.prodash.specs.declared.tree.recorded.history.HistoryEntry.TheVariants.{Call, End}
 
@@ -21,6 +23,11 @@ abbrev pub calls_in : List HistoryEntry → List (Event × Reply)
 calls_in [] = []
 calls_in (Call entry ∷ history) = entry ∷ calls_in history
 calls_in (End ∷ history) = []
+
+-- a recorded tree of this capacity, to which the calls of a history led
+abbrev pub recorded_after : ℕ → Tree → List HistoryEntry → Recorded
+recorded_after capacity tree history =
+    record { capacity = capacity; tree = tree; entries = calls_in history }
 
 -- the entry with this number, counted from 0, is this call
 abbrev pub HasCallAt : List HistoryEntry → ℕ → Event × Reply → Type 0

@@ -5,7 +5,7 @@ ghost use Rattle.prodash_base.specs.Rows.{phase_of};
 ghost use Rattle.prodash.specs.Items.{new_place, next_path, with_child};
 ghost use Rattle.prodash.specs.Turns.{HasId, HasBound, HasUnit, Begins, SetsName, SetsBound, SetsPhase, Sends, AddsBelow};
 ghost use Rattle.prodash.specs.plumbing.LockedCalls.{ChangesNothing};
-ghost use Rattle.prodash.specs.plumbing.CountedTurns.{TakesOne, TakesAtMostOne, LooksOnce, OrStays, Gives, HasNameOf, RemovesTask};
+ghost use Rattle.prodash.specs.plumbing.CountedTurns.{TakesOne, TakesAtMostOne, LooksOnce, Tries, Gets, HasNameOf, RemovesTask};
 
 use crate::messages::MessageLevel;
 use crate::progress::{Id, Key, State, Step, key};
@@ -89,8 +89,8 @@ impl SharedTask {
         alloc: Global,
         name: &str,
     ) -> Result<(), Refusal>
-        ensures turn { TakesOne T.took turns.old turns.new
-            (OrStays result (SetsName self.now.path name.now)) }
+        ensures turn { Tries T.took turns.old turns.new result
+            (SetsName self.now.path name.now) }
         ensures reason { IsOkUnless result Refusal.Memory }
     {
         let mut tree = turns.begin(&self.lock);
@@ -106,8 +106,8 @@ impl SharedTask {
         turns: &mut T,
         alloc: Global,
     ) -> Result<Option<String>, Refusal>
-        ensures turn { LooksOnce T.took turns.old turns.new
-            (Gives result (HasNameOf self.now.path)) }
+        ensures turn { Gets T.took turns.old turns.new result
+            (HasNameOf self.now.path) }
         ensures reason { IsOkUnless result Refusal.Memory }
     {
         let tree = turns.begin(&self.lock);
@@ -209,8 +209,8 @@ impl SharedTask {
         level: MessageLevel,
         message: &str,
     ) -> Result<(), Refusal>
-        ensures turn { TakesOne T.took turns.old turns.new
-            (OrStays result (Sends self.now.path at level message.now)) }
+        ensures turn { Tries T.took turns.old turns.new result
+            (Sends self.now.path at level message.now) }
         ensures reason { IfErr result RefusesMessage }
     {
         let mut tree = turns.begin(&self.lock);

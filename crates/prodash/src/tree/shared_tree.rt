@@ -4,12 +4,11 @@ ghost use Rattle.std.specs.Map.{keys_of};
 ghost use Rattle.prodash_base.specs.Refusals.{RefusesHandle};
 ghost use Rattle.prodash_base.specs.Adjacency.{IsAscending, paths_of};
 ghost use Rattle.prodash_base.specs.Path.{child, child_limit};
-ghost use Rattle.prodash_base.specs.Rows.{rows_of};
 ghost use Rattle.prodash.specs.Items.{new_place};
 ghost use Rattle.prodash.specs.Locks.{with_owner};
-ghost use Rattle.prodash.specs.Turns.{HasTasks, KeepsAtMost, HasRows, HasMessages, HasNews, AddsChild, GetsOwner, Upgrades};
+ghost use Rattle.prodash.specs.Turns.{HasTasks, KeepsAtMost, HasMessages, HasNews, AddsChild, GetsOwner, Upgrades};
 ghost use Rattle.prodash.specs.plumbing.LockedCalls.{ChangesNothing, IsCopy};
-ghost use Rattle.prodash.specs.plumbing.CountedTurns.{TakesOne, TakesAtMostOne, LooksOnce, OrStays, Gives, Shows, HasCopies, HasSeen, LosesOwner, UpgradesOrStays};
+ghost use Rattle.prodash.specs.plumbing.CountedTurns.{TakesOne, TakesAtMostOne, TakesOnOk, LooksOnce, Tries, Gets, Shows, HasRowCopies, HasCopies, HasCopiesAndNews, HasSeen, LosesOwner, UpgradesOrStays};
 
 use crate::messages::{Message, MessageCopyState, Messages};
 use crate::progress::{Id, Row, Rows};
@@ -55,8 +54,8 @@ impl SharedTree {
     ) -> Result<SharedTask, Refusal>
         ensures ok { IfOk result (λ task. (n : ℕ) × (n < child_limit)
             × (task ≡ new_place (child [] n))) }
-        ensures added { IfOk result (λ task.
-            TakesOne T.took turns.old turns.new (AddsChild task.path name.now id)) }
+        ensures added { TakesOnOk T.took turns.old turns.new result
+            (λ t. AddsChild t.path name.now id) }
         ensures refused { OnErr result
             (TakesAtMostOne T.took turns.old turns.new ChangesNothing) }
         ensures reason { IsOkUnless result Refusal.Memory }
@@ -100,7 +99,7 @@ impl SharedTree {
         out: &mut Vec<Row>,
     ) -> Result<(), Refusal>
         ensures turn { LooksOnce T.took turns.old turns.new
-            (Shows result (HasRows (rows_of out.new.items))) }
+            (Shows result (HasRowCopies out.new.items)) }
         ensures ascending { OnOk result (IsAscending (paths_of out.new.items)) }
         ensures err { OnErr result (out.new.items ≡ out.old.items) }
         ensures reason { IsOkUnless result Refusal.Memory }
@@ -140,8 +139,8 @@ impl SharedTree {
         out: &mut Vec<Message>,
         previous: Option<MessageCopyState>,
     ) -> Result<MessageCopyState, Refusal>
-        ensures turn { LooksOnce T.took turns.old turns.new
-            (Gives result (HasNews previous out.new.items)) }
+        ensures turn { Gets T.took turns.old turns.new result
+            (HasNews previous out.new.items) }
         ensures err { OnErr result (out.new.items ≡ out.old.items) }
         ensures reason { IsOkUnless result Refusal.Memory }
     {
@@ -160,8 +159,8 @@ impl SharedTree {
         messages: &mut Vec<Message>,
         previous: Option<MessageCopyState>,
     ) -> Result<MessageCopyState, Refusal>
-        ensures turn { LooksOnce T.took turns.old turns.new
-            (Gives result (HasCopies previous rows.new.items messages.new.items)) }
+        ensures turn { Gets T.took turns.old turns.new result
+            (HasCopies previous rows.new messages.new) }
         ensures ascending { OnOk result (IsAscending (paths_of rows.new.items)) }
         ensures err_rows { OnErr result (rows.new.items ≡ rows.old.items) }
         ensures err_messages { OnErr result (messages.new.items ≡ messages.old.items) }
@@ -182,8 +181,8 @@ impl SharedTree {
         rows: &mut Vec<Row>,
         previous: Option<MessageCopyState>,
     ) -> Result<(Messages, MessageCopyState), Refusal>
-        ensures turn { LooksOnce T.took turns.old turns.new
-            (Gives result (λ news. HasCopies previous rows.new.items news.0 news.1)) }
+        ensures turn { Gets T.took turns.old turns.new result
+            (HasCopiesAndNews previous rows.new.items) }
         ensures ascending { OnOk result (IsAscending (paths_of rows.new.items)) }
         ensures err { OnErr result (rows.new.items ≡ rows.old.items) }
         ensures reason { IsOkUnless result Refusal.Memory }
@@ -203,8 +202,7 @@ impl SharedTree {
         spare: (Rows, Messages),
         previous: Option<MessageCopyState>,
     ) -> Result<(Rows, Messages, MessageCopyState), Refusal>
-        ensures turn { LooksOnce T.took turns.old turns.new
-            (Gives result (HasSeen previous)) }
+        ensures turn { Gets T.took turns.old turns.new result (HasSeen previous) }
         ensures ascending { IfOk result (λ seen. IsAscending (keys_of seen.0)) }
         ensures reason { IsOkUnless result Refusal.Memory }
     {
@@ -221,7 +219,7 @@ impl SharedTree {
         turns: &mut T,
         alloc: Global,
     ) -> Result<LockedTree, Refusal>
-        ensures turn { LooksOnce T.took turns.old turns.new (Gives result IsCopy) }
+        ensures turn { Gets T.took turns.old turns.new result IsCopy }
         ensures reason { IsOkUnless result Refusal.Memory }
     {
         let tree = turns.begin(&self.lock);
@@ -237,7 +235,7 @@ impl SharedTree {
         turns: &mut T,
         rt: &R,
     ) -> Result<(R, SharedTree), Refusal>
-        ensures turn { TakesOne T.took turns.old turns.new (OrStays result GetsOwner) }
+        ensures turn { Tries T.took turns.old turns.new result GetsOwner }
         ensures reason { IfErr result RefusesHandle }
     {
         let mut tree = turns.begin(&self.lock);

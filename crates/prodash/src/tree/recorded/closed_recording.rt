@@ -1,8 +1,9 @@
 //! A recorded tree whose journal is taken out.
 ghost use Rattle.std.specs.Prelude.{◌≡◌, IfOk, IsOkUnless};
 ghost use Rattle.prodash.specs.Journals.{Replays};
-ghost use Rattle.prodash.specs.Views.{Sees, owned_by, tasks_of};
-ghost use Rattle.prodash.specs.plumbing.Histories.{IsOpen, calls_in};
+ghost use Rattle.prodash.specs.Views.{owned_by, tasks_of};
+ghost use Rattle.prodash.specs.plumbing.Histories.{IsOpen, calls_in, recorded_after};
+ghost use Rattle.prodash.specs.plumbing.SeenTrees.{IsSeen};
 
 use crate::messages::{MessageCopyState, Messages};
 use crate::progress::Rows;
@@ -27,17 +28,13 @@ impl<C: TreeLedger> Model for ClosedRecording<C> {
     ghost use Rattle.std.specs.Coded.{codes};
     ghost use Rattle.std.specs.FinMap as finite;
     ghost use Rattle.prodash.specs.Journals.{Recorded, Replays};
-    ghost use Rattle.prodash.specs.plumbing.Histories.{IsOpen, calls_in};
+    ghost use Rattle.prodash.specs.plumbing.Histories.{IsOpen, calls_in, recorded_after};
 
     ghost Value = { Recorded };
 
     ghost coded = { Prim.hlevel (codes, finite.code) };
 
-    ghost view = { λ s. record {
-      capacity = C.message_buffer_capacity;
-      tree = s.tree;
-      entries = calls_in s.history;
-    } };
+    ghost view = { λ s. recorded_after C.message_buffer_capacity s.tree s.history };
 
     ghost invariant = { λ s. IsOpen s.history
         × Replays C.message_buffer_capacity (calls_in s.history) s.tree };
@@ -48,11 +45,7 @@ impl<C: TreeLedger> ClosedRecording<C> {
     pub(crate) fn new(tree: TreeState, history: HistoryPrefix<C>) -> ClosedRecording<C>
         requires open { IsOpen history }
         requires replays { Replays C.message_buffer_capacity (calls_in history) tree }
-        ensures { result ≡ record {
-          capacity = C.message_buffer_capacity;
-          tree = tree;
-          entries = calls_in history;
-        } }
+        ensures { result ≡ recorded_after C.message_buffer_capacity tree history }
     {
         ClosedRecording { tree, history }
     }
@@ -63,8 +56,7 @@ impl<C: TreeLedger> ClosedRecording<C> {
         spare: (Rows, Messages),
         previous: Option<MessageCopyState>,
     ) -> Result<(Option<Looked>, LookReceipt<C>), Refusal>
-        ensures ok { IfOk result (λ r. Sees C.message_buffer_capacity previous r.1 r.0
-            (owned_by 0 self.now)) }
+        ensures ok { IfOk result (IsSeen C.message_buffer_capacity previous (owned_by 0 self.now)) }
         ensures reason { IsOkUnless result Refusal.Memory }
     {
         let seen = self.tree.look(spare, previous)?;

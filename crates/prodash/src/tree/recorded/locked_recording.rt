@@ -6,6 +6,7 @@ ghost use Rattle.prodash.specs.plumbing.Histories.{IsOpen, history_of, ended, la
 ghost use Rattle.prodash_core.specs.Refusals.{refusal_of};
 ghost use Rattle.prodash.specs.declared.tree.recorded.ledgers.TheConstants.{PARTS};
 ghost use Rattle.prodash.specs.Views.{Sees, viewed, owned_by, tasks_of};
+ghost use Rattle.prodash.specs.plumbing.SeenTrees.{IsSeen};
 ghost use Rattle.prodash.specs.Journals.{IsAfter, RefusesOn, RefusesCall, MayRefuse, with_call, amount};
 ghost use Rattle.prodash_base.specs.Refusals.{RefusesHandle};
 ghost use Rattle.prodash.specs.plumbing.Recordings.{Records, RecordsIn, IsReceiptOf};
@@ -269,8 +270,7 @@ fn look_at_open<C: TreeLedger>(
 ) -> Result<(Option<Looked>, LookReceipt<C>), Refusal>
     requires capacity { state.now.capacity ≡ C.message_buffer_capacity }
     requires known { history.now ≡ history_of state.now.entries }
-    ensures ok { IfOk result (λ r. Sees C.message_buffer_capacity previous r.1 r.0
-        (owned_by 0 state.now)) }
+    ensures ok { IfOk result (IsSeen C.message_buffer_capacity previous (owned_by 0 state.now)) }
     ensures reason { IsOkUnless result Refusal.Memory }
 {
     let seen = state.look(spare, previous)?;

@@ -3,8 +3,8 @@ ghost use Rattle.std.specs.Prelude.{◌≡◌, Some, IfOk, IfErr, OnOk, OnErr, i
 ghost use Rattle.std.specs.Map.{keys_of};
 ghost use Rattle.prodash_base.specs.Adjacency.{IsAscending, paths_of};
 ghost use Rattle.prodash_base.specs.Refusals.{RefusesHandle};
-ghost use Rattle.prodash_base.specs.Rows.{rows_of};
-ghost use Rattle.prodash.specs.Views.{InOneTurn, Reads, Sees, IsLook, HasLook, ShowsTasks, GetsView, FindsView, LooksRows, LooksMessages, LooksNews, viewed};
+ghost use Rattle.prodash.specs.Views.{InOneTurn, Reads, ShowsTasks, GetsView, FindsView, Copies, ReadsLook, ReadsLookAfter, ReadsRows, ReadsMessages, ReadsNews, viewed};
+ghost use Rattle.prodash.specs.plumbing.SeenTrees.{ReadsSeen};
 
 use crate::messages::{Message, MessageCopyState, Messages};
 use crate::progress::{Row, Rows};
@@ -95,8 +95,7 @@ impl<R: TakesViewTurns, C: TreeLedger, S: Ledger> RecordedView<R, C, S> {
         spare: (Rows, Messages),
         previous: Option<MessageCopyState>,
     ) -> Result<(Rows, Messages, MessageCopyState), Refusal>
-        ensures ok { IfOk result (λ shown. Reads R.found R.left
-            (HasLook C.message_buffer_capacity previous shown)) }
+        ensures ok { IfOk result (ReadsLook R.found R.left C.message_buffer_capacity previous) }
         ensures ascending { IfOk result (λ shown. IsAscending (keys_of shown.0)) }
         ensures reason { IsOkUnless result Refusal.Memory }
     {
@@ -114,8 +113,8 @@ impl<R: TakesViewTurns, C: TreeLedger, S: Ledger> RecordedView<R, C, S> {
         spare: (Rows, Messages),
         previous: Option<MessageCopyState>,
     ) -> Result<((Rows, Messages, MessageCopyState), LookReceipt<C>), Refusal>
-        ensures ok { IfOk result (λ r. Reads R.found R.left
-            (IsLook C.message_buffer_capacity previous r.1 r.0)) }
+        ensures ok { IfOk result
+            (ReadsLookAfter R.found R.left C.message_buffer_capacity previous) }
         ensures ascending { IfOk result (λ r. IsAscending (keys_of r.0.0)) }
         ensures reason { IsOkUnless result Refusal.Memory }
     {
@@ -132,8 +131,7 @@ impl<R: TakesViewTurns, C: TreeLedger, S: Ledger> RecordedView<R, C, S> {
         spare: (Rows, Messages),
         previous: Option<MessageCopyState>,
     ) -> Result<(Option<Looked>, LookReceipt<C>), Refusal>
-        ensures ok { IfOk result (λ r. Reads R.found R.left
-            (Sees C.message_buffer_capacity previous r.1 r.0)) }
+        ensures ok { IfOk result (ReadsSeen R.found R.left C.message_buffer_capacity previous) }
         ensures reason { IsOkUnless result Refusal.Memory }
     {
         let (tree, turn) = self.rt.begin_view_turn(&self.tree);
@@ -148,8 +146,8 @@ impl<R: TakesViewTurns, C: TreeLedger, S: Ledger> RecordedView<R, C, S> {
     ///
     /// `Memory`, if there is no memory for the copies; then `out` stays as it was.
     pub fn sorted_snapshot(&self, out: &mut Vec<Row>) -> Result<(), Refusal>
-        ensures ok { OnOk result (Reads R.found R.left
-            (LooksRows C.message_buffer_capacity (rows_of out.new.items))) }
+        ensures ok { OnOk result
+            (ReadsRows R.found R.left C.message_buffer_capacity out.new) }
         ensures ascending { OnOk result (IsAscending (paths_of out.new.items)) }
         ensures err { OnErr result (out.new.items ≡ out.old.items) }
         ensures reason { IsOkUnless result Refusal.Memory }
@@ -165,8 +163,8 @@ impl<R: TakesViewTurns, C: TreeLedger, S: Ledger> RecordedView<R, C, S> {
     ///
     /// `Memory`, if there is no memory for the copies; then `out` stays as it was.
     pub fn copy_messages(&self, out: &mut Vec<Message>) -> Result<(), Refusal>
-        ensures ok { OnOk result (Reads R.found R.left
-            (LooksMessages C.message_buffer_capacity out.new.items)) }
+        ensures ok { OnOk result
+            (ReadsMessages R.found R.left C.message_buffer_capacity out.new) }
         ensures err { OnErr result (out.new.items ≡ out.old.items) }
         ensures reason { IsOkUnless result Refusal.Memory }
     {
@@ -187,8 +185,8 @@ impl<R: TakesViewTurns, C: TreeLedger, S: Ledger> RecordedView<R, C, S> {
         out: &mut Vec<Message>,
         previous: Option<MessageCopyState>,
     ) -> Result<MessageCopyState, Refusal>
-        ensures ok { IfOk result (λ sent. Reads R.found R.left
-            (LooksNews C.message_buffer_capacity previous out.new.items sent)) }
+        ensures ok { IfOk result
+            (ReadsNews R.found R.left C.message_buffer_capacity previous out.new) }
         ensures err { OnErr result (out.new.items ≡ out.old.items) }
         ensures reason { IsOkUnless result Refusal.Memory }
     {
@@ -208,8 +206,8 @@ impl<R: TakesViewTurns, C: TreeLedger, S: Ledger> RecordedView<R, C, S> {
         messages: &mut Vec<Message>,
         previous: Option<MessageCopyState>,
     ) -> Result<MessageCopyState, Refusal>
-        ensures ok { IfOk result (λ sent. Reads R.found R.left (HasLook C.message_buffer_capacity
-            previous (rows_of rows.new.items, messages.new.items, sent))) }
+        ensures ok { Copies R.found R.left C.message_buffer_capacity previous
+            rows.new messages.new result }
         ensures ascending { OnOk result (IsAscending (paths_of rows.new.items)) }
         ensures err_rows { OnErr result (rows.new.items ≡ rows.old.items) }
         ensures err_messages { OnErr result (messages.new.items ≡ messages.old.items) }
