@@ -13,7 +13,7 @@ use std::io;
 use std::sync::Wait;
 
 /// The nanoseconds between two frames.
-const PERIOD: u64 = 100_000_000;
+pub(crate) const PERIOD: u64 = 100_000_000;
 
 /// A name of characters that are two columns wide.
 const WIDE_NAME: &str = "タスクの名前";
@@ -246,7 +246,7 @@ fn change_in(workload: &str) -> Option<Change> {
 }
 
 /// Sets one of each 1,000 tasks to a step.
-fn set_few<R: Wait + Clone + Drop>(items: &[Item<R>], step: u64) {
+pub(crate) fn set_few<R: Wait + Clone + Drop>(items: &[Item<R>], step: u64) {
     for (at, item) in items.iter().enumerate() {
         if at % 1000 == 0 {
             item.set(step);

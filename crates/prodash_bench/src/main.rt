@@ -3,6 +3,7 @@
 //! `refusals`.
 #![tactic(auto)]
 
+mod dashboards;
 mod frames;
 mod recorded;
 mod refusals;

@@ -1,5 +1,5 @@
-use crate::USAGE;
 use crate::frames::Scene;
+use crate::{USAGE, dashboards};
 use prodash::messages::MessageLevel;
 use prodash::progress::UNKNOWN;
 use prodash::render::line::draw::{self, OverWrite};
@@ -43,6 +43,8 @@ pub(crate) fn run<R: Wait + Clone + Drop>(
         "rows" => take_rows(&root, alloc, &items, count)?,
         "snapshot" | "snapshot_of_levels" => take_snapshots(&root, alloc, &items, count)?,
         "session" => set_by_handle(alloc, count)?,
+        "dashboard" => dashboards::draw_frames(&root, alloc, &items, false, count)?,
+        "dashboard_few" => dashboards::draw_frames(&root, alloc, &items, true, count)?,
         _ => return Err(USAGE),
     }
     Ok(())
