@@ -30,6 +30,8 @@ pub mod CountedRows
 pub mod KeptPanes
 pub mod KeptProgress
 pub mod FittingGrids
+pub mod HeldCharacters
+pub mod RowsApart
 pub mod ReadableGrids
 pub mod WorkedDashboards
 pub mod WorkedBoards

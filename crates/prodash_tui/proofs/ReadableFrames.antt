@@ -13,7 +13,8 @@ use Rattle.prodash_tui.specs.Cells.{is_half, same_cell, same_style}
 use Rattle.prodash_tui.specs.Differences.{half_of, row_changes}
 use Rattle.prodash_tui.specs.Frames.{are_certain, change_signs, changes_of, clearing, cursor_behind, difference, first_frame, is_at, motion, row_cursor, row_signs, rows_signs, style_change}
 use Rattle.prodash_tui.specs.Grids.{Sheet, blank_sheet}
-use Rattle.prodash_tui.specs.Reading.{AreReadable, FramesAreReadBack, HoldsReadable, IsReadable, IsReadableChar, IsReadableGrid, RowHoldsReadable}
+use Rattle.prodash_tui.specs.HeldCharacters.{CellHolds}
+use Rattle.prodash_tui.specs.Reading.{AreReadable, FramesAreReadBack, IsReadable, IsReadableChar, IsReadableGrid, RowHoldsReadable}
 use Rattle.prodash_tui.proofs.OneSpelling.{one_spelling}
 
 both : (a b : List Sign) → AreReadable a → AreReadable b → AreReadable (a ++ b)
@@ -70,7 +71,7 @@ half_readable [] = tt
 half_readable (Holds c joined style ∷ new) = tt
 half_readable (Half ∷ new) = (tt, tt)
 
-either_readable : (t : Bool) (x : ℕ) (b : Cell) (half : List Cell) (changes : List (ℕ × List Cell)) → x < 2 ^ 16 → HoldsReadable b → RowHoldsReadable half → AreChangesReadable changes
+either_readable : (t : Bool) (x : ℕ) (b : Cell) (half : List Cell) (changes : List (ℕ × List Cell)) → x < 2 ^ 16 → CellHolds IsReadableChar b → RowHoldsReadable half → AreChangesReadable changes
     → AreChangesReadable (cond t changes ((x, b ∷ half) ∷ changes))
 either_readable true x b half changes near h i j = j
 either_readable false x b half changes near h i j = ((near, (h, i)), j)

@@ -1,6 +1,6 @@
 -- Drawing words on a grid of readable characters leave one, and so do the panes of a dashboard.
 use Rattle.std.proofs.Common.{◌≡◌, ℕ, zero, suc, ◌+◌, ◌-◌, ◌^◌, ◌<◌, ◌≤◌, Bool, true, false, cond, ◌||◌, List, [], ◌∷◌, ◌++◌, length, take, drop, map, Option, Some, None, refl, arith}
-use Rattle.std.specs.Prelude.{min, nat_le, replicate, slice_set, chars}
+use Rattle.std.specs.Prelude.{min, nat_le, replicate, chars}
 use Rattle.std.specs.Char.{is_control}
 use Rattle.std.specs.List.{AllByRecursion}
 use Rattle.std.proofs.lemmas.List.Elements.{recursion_from_All}
@@ -16,15 +16,17 @@ use Rattle.prodash_tui.specs.declared.dashboard.contents.Contents.{Contents}
 use Rattle.prodash_tui.specs.declared.style.Color.{Color}
 use Rattle.prodash_tui.specs.declared.style.Style.{Style}
 use Rattle.prodash_tui.specs.Boards.{Board, area_of, frame_signs, input_of, next_buffers, next_grid, opening, rates_in}
-use Rattle.prodash_tui.specs.Cells.{blank_cell, blank_cells, cell_at, cell_of, is_half, on_background, plain}
+use Rattle.prodash_tui.specs.Cells.{blank_cell, blank_cells, cell_of, on_background, plain}
 use Rattle.prodash_tui.specs.Dashboards.{scroll_of, with_task_pane}
 use Rattle.prodash_tui.specs.Displays.{Display}
 use Rattle.prodash_tui.specs.Frames.{difference, first_frame}
 use Rattle.prodash_tui.specs.Grids.{Sheet, blank_sheet, left_of, room_of, with_cells}
-use Rattle.prodash_tui.specs.Reading.{AreReadable, DashboardsAreReadBack, HoldsReadable, IsReadable, IsReadableChar, IsReadableGrid, RowHoldsReadable}
-use Rattle.prodash_tui.specs.Rows.{front, healed, in_part, splice}
+use Rattle.prodash_tui.specs.HeldCharacters.{CellHolds}
+use Rattle.prodash_tui.specs.Reading.{AreReadable, DashboardsAreReadBack, IsReadable, IsReadableChar, IsReadableGrid, RowHoldsReadable}
+use Rattle.prodash_tui.specs.Rows.{in_part, splice}
 use Rattle.prodash_tui.specs.Screens.{Buffers, follows, frame}
 use Rattle.prodash_tui.specs.Texts.{cells_with, cut, drawn_text, filling, shortened, text_cells, text_cut, text_shortened}
+use Rattle.prodash_tui.proofs.HeldCharacters.{choice_held, cut_held, splice_held}
 use Rattle.prodash_tui.proofs.KeptPanes.{Words, kept_dashboard}
 use Rattle.prodash_tui.proofs.KeptProgress.{kept_pane}
 use Rattle.prodash_tui.proofs.OneSpelling.{one_spelling}
@@ -48,6 +50,10 @@ safe_are_readable : (text : List ℕ) → AllByRecursion IsReadableChar (map saf
 safe_are_readable [] = tt
 safe_are_readable (c ∷ text) = (safe_is_readable c, safe_are_readable text)
 
+-- a cell of readable characters
+abbrev HoldsReadable : Cell → Type 0
+HoldsReadable c = CellHolds IsReadableChar c
+
 -- ---- cells
 
 with_readable : (n c : ℕ) (others : List ℕ) → IsReadableChar c → AllByRecursion IsReadableChar others → AllByRecursion IsReadableChar (joined_with n c others)
@@ -68,41 +74,13 @@ text_readable columns style [] h = tt
 text_readable columns style (c ∷ text) h =
     cells_readable style (columns c) c (joined columns text) (text_cells columns style text) h.0 (joined_readable columns text h.1) (text_readable columns style text h.1)
 
-choice_readable : (t : Bool) (a b : List Cell) → RowHoldsReadable a → RowHoldsReadable b → RowHoldsReadable (cond t a b)
-choice_readable true a b h i = h
-choice_readable false a b h i = i
-
-cut_readable : (n : ℕ) (cells : List Cell) → RowHoldsReadable cells → RowHoldsReadable (cut n cells)
-cut_readable n cells h =
-    choice_readable (is_half (cell_at cells n)) (take (n - 1) cells) (take n cells) (AllByRecursion-take HoldsReadable (n - 1) cells h) (AllByRecursion-take HoldsReadable n cells h)
-
 shortened_readable : (style : Style) (n : ℕ) (cells : List Cell) → RowHoldsReadable cells → RowHoldsReadable (shortened style n cells)
 shortened_readable style n cells h =
     let fewer = cut (n - 1) cells ++ cell_of style 0x2026 ∷ [] in
-    choice_readable (nat_le (length cells) n) cells (take n fewer) h
-    (AllByRecursion-take HoldsReadable n fewer (AllByRecursion-append HoldsReadable (cut (n - 1) cells) (cell_of style 0x2026 ∷ []) (cut_readable (n - 1) cells h) ((refl, tt), tt)))
+    choice_held IsReadableChar (nat_le (length cells) n) cells (take n fewer) h
+    (AllByRecursion-take HoldsReadable n fewer (AllByRecursion-append HoldsReadable (cut (n - 1) cells) (cell_of style 0x2026 ∷ []) (cut_held IsReadableChar (n - 1) cells h) ((refl, tt), tt)))
 
 -- ---- rows
-
-set_readable : (cells : List Cell) (k : ℕ) (c : Cell) → HoldsReadable c → RowHoldsReadable cells → RowHoldsReadable (slice_set cells k c)
-set_readable [] k c h hs = tt
-set_readable (b ∷ cells) zero c h hs = (h, hs.1)
-set_readable (b ∷ cells) (suc k) c h hs = (hs.0, set_readable cells k c h hs.1)
-
-healed_readable : (cells : List Cell) → RowHoldsReadable cells → RowHoldsReadable (healed cells)
-healed_readable [] h = tt
-healed_readable (Holds c others style ∷ cells) h = h
-healed_readable (Half ∷ cells) h = ((refl, tt), h.1)
-
-front_readable : (x : ℕ) (cells : List Cell) → RowHoldsReadable cells → RowHoldsReadable (front x cells)
-front_readable x cells h =
-    let taken = AllByRecursion-take HoldsReadable x cells h in
-    choice_readable (is_half (cell_at cells x)) (slice_set (take x cells) (x - 1) blank_cell) (take x cells) (set_readable (take x cells) (x - 1) blank_cell (refl, tt) taken) taken
-
-splice_readable : (x : ℕ) (new cells : List Cell) → RowHoldsReadable new → RowHoldsReadable cells → RowHoldsReadable (splice x new cells)
-splice_readable x new cells h hs =
-    AllByRecursion-append HoldsReadable (front x cells) _ (front_readable x cells hs)
-    (AllByRecursion-append HoldsReadable new _ h (healed_readable (drop (x + length new) cells) (AllByRecursion-drop HoldsReadable (x + length new) cells hs)))
 
 mapped : {A : Type 0} (P : A → Type 0) (f : A → A) → ((x : A) → P x → P (f x)) → (xs : List A) → AllByRecursion P xs → AllByRecursion P (map f xs)
 mapped P f keeps [] h = tt
@@ -121,7 +99,7 @@ Holding g = AllByRecursion RowHoldsReadable g.rows
 
 written : (area : Rect) (count : ℕ) (cells : List Cell) (g : Sheet) → RowHoldsReadable cells → Holding g → Holding (with_cells area count cells g)
 written area count cells g h hs =
-    part_kept RowHoldsReadable area.y count (splice (left_of area g) cells) g.rows (λ row i. splice_readable (left_of area g) cells row h i) hs
+    part_kept RowHoldsReadable area.y count (splice (left_of area g) cells) g.rows (λ row i. splice_held IsReadableChar refl (left_of area g) cells row h i) hs
 
 drawn_readable : (style : Style) (text : List ℕ) → RowHoldsReadable (text_cells char_columns style (drawn_text text))
 drawn_readable style text = text_readable char_columns style (drawn_text text) (safe_are_readable (chars text))
@@ -132,13 +110,13 @@ colored color Half h = tt
 
 words : Words Holding
 words = record {
-  text = λ area style text g h. written area (min 1 area.height) (text_cut style (room_of area g) text) g (cut_readable (room_of area g) (text_cells char_columns style (drawn_text text)) (drawn_readable style text)) h;
+  text = λ area style text g h. written area (min 1 area.height) (text_cut style (room_of area g) text) g (cut_held IsReadableChar (room_of area g) (text_cells char_columns style (drawn_text text)) (drawn_readable style text)) h;
   shortened = λ area style text g h.
       written area (min 1 area.height) (text_shortened style (room_of area g) text) g (shortened_readable style (room_of area g) (text_cells char_columns style (drawn_text text)) (drawn_readable style text)) h;
   filling = λ area style c g h.
       let copies = replicate (room_of area g) (safe_char c) in
       written area area.height (filling style (room_of area g) c) g
-      (cut_readable (room_of area g) (text_cells char_columns style copies) (text_readable char_columns style copies (AllByRecursion-replicate IsReadableChar (room_of area g) (safe_char c) (safe_is_readable c)))) h;
+      (cut_held IsReadableChar (room_of area g) (text_cells char_columns style copies) (text_readable char_columns style copies (AllByRecursion-replicate IsReadableChar (room_of area g) (safe_char c) (safe_is_readable c)))) h;
   background = λ area color g h.
       part_kept RowHoldsReadable area.y area.height (in_part (left_of area g) (room_of area g) (on_background color)) g.rows
       (λ row i. part_kept HoldsReadable (left_of area g) (room_of area g) (on_background color) row (colored color) i) h;

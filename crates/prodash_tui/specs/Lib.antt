@@ -18,6 +18,7 @@ pub mod Differences
 pub mod Signs
 pub mod Displays
 pub mod Frames
+pub mod HeldCharacters
 pub mod Screens
 pub mod Lends
 pub mod Dashboards

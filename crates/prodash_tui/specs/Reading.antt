@@ -3,13 +3,13 @@ use Rattle.std.specs.Prelude.{◌≡◌, ℕ, ◌^◌, ◌<◌, ◌≤◌, false
 use Rattle.std.specs.Char.{is_control}
 use Rattle.std.specs.List.{AllByRecursion}
 use Rattle.prodash_tui.specs.declared.cell.Cell.{Cell}
-use Rattle.prodash_tui.specs.declared.cell.Cell.TheVariants.{Holds, Half}
 use Rattle.prodash_tui.specs.declared.sign.Sign.{Sign}
 use Rattle.prodash_tui.specs.declared.sign.Sign.TheVariants.{Char, MoveTo, SetStyle, EraseScreen, EnterAlternate, LeaveAlternate, HideCursor, ShowCursor, NoWrap, Wrap}
 use Rattle.prodash_tui.specs.declared.dashboard.contents.Contents.{Contents}
 use Rattle.prodash_tui.specs.Boards.{Board, frame_signs}
 use Rattle.prodash_tui.specs.Frames.{difference, first_frame}
 use Rattle.prodash_tui.specs.Grids.{Sheet}
+use Rattle.prodash_tui.specs.HeldCharacters.{RowHolds}
 use Rattle.prodash_tui.specs.Signs.{spelling}
 
 -- a character that is no control character
@@ -33,14 +33,9 @@ IsReadable Wrap = ⊤
 abbrev pub AreReadable : List Sign → Type 0
 AreReadable signs = AllByRecursion IsReadable signs
 
--- a cell whose characters are such ones
-abbrev pub HoldsReadable : Cell → Type 0
-HoldsReadable (Holds c joined style) = IsReadableChar c × AllByRecursion IsReadableChar joined
-HoldsReadable Half = ⊤
-
--- a row of such cells
+-- a row of such characters
 abbrev pub RowHoldsReadable : List Cell → Type 0
-RowHoldsReadable row = AllByRecursion HoldsReadable row
+RowHoldsReadable row = RowHolds IsReadableChar row
 
 -- a grid of such rows, at most 65536 wide and high
 pub record IsReadableGrid (g : Sheet) : Type 0 where

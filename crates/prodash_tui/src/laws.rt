@@ -11,6 +11,7 @@ ghost use Rattle.prodash_tui.specs.Frames.{DrawsFirst, DrawsNext};
 ghost use Rattle.prodash_tui.specs.Grids.{blank_sheet, with_background, with_border, with_filling, with_shortened, with_text};
 ghost use Rattle.prodash_tui.specs.Rects.{intersect};
 ghost use Rattle.prodash_tui.specs.Screens.{DrawsEntered, DrawsFrames, Restores, RestoresFrames};
+ghost use Rattle.prodash_tui.specs.HeldCharacters.{KeepsToRows, ShowsOwnRows};
 ghost use Rattle.prodash_tui.specs.Reading.{DashboardsAreReadBack, FramesAreReadBack, HaveOneSpelling};
 ghost use Rattle.prodash_tui.specs.BoardRuns.{ShowsEachFrame, ShowsMainAgain};
 ghost use Rattle.prodash_core.specs.declared.render.tui.event.Line.{Line};
@@ -101,6 +102,14 @@ pub fn read_back()
     ensures one { HaveOneSpelling }
     ensures frames { FramesAreReadBack }
     ensures dashboards { DashboardsAreReadBack }
+{}
+
+/// Whatever columns a terminal gives characters: a frame writes into each row only characters of
+/// that row of its grid, and spaces. So after a frame that is written whole a row shows no others,
+/// whatever it showed before.
+pub fn rows_apart()
+    ensures next { (columns : ℕ → ℕ) → KeepsToRows columns }
+    ensures first { (columns : ℕ → ℕ) → ShowsOwnRows columns }
 {}
 
 /// A display that has entered the alternate screen and left it is as it was before, with its cursor
