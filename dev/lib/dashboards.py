@@ -195,7 +195,8 @@ class Dashboard:
 
     def draw_tasks(self, grid, area, rows):
         """Draws the tree and the progress of tasks, and scrolls no further than to the last."""
-        tree = 0 if area.width // 3 < 20 else self.tree_columns or area.width // 3
+        known = self.tree_columns or area.width // 3
+        tree = 0 if area.width // 3 < 20 else min(known, area.width // 2)
         overflows = area.height < len(rows)
         height = area.height - overflows
         first = self.tasks = min(self.tasks, max(len(rows) - height, 0))

@@ -113,8 +113,12 @@ third = refl
 pub too_narrow : tree_width (rect 0 0 59 3) 31 ≡ 0
 too_narrow = refl
 
-pub known : tree_width (rect 0 0 60 3) 31 ≡ 31
+pub known : tree_width (rect 0 0 60 3) 29 ≡ 29
 known = refl
+
+-- but at most half of the columns
+pub at_most_half : tree_width (rect 0 0 61 3) 31 ≡ 30
+at_most_half = refl
 
 -- of three rows one is shown on two lines; it is the last one if they are scrolled as far as they can be
 pub two_lines : rows_area rows (rect 0 0 60 2) ≡ rect 0 0 60 1

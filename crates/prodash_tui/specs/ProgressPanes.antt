@@ -164,9 +164,9 @@ rows_area rows area = record area { height = if overflows rows area then area.he
 abbrev pub rows_offset : List PathRow → Rect → ℕ → ℕ
 rows_offset rows area offset = sanitize_offset offset (length rows) (rows_area rows area).height
 
--- how many columns the tree has: a third of the pane's until its width is known, and none if that is less than 20
+-- how many columns the tree has: a third of the pane's until its width is known, none if that is less than 20, and never more than half of them
 abbrev pub tree_width : Rect → ℕ → ℕ
-tree_width area known = if nat_lt (area.width / 3) 20 then 0 else if known == 0 then area.width / 3 else known
+tree_width area known = if nat_lt (area.width / 3) 20 then 0 else if known == 0 then area.width / 3 else min known (area.width / 2)
 
 -- the tree on so many columns, if there are any
 abbrev pub with_tree_on : ℕ → List PathRow → Rect → ℕ → Sheet → Sheet

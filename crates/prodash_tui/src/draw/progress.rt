@@ -54,8 +54,8 @@ fn rows_area(rows: &[Row], area: Rect) -> Rect
     }
 }
 
-/// Returns how many columns the tree has, if this many are known: a third if none are, and none if
-/// a third is too few.
+/// Returns how many columns the tree has, if this many are known: a third if none are, none if a
+/// third is too few, and at most half, so that a long name leaves room for the bars.
 fn tree_width(area: Rect, known: u16) -> u16
     ensures { result ≡ panes.tree_width area known }
 {
@@ -65,7 +65,7 @@ fn tree_width(area: Rect, known: u16) -> u16
     } else if known == 0 {
         third
     } else {
-        known
+        known.min(area.width / 2)
     }
 }
 
