@@ -1,5 +1,5 @@
 //! The threads of a renderer: its event loop, its ticker, and the delay before rows are shown.
-ghost use Rattle.std.specs.Prelude.{IfErr};
+ghost use Rattle.std.specs.Prelude.{IfErr, IsOkUnless};
 ghost use Rattle.prodash_base.specs.Refusals.{RefusesThread};
 
 use crate::render::line::draw::{Answer, OverWrite, Screen};
@@ -101,27 +101,35 @@ pub fn render_with_stacks<
 ) -> Result<JoinHandle<R>, Refusal>
     ensures { IfErr result RefusesThread }
 {
-    let engine = Engine::new(
-        alloc,
-        OverWrite::new(out),
-        weak,
-        options.draw(),
-        options.throughput,
-    )?;
     let delay = options.initial_delay.unwrap_or(0);
     let shown = Arc::new(alloc, AtomicBool::new(delay == 0))?;
+    let engine = delayed_engine(alloc, out, weak, &options, &shown)?;
     let interval = options.nanoseconds_per_frame;
     let shared = Shared::new(rt, alloc, clock, Pending::new(), interval)?;
-    let delayed = DelayedEngine {
-        engine,
-        shown: Arc::try_clone(&shown)?,
-    };
-    let threads = start_threads(shared, delayed, stacks.event_loop, stacks.ticker)?;
+    let threads = start_threads(shared, engine, stacks.event_loop, stacks.ticker)?;
     if let Err(refusal) = start_delay(&threads.shared, shown, delay, stacks.delay) {
         threads.cancel();
         return Err(refusal);
     }
     Ok(JoinHandle::new(threads.begin()))
+}
+
+/// Returns an engine that draws over the lines of a writer, and hides its rows until they are shown.
+fn delayed_engine<O: Write + Drop, T: Root + Drop, W: WeakRoot<Root = T> + Drop>(
+    alloc: Global,
+    out: O,
+    weak: W,
+    options: &Options,
+    shown: &Arc<AtomicBool>,
+) -> Result<DelayedEngine<OverWrite<O>, W>, Refusal>
+    ensures { IsOkUnless result Refusal.Memory }
+{
+    let screen = OverWrite::new(out);
+    let shown = Arc::try_clone(shown)?;
+    Ok(DelayedEngine {
+        engine: Engine::new(alloc, screen, weak, options.draw(), options.throughput)?,
+        shown,
+    })
 }
 
 /// Starts the thread that shows the rows after a delay, if there is one.
