@@ -43,6 +43,7 @@ pub(crate) fn draw_frames<R: Wait + Clone + Drop>(
 }
 
 /// Draws the frame of this number.
+#[tactic(auto, using(prodash_core::proofs::AscendingRows::ascending_list))]
 fn draw_frame(
     dashboard: &mut Dashboard,
     alloc: Global,
