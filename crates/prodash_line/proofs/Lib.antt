@@ -41,6 +41,7 @@ pub mod NumberedCells
 pub mod ProperFrames
 pub mod RowParts
 pub mod Sequences
+pub mod Spellings
 pub mod SignPrefixes
 pub mod StyleCodes
 pub mod StyleParameters

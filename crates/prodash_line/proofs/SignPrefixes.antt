@@ -14,11 +14,8 @@ use Rattle.prodash_line.specs.Styles.{style_parameters}
 use Rattle.prodash_line.specs.Signs.{spelling_of, spelling, sequence, IsProper}
 use Rattle.prodash_line.specs.Reading.{AreProper, IsLongestPrefix}
 use Rattle.prodash_line.specs.plumbing.SignReading.{is_parameter, MakesNone, NoSequenceAt, NoSignAt}
-use Rattle.prodash_line.proofs.OneSpelling.{prefix_parameters, digits_parameters, style_is_parameters, spells_something, longest_prefix, one_spelling}
-
--- each of the bytes is a parameter byte
-abbrev pub AllParameters : List ℕ → Type 0
-AllParameters bs = AllByRecursion (λ b. is_parameter b ≡ true) bs
+use Rattle.prodash_line.proofs.OneSpelling.{style_is_parameters, spells_something, longest_prefix, one_spelling}
+use Rattle.prodash_line.proofs.Spellings.{AllParameters, decimal_parameters, prefix_parameters}
 
 -- the sequence of this sign, after ESC and an opening bracket
 record BeginsSequence (bytes : List ℕ) (s : Sign) (rest : List ℕ) : Type 0 where
@@ -41,7 +38,7 @@ begins_sequence (Char c) bytes rest p e =
     absurd (both_ways (is_control c) p.1 (ap is_control same))
 begins_sequence LineFeed bytes rest p e = absurd (omega (arith, ap (λ (t : List ℕ). get_or t 0 0) e))
 begins_sequence CarriageReturn bytes rest p e = absurd (omega (arith, ap (λ (t : List ℕ). get_or t 0 0) e))
-begins_sequence (Up n) bytes rest p e = let numeral = decimal_is_IsNumeral n (omega arith) in sequence_begins (decimal n) 65 (Up n) bytes rest refl (digits_parameters (decimal n) numeral.0.1) refl e
+begins_sequence (Up n) bytes rest p e = sequence_begins (decimal n) 65 (Up n) bytes rest refl (decimal_parameters n (omega arith)) refl e
 begins_sequence EraseLine bytes rest p e = sequence_begins (50 ∷ []) 75 EraseLine bytes rest refl (refl, tt) refl e
 begins_sequence EraseBelow bytes rest p e = sequence_begins [] 74 EraseBelow bytes rest refl tt refl e
 begins_sequence HideCursor bytes rest p e = sequence_begins (63 ∷ 50 ∷ 53 ∷ []) 108 HideCursor bytes rest refl (refl, (refl, (refl, tt))) refl e

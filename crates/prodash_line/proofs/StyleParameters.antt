@@ -1,10 +1,8 @@
 -- The parameters of a style: its codes in decimal, with `;` between each two, and read back from those.
-use Rattle.std.proofs.Common.{◌≡◌, ◌≢◌, ℕ, ◌+◌, ◌^◌, ◌<◌, false, eqb, Option, Some, None, List, [], ◌∷◌, ◌++◌, length, get_or, take, drop, map, refl, sym, ap, ◌∙◌, append_assoc, arith}
-use Rattle.std.specs.List.{AllByRecursion, All, cons_option, filter_map, join_with_byte, slice_split}
-use Rattle.std.specs.Char.{digit_value}
+use Rattle.std.proofs.Common.{◌≡◌, ◌≢◌, ℕ, ◌+◌, ◌^◌, ◌<◌, eqb, Option, Some, None, List, [], ◌∷◌, ◌++◌, length, get_or, take, drop, map, refl, sym, ap, ◌∙◌, append_assoc, arith}
+use Rattle.std.specs.List.{AllByRecursion, cons_option, filter_map, join_with_byte, slice_split}
 use Rattle.std.specs.Fmt.{decimal}
-use Rattle.std.specs.Str.Parse.{AllDigits, digits_value}
-use Rattle.std.proofs.lemmas.Bool.Decides.{nat_tests}
+use Rattle.std.specs.Str.Parse.{digits_value}
 use Rattle.std.proofs.lemmas.Fmt.{decimal_is_IsNumeral}
 use Rattle.std.proofs.lemmas.List.{take_more, drop_more, take-append-drop, take_all, map_push, take-map, get_or-map, length-map, append-nil}
 use Rattle.std.proofs.lemmas.List.Elements.{All-from_recursion, filter_map-append}
@@ -12,28 +10,18 @@ use Rattle.std.proofs.lemmas.List.Splits.{slice_split_none, slice_split_at, join
 use Rattle.prodash_line.specs.declared.render.line.page.style.Style.{Style}
 use Rattle.prodash_line.specs.Styles.{style_codes, style_parameters}
 use Rattle.prodash_line.specs.plumbing.SignReading.{NoStyle}
+use Rattle.prodash_line.proofs.Spellings.{decimal_not_semicolon}
 use Rattle.prodash_line.proofs.StyleCodes.{IsCode, are_codes}
 
 -- the parts of parameters between semicolons
 abbrev pub parts_of : List ℕ → List (List ℕ)
 parts_of parameters = slice_split (λ b. eqb b 59) parameters
 
--- digits are no semicolon
-digit_not_semicolon : (c : ℕ) → digit_value c < 10 → eqb c 59 ≡ false
-digit_not_semicolon c h = grind (arith, nat_tests)
-
-digits_not_semicolon : (p : List ℕ) → AllDigits 10 p → AllByRecursion (λ b. eqb b 59 ≡ false) p
-digits_not_semicolon [] h = tt
-digits_not_semicolon (c ∷ p) h = (digit_not_semicolon c h.0, digits_not_semicolon p h.1)
-
-decimal_not_semicolon : (code : ℕ) → IsCode code → All (λ b. eqb b 59 ≡ false) (decimal code)
-decimal_not_semicolon code h = All-from_recursion (λ b. eqb b 59 ≡ false) (decimal code) (digits_not_semicolon (decimal code) (decimal_is_IsNumeral code (omega arith)).0.1)
-
 -- the parts are the codes in decimal
 parts_of-join : (code : ℕ) (codes : List ℕ) → AllByRecursion IsCode (code ∷ codes) → parts_of (join_with_byte 59 (map decimal (code ∷ codes))) ≡ map decimal (code ∷ codes)
-parts_of-join code [] h = slice_split_none (λ b. eqb b 59) (decimal code) (decimal_not_semicolon code h.0)
+parts_of-join code [] h = slice_split_none (λ b. eqb b 59) (decimal code) (decimal_not_semicolon code (omega (arith, h.0.1)))
 parts_of-join code (next ∷ codes) h =
-    slice_split_at (λ b. eqb b 59) (decimal code) 59 (join_with_byte 59 (map decimal (next ∷ codes))) (decimal_not_semicolon code h.0) refl
+    slice_split_at (λ b. eqb b 59) (decimal code) 59 (join_with_byte 59 (map decimal (next ∷ codes))) (decimal_not_semicolon code (omega (arith, h.0.1))) refl
     ∙ ap (λ (parts : List (List ℕ)). decimal code ∷ parts) (parts_of-join next codes h.1)
 
 some_codes : (codes : List ℕ) → AllByRecursion IsCode codes → codes ≢ [] → parts_of (join_with_byte 59 (map decimal codes)) ≡ map decimal codes

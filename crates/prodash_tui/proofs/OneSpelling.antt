@@ -16,7 +16,7 @@ use Rattle.std.proofs.lemmas.Str.{encode_same, char_from_byte, length-encode, le
 use Rattle.prodash_line.specs.Signs.{sequence}
 use Rattle.prodash_line.specs.plumbing.SignReading.{is_parameter}
 use Rattle.prodash_line.proofs.Lists.{AllByRecursion-append}
-use Rattle.prodash_line.proofs.OneSpelling.{prefix_parameters, digits_parameters}
+use Rattle.prodash_line.proofs.Spellings.{AllParameters, BeginsWithControl, decimal_not_semicolon, decimal_parameters, lists_have_one_spelling, no_char_begins, read_back_once, read_sequence, sequence_is_read}
 use Rattle.prodash_line.proofs.StyleParameters.{parts_of}
 use Rattle.prodash_tui.specs.declared.sign.Sign.{Sign}
 use Rattle.prodash_tui.specs.declared.sign.Sign.TheVariants.{Char, MoveTo, SetStyle, EraseScreen, EnterAlternate, LeaveAlternate, HideCursor, ShowCursor, NoWrap, Wrap}
@@ -126,20 +126,20 @@ color_small White = omega arith
 color_small LightRed = omega arith
 
 -- codes are parameter bytes
-fore_is_parameters : (f : Option Color) → AllByRecursion (λ b. is_parameter b ≡ true) (fore f)
+fore_is_parameters : (f : Option Color) → AllParameters (fore f)
 fore_is_parameters None = tt
-fore_is_parameters (Some c) = (refl, digits_parameters (decimal (30 + color_number c)) (decimal_is_IsNumeral (30 + color_number c) (omega (arith, color_small c))).0.1)
+fore_is_parameters (Some c) = (refl, decimal_parameters (30 + color_number c) (omega (arith, color_small c)))
 
-back_is_parameters : (b : Option Color) → AllByRecursion (λ b. is_parameter b ≡ true) (back b)
+back_is_parameters : (b : Option Color) → AllParameters (back b)
 back_is_parameters None = tt
-back_is_parameters (Some c) = (refl, digits_parameters (decimal (40 + color_number c)) (decimal_is_IsNumeral (40 + color_number c) (omega (arith, color_small c))).0.1)
+back_is_parameters (Some c) = (refl, decimal_parameters (40 + color_number c) (omega (arith, color_small c)))
 
-bold_is_parameters : (bold : Bool) → AllByRecursion (λ b. is_parameter b ≡ true) (code_parameter (then_some bold 1))
+bold_is_parameters : (bold : Bool) → AllParameters (code_parameter (then_some bold 1))
 unfolding digits
 bold_is_parameters true = (refl, (refl, tt))
 bold_is_parameters false = tt
 
-style_is_parameters : (s : Style) → AllByRecursion (λ b. is_parameter b ≡ true) (style_parameters s)
+style_is_parameters : (s : Style) → AllParameters (style_parameters s)
 style_is_parameters s =
     let each = λ (b : ℕ). is_parameter b ≡ true in (
       refl,
@@ -147,27 +147,16 @@ style_is_parameters s =
           (AllByRecursion-append each (fore s.foreground) _ (fore_is_parameters s.foreground) (back_is_parameters s.background)),
     )
 
-move_is_parameters : (row column : ℕ) → row < 2 ^ 16 → column < 2 ^ 16 → AllByRecursion (λ b. is_parameter b ≡ true) (move_parameters row column)
+move_is_parameters : (row column : ℕ) → row < 2 ^ 16 → column < 2 ^ 16 → AllParameters (move_parameters row column)
 move_is_parameters row column low near =
-    AllByRecursion-append (λ b. is_parameter b ≡ true) (decimal (row + 1)) _ (digits_parameters (decimal (row + 1)) (decimal_is_IsNumeral (row + 1) (omega arith)).0.1)
-    (refl, digits_parameters (decimal (column + 1)) (decimal_is_IsNumeral (column + 1) (omega arith)).0.1)
-
--- digits are no semicolon
-digit_not_semicolon : (c : ℕ) → digit_value c < 10 → (c == 59) ≡ false
-digit_not_semicolon c h = grind (arith, nat_tests)
-
-digits_not_semicolon : (p : List ℕ) → AllDigits 10 p → AllByRecursion (λ b. (b == 59) ≡ false) p
-digits_not_semicolon [] h = tt
-digits_not_semicolon (c ∷ p) h = (digit_not_semicolon c h.0, digits_not_semicolon p h.1)
-
-decimal_not_semicolon : (n : ℕ) → n ≤ 2 ^ 16 → All (λ b. (b == 59) ≡ false) (decimal n)
-decimal_not_semicolon n small = All-from_recursion (λ b. (b == 59) ≡ false) (decimal n) (digits_not_semicolon (decimal n) (decimal_is_IsNumeral n (omega arith)).0.1)
+    AllByRecursion-append (λ b. is_parameter b ≡ true) (decimal (row + 1)) _ (decimal_parameters (row + 1) (omega arith))
+    (refl, decimal_parameters (column + 1) (omega arith))
 
 -- the parts of a motion are its numbers
 parts_of-move : (row column : ℕ) → row < 2 ^ 16 → column < 2 ^ 16 → parts_of (move_parameters row column) ≡ decimal (row + 1) ∷ decimal (column + 1) ∷ []
 parts_of-move row column low near =
-    slice_split_at (λ b. b == 59) (decimal (row + 1)) 59 (decimal (column + 1)) (decimal_not_semicolon (row + 1) (omega arith)) refl
-    ∙ ap (λ (parts : List (List ℕ)). decimal (row + 1) ∷ parts) (slice_split_none (λ b. b == 59) (decimal (column + 1)) (decimal_not_semicolon (column + 1) (omega arith)))
+    slice_split_at (λ b. eqb b 59) (decimal (row + 1)) 59 (decimal (column + 1)) (decimal_not_semicolon (row + 1) (omega arith)) refl
+    ∙ ap (λ (parts : List (List ℕ)). decimal (row + 1) ∷ parts) (slice_split_none (λ b. eqb b 59) (decimal (column + 1)) (decimal_not_semicolon (column + 1) (omega arith)))
 
 -- ---- signs by their bytes
 
@@ -188,24 +177,12 @@ candidate parameters final_byte =
 
 -- the sign other than a character that the bytes begin with, if they do
 abbrev unspell : List ℕ → Sign
-unspell bytes =
-    let rest = drop 2 bytes in
-    candidate (take (prefix_len is_parameter rest) rest) (get_or rest (prefix_len is_parameter rest) 0)
+unspell bytes = read_sequence candidate (drop 2 bytes)
 
 -- a sign that is no character
 abbrev IsOther : Sign → Type 0
 IsOther (Char c) = ⊥
 IsOther _ = Unit {0}
-
--- a sequence, read back from its bytes
-unspell_sequence : (parameters : List ℕ) (final_byte : ℕ) (x : List ℕ) → AllByRecursion (λ b. is_parameter b ≡ true) parameters → is_parameter final_byte ≡ false → unspell (sequence parameters final_byte ++ x) ≡ candidate parameters final_byte
-unspell_sequence parameters final_byte x each other =
-    let text : (parameters ++ final_byte ∷ []) ++ x ≡ parameters ++ final_byte ∷ x = append_assoc parameters (final_byte ∷ []) x in
-    let size : prefix_len is_parameter (parameters ++ final_byte ∷ x) ≡ length parameters = prefix_parameters parameters final_byte x each other in
-    ap (λ (t : List ℕ). candidate (take (prefix_len is_parameter t) t) (get_or t (prefix_len is_parameter t) 0)) text
-    ∙ ap (λ (k : ℕ). candidate (take k (parameters ++ final_byte ∷ x)) (get_or (parameters ++ final_byte ∷ x) k 0)) size
-    ∙ ap (λ (t : List ℕ). candidate t (get_or (parameters ++ final_byte ∷ x) (length parameters) 0)) (take_at parameters (final_byte ∷ x) (length parameters) refl)
-    ∙ ap (candidate parameters) (get_or_at parameters final_byte x 0 (length parameters) refl)
 
 -- a number, one more in decimal
 number_back : (n : ℕ) → n < 2 ^ 16 → digits_value 10 (decimal (n + 1)) - 1 ≡ n
@@ -215,11 +192,11 @@ number_back n small = omega (arith, (decimal_is_IsNumeral (n + 1) (omega arith))
 unspell_other : (s : Sign) (x : List ℕ) → IsOther s → IsReadable s → unspell (spelling_of s ++ x) ≡ s
 unspell_other (Char c) x o p = absurd o
 unspell_other (MoveTo row column) x o p =
-    unspell_sequence (move_parameters row column) 72 x (move_is_parameters row column p.0 p.1) refl
+    sequence_is_read candidate (move_parameters row column) 72 x (move_is_parameters row column p.0 p.1) refl
     ∙ ap (λ (parts : List (List ℕ)). MoveTo (place_at parts 0) (place_at parts 1)) (parts_of-move row column p.0 p.1)
     ∙ (λ i. MoveTo (number_back row p.0 i) (number_back column p.1 i))
 unspell_other (SetStyle style) x o p =
-    unspell_sequence (style_parameters style) 109 x (style_is_parameters style) refl ∙ ap SetStyle (style_of-codes style.bold style.foreground style.background)
+    sequence_is_read candidate (style_parameters style) 109 x (style_is_parameters style) refl ∙ ap SetStyle (style_of-codes style.bold style.foreground style.background)
 unspell_other EraseScreen x o p = refl
 unspell_other EnterAlternate x o p = refl
 unspell_other LeaveAlternate x o p = refl
@@ -228,30 +205,17 @@ unspell_other ShowCursor x o p = refl
 unspell_other NoWrap x o p = refl
 unspell_other Wrap x o p = refl
 
--- the first byte of a sign other than a character is that of a control character
-first_other : (s : Sign) (x : List ℕ) → IsOther s → (get_or (spelling_of s ++ x) 0 0 < 128) × (0 < length (spelling_of s ++ x)) × (is_control (get_or (spelling_of s ++ x) 0 0) ≡ true)
-first_other (Char c) x o = absurd o
-first_other _ x o = (omega arith, omega arith, refl)
-
--- a character's spelling begins no other sign's
-char_other : (c : ℕ) (s : Sign) (x y : List ℕ) → is_control c ≡ false → IsOther s → encode_utf8 c ++ x ≡ spelling_of s ++ y → ⊥
-char_other c s x y p o e =
-    let first = first_other s y o in
-    let same : c ≡ get_or (spelling_of s ++ y) 0 0 = char_from_byte (spelling_of s ++ y) x c (sym e) first.0 first.1 in
-    both_ways (is_control c) p (ap is_control same ∙ first.2)
-
--- bytes begin with at most one readable sign that is no character
-others_same : (s t : Sign) (x y : List ℕ) → IsReadable s → IsReadable t → IsOther s → IsOther t → spelling_of s ++ x ≡ spelling_of t ++ y → (s ≡ t) × (x ≡ y)
-others_same s t x y p q o r e =
-    let same : s ≡ t = sym (unspell_other s x o p) ∙ ap unspell e ∙ unspell_other t y r q in
-    (same, append_cancel_left (spelling_of t) x y (ap (λ (u : Sign). spelling_of u ++ x) (sym same) ∙ e))
+-- a sign other than a character begins with a control character
+other_begins : (s : Sign) (x : List ℕ) → IsOther s → BeginsWithControl (spelling_of s ++ x)
+other_begins (Char c) x o = absurd o
+other_begins _ x o = (omega arith, omega arith, refl)
 
 -- bytes begin with at most one readable sign
 one_sign : (s t : Sign) (x y : List ℕ) → IsReadable s → IsReadable t → spelling_of s ++ x ≡ spelling_of t ++ y → (s ≡ t) × (x ≡ y)
 one_sign (Char c) (Char d) x y p q e = let same = encode_same c d x y e in (ap (λ (b : ℕ). Char b) same.0, same.1)
-one_sign (Char c) t x y p q e = absurd (char_other c t x y p tt e)
-one_sign s (Char d) x y p q e = absurd (char_other d s y x q tt (sym e))
-one_sign s t x y p q e = others_same s t x y p q tt tt e
+one_sign (Char c) t x y p q e = absurd (no_char_begins c (spelling_of t ++ y) x p (other_begins t y tt) e)
+one_sign s (Char d) x y p q e = absurd (no_char_begins d (spelling_of s ++ x) y q (other_begins s x tt) (sym e))
+one_sign s t x y p q e = read_back_once spelling_of unspell s t x y (unspell_other s x tt p) (unspell_other t y tt q) e
 
 -- no sign is spelled by no bytes
 spells_something : (s : Sign) → 0 < length (spelling_of s)
@@ -260,10 +224,4 @@ spells_something _ = omega arith
 
 -- no two lists of readable signs are spelled by the same bytes
 pub one_spelling : (ss ts : List Sign) → AreReadable ss → AreReadable ts → spelling ss ≡ spelling ts → ss ≡ ts
-one_spelling [] [] p q e = refl
-one_spelling [] (t ∷ ts) p q e = absurd (omega (arith, ap length e, length-append (spelling_of t) (spelling ts), spells_something t))
-one_spelling (s ∷ ss) [] p q e = absurd (omega (arith, ap length e, length-append (spelling_of s) (spelling ss), spells_something s))
-one_spelling (s ∷ ss) (t ∷ ts) p q e =
-    let same = one_sign s t (spelling ss) (spelling ts) p.0 q.0 e in
-    let rest : ss ≡ ts = one_spelling ss ts p.1 q.1 same.1 in
-    ap (λ (u : Sign). u ∷ ss) same.0 ∙ ap (λ (us : List Sign). t ∷ us) rest
+one_spelling ss ts p q e = lists_have_one_spelling IsReadable spelling_of one_sign spells_something ss ts p q e
