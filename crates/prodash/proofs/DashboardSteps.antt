@@ -1,12 +1,8 @@
 -- A step of a dashboard's engine that hands on to its parts.
 use Rattle.std.proofs.Common.{◌≡◌, ℕ, Bool, true, false, cond, ◌&&◌, nat_eq, List, [], ◌∷◌, ◌++◌, length, Option, Some, None, Result, Ok, Err, refl, sym, ap, subst, ◌∙◌, append-nil, true≢false}
 use Rattle.std.specs.Global.{Vec}
-use Rattle.std.specs.Map.{keys_of}
 use Rattle.std.specs.Option.{option_map}
-use Rattle.prodash_base.specs.Adjacency.{IsAscending, paths_of}
-use Rattle.prodash_base.specs.Rows.{PathRow, rows_of}
 use Rattle.prodash_base.specs.declared.messages.Message.{Message}
-use Rattle.prodash_base.specs.declared.progress.Row.{Row}
 use Rattle.prodash_base.specs.declared.refusal.Refusal.{Refusal}
 use Rattle.prodash_base.specs.declared.refusal.Refusal.TheVariants as refusals
 use Rattle.prodash_line.specs.Renderer.{Seen}
@@ -18,6 +14,7 @@ use Rattle.prodash_core.specs.declared.render.tui.event.Event.{Event}
 use Rattle.prodash_core.specs.declared.render.tui.event.Line.{Line}
 use Rattle.prodash_core.specs.declared.render.tui.options.Options.{Options}
 use Rattle.prodash_core.specs.declared.render.tui.state.State.{State}
+use Rattle.prodash_core.proofs.AscendingRows.{ascending_list}
 use Rattle.prodash_tui.specs.declared.dashboard.contents.Contents.{Contents}
 use Rattle.prodash_tui.specs.declared.dashboard.phase.Phase.{Phase}
 use Rattle.prodash_tui.specs.declared.dashboard.phase.Phase.TheVariants.{Running, Stopped, Closed}
@@ -41,16 +38,6 @@ module _ {S W : Type 0} where
       → e.screen ≡ screen → e.weak ≡ weak → e ≡ new_engine options information size screen weak
   has_new_parts e options information size screen weak board stops is_screen is_weak =
       λ i. record { board = board i; stops_without_rows = stops i; screen = is_screen i; weak = is_weak i }
-
--- ---- rows
-
-keys_of_rows : (rows : List Row) → keys_of (rows_of rows) ≡ paths_of rows
-keys_of_rows [] = refl
-keys_of_rows (r ∷ rows) = ap (λ paths. r.key ∷ paths) (keys_of_rows rows)
-
--- the rows of a look are in ascending order
-pub rows_ascend : (rows : List Row) (seen : List PathRow) → rows_of rows ≡ seen → IsAscending (keys_of seen) → IsAscending (paths_of rows)
-rows_ascend rows seen same up = subst IsAscending (ap keys_of (sym same) ∙ keys_of_rows rows) up
 
 -- ---- a size that a dashboard is to take
 
@@ -393,7 +380,7 @@ pub told_quit : (b : Board) (at : ℕ) (e : EngineEvent) → e ≡ Quit at → �
 told_quit b at e of = subst (λ x. ◌≡◌ {A = Board × Answer} (b, Stop) (told b x)) (sym of) refl
 
 -- the parts of a step
-pub ruleset writing = (left_whole, left_broken, frame_whole, frame_broken, rows_ascend, sized_runs, sized_closed)
+pub ruleset writing = (left_whole, left_broken, frame_whole, frame_broken, ascending_list, sized_runs, sized_closed)
 
 pub ruleset drawing = (does_end_unseen, engine_ends, engine_shows)
 
