@@ -7,7 +7,7 @@ mod start;
 mod ticker;
 
 pub(crate) use event_loop::Serve;
-pub(crate) use handle::RendererHandle;
-pub(crate) use mailbox::Requests;
+pub use handle::RendererHandle;
+pub use mailbox::Requests;
 pub(crate) use start::{DEFAULT_STACK, start_threads};
 pub(crate) use ticker::Shared;

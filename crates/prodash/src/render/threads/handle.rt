@@ -1,16 +1,17 @@
-//! What the handles of renderers have in common.
+//! The handle of a renderer.
 use crate::render::threads::mailbox::{Mailbox, Requests};
 use prodash_base::Refusal;
 use std::sync::{Arc, Wait};
 use std::thread;
 use std::thread::Threads;
 
-/// Ends a renderer that draws from a thread of its own, and waits for it. Dropping it requests a
-/// last frame and the closing frame, and waits until the event loop has ended.
-pub(crate) struct RendererHandle<
-    R: Wait + Threads + Clone + Drop,
-    Q: Requests<Request: Drop> + Drop,
-> {
+/// The handle of a renderer that draws from a thread of its own. Dropping it requests a last frame
+/// and the closing frame, and waits until the event loop has ended.
+///
+/// All calls except `disconnect` and `forget` may wait for the lock of the renderer's mailbox.
+/// `wait`, `shutdown_and_wait` and the drop wait until the event loop has ended, unless the handle
+/// has forgotten it. A `Q` has the requests that the event loop hasn't taken yet.
+pub struct RendererHandle<R: Wait + Threads + Clone + Drop, Q: Requests<Request: Drop> + Drop> {
     rt: R,
     mailbox: Arc<Mailbox<Q>>,
     /// The event loop, if its end is to be waited for.
@@ -46,32 +47,54 @@ impl<R: Wait + Threads + Clone + Drop, Q: Requests<Request: Drop> + Drop> Render
     }
 
     /// Returns whether the event loop runs.
-    pub(crate) fn is_running(&self) -> bool {
+    pub(crate) fn is_event_loop_running(&self) -> bool {
         self.mailbox.is_running(&self.rt)
     }
 
-    /// Stops the handle from requesting anything more.
-    pub(crate) fn disconnect(&mut self) {
+    /// Waits until the event loop has ended, unless the handle has forgotten it.
+    fn join(&mut self) {
+        if let Some(event_loop) = self.event_loop.take() {
+            event_loop.join(&self.rt);
+        }
+    }
+
+    /// Detaches the renderer: `disconnect` and `forget`. It runs until it ends by itself.
+    pub fn detach(mut self) {
+        self.disconnect();
+        self.forget();
+    }
+
+    /// Stops the handle from requesting anything more, also the end of the renderer. Its drop still
+    /// waits for the event loop, unless that is forgotten.
+    pub fn disconnect(&mut self) {
         self.is_connected = false;
     }
 
-    /// Stops the handle from waiting for the event loop.
-    pub(crate) fn forget(&mut self) {
+    /// Stops the handle from waiting for the event loop. Its drop still requests the end of the
+    /// renderer, unless it is disconnected.
+    pub fn forget(&mut self) {
         self.event_loop = None;
     }
 
-    /// Requests a last frame and the closing frame, unless the handle is disconnected.
-    pub(crate) fn shutdown(&mut self) {
+    /// Waits until the event loop has ended by itself: its root is gone, its output is broken, it
+    /// saw no rows and is to stop then, or it is a dashboard that was left.
+    pub fn wait(mut self) {
+        self.join();
+    }
+
+    /// Requests a last frame and the closing frame, unless the handle is disconnected. Doesn't wait
+    /// for them.
+    pub fn shutdown(&mut self) {
         if self.is_connected {
             self.mailbox.request_quit(&self.rt);
         }
     }
 
-    /// Waits until the event loop has ended, unless the handle has forgotten it.
-    pub(crate) fn join(&mut self) {
-        if let Some(event_loop) = self.event_loop.take() {
-            event_loop.join(&self.rt);
-        }
+    /// Requests a last frame and the closing frame, unless the handle is disconnected, and waits
+    /// until the event loop has ended.
+    pub fn shutdown_and_wait(mut self) {
+        self.shutdown();
+        self.join();
     }
 }
 

@@ -3,7 +3,7 @@ use prodash_base::Refusal;
 use std::sync::{Condvar, Mutex, Wait};
 
 /// Requests to an event loop.
-pub(crate) trait Requests {
+pub trait Requests {
     type Request;
 
     /// Returns whether there are none.
@@ -51,7 +51,7 @@ struct Pending<Q: Requests<Request: Drop> + Drop> {
 
 /// The requests to one event loop.
 #[derive(Drop)]
-pub(crate) struct Mailbox<Q: Requests<Request: Drop> + Drop> {
+pub struct Mailbox<Q: Requests<Request: Drop> + Drop> {
     pending: Mutex<Pending<Q>>,
     changed: Condvar,
 }

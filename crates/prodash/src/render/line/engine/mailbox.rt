@@ -7,7 +7,7 @@ use prodash_base::Refusal;
 
 /// A request to the event loop.
 #[derive(Clone, Copy, Debug)]
-pub(crate) enum Request {
+pub enum Request {
     /// Set the size of the terminal to these columns and rows.
     Resize(u16, u16),
     /// Draw a frame.
@@ -19,7 +19,7 @@ pub(crate) enum Request {
 /// The requests that the event loop has not taken yet. A request takes no memory: a size replaces
 /// an earlier size, and a tick or a quit that is already requested stays requested once.
 #[derive(Drop)]
-pub(crate) struct Pending {
+pub struct Pending {
     /// The size that was requested last, in columns and rows.
     size: Option<(u16, u16)>,
     tick: bool,

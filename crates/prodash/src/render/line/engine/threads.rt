@@ -111,7 +111,7 @@ pub fn render_with_stacks<
         threads.cancel();
         return Err(refusal);
     }
-    Ok(JoinHandle::new(threads.begin()))
+    Ok(threads.begin())
 }
 
 /// Returns an engine that draws over the lines of a writer, and hides its rows until they are shown.

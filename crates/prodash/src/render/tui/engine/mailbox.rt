@@ -7,7 +7,7 @@ use std::collections::VecDeque;
 
 /// A request to the event loop.
 #[derive(Drop)]
-pub(crate) enum Request {
+pub enum Request {
     /// Hand an event to the dashboard.
     Handle(Event),
     /// Set the size of the terminal to these columns and rows.
@@ -21,7 +21,7 @@ pub(crate) enum Request {
 /// The requests that the event loop has not taken yet. Those that are sent take memory; a tick and
 /// a quit don't.
 #[derive(Drop)]
-pub(crate) struct Queue {
+pub struct Queue {
     /// Those that were sent, the earliest first.
     sent: VecDeque<Request>,
     /// How many of them come before the tick, if one is requested.

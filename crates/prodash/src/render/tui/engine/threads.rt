@@ -119,7 +119,7 @@ pub fn render_with_stacks<
     let engine = Engine::new(alloc, OverWrite::new(out), weak, options, size);
     let shared = Shared::new(rt, alloc, clock, Queue::new(alloc), interval)?;
     let threads = start_threads(shared, engine, stacks.event_loop, stacks.ticker)?;
-    Ok(JoinHandle::new(threads.begin()))
+    Ok(threads.begin())
 }
 
 impl<S: Screen, W: WeakRoot> Serve<Request> for Engine<S, W>
