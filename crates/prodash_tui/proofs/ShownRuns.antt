@@ -83,22 +83,22 @@ next_size s c =
     record { width = sym size.width; height = sym size.height }
 
 -- a frame of a run is shown
-drawing_shows : (r : Run) (c : Contents) → Follows r → (after_drawing c r).display.grid ≡ next_grid r.board c
+drawing_shows : (r : Run) (c : Contents) → Follows r → (after_drawing char_columns c r).display.grid ≡ next_grid r.board c
 drawing_shows r c follows =
     frame_shows r.board.screen r.board.width r.board.height r.display (next_grid r.board c) follows.agrees
     (next_fits r.board c r.display follows.size.width follows.size.height)
 
 -- an event changes neither the size nor the screen
-record Stays (s t : Board) : Type 0 where
-  width : s.width ≡ t.width
-  height : s.height ≡ t.height
-  screen : s.screen ≡ t.screen
+pub record Stays (s t : Board) : Type 0 where
+  pub width : s.width ≡ t.width
+  pub height : s.height ≡ t.height
+  pub screen : s.screen ≡ t.screen
 
 either_stays : (running : Bool) (a b : Board × Answer) (s : Board) → Stays s a.0 → Stays s b.0 → Stays s (cond running a b).0
 either_stays true a b s first second = first
 either_stays false a b s first second = second
 
-handled_stays : (s : Board) (e : Event) → Stays s (handled s e).0
+pub handled_stays : (s : Board) (e : Event) → Stays s (handled s e).0
 handled_stays s e =
     either_stays (is_running s) (handled_running s (handle s.state e)) (s, Stop) s (record { width = refl; height = refl; screen = refl })
     (record { width = refl; height = refl; screen = refl })
@@ -108,7 +108,7 @@ resized_agrees : (screen : Option Buffers) (width height : ℕ) (d : Display) �
 resized_agrees None width height d = tt
 resized_agrees (Some b) width height d = λ is. cc
 
-step_follows : (s : Step) (r : Run) → Follows r → Follows (after_step s r)
+step_follows : (s : Step) (r : Run) → Follows r → Follows (after_step char_columns s r)
 step_follows (Handles e) r follows =
     let stays = handled_stays r.board e in
     record {
@@ -130,14 +130,14 @@ step_follows (Draws c) r follows =
       agrees = λ _. (fits.proper, shown);
     }
 
-steps_follow : (steps : List Step) (r : Run) → Follows r → Follows (after_steps steps r)
+steps_follow : (steps : List Step) (r : Run) → Follows r → Follows (after_steps char_columns steps r)
 steps_follow [] r follows = follows
-steps_follow (s ∷ steps) r follows = steps_follow steps (after_step s r) (step_follows s r follows)
+steps_follow (s ∷ steps) r follows = steps_follow steps (after_step char_columns s r) (step_follows s r follows)
 
 pub shows_each_frame : ShowsEachFrame
 shows_each_frame r steps c none size =
     let agrees : Agree r.board.screen r.display = subst (λ (screen : Option Buffers). Agree screen r.display) (sym none) tt in
-    drawing_shows (after_steps steps r) c (steps_follow steps r (record { size = size; agrees = agrees }))
+    drawing_shows (after_steps char_columns steps r) c (steps_follow steps r (record { size = size; agrees = agrees }))
 
 -- ---- the main screen is shown again
 
@@ -168,7 +168,7 @@ resized_entered : (screen : Option Buffers) (width height : ℕ) → is_some scr
 resized_entered None width height entered = entered
 resized_entered (Some b) width height entered = refl
 
-step_keeps : (m : Kept) (s : Step) (r : Run) → Keeps m r → Keeps m (after_step s r)
+step_keeps : (m : Kept) (s : Step) (r : Run) → Keeps m r → Keeps m (after_step char_columns s r)
 step_keeps m (Handles e) r keeps = record {
   entered = subst (λ (screen : Option Buffers). is_some screen ≡ true) (handled_stays r.board e).screen keeps.entered;
   main = keeps.main;
@@ -179,9 +179,9 @@ step_keeps m (Draws c) r keeps = record {
   main = frame_keeps r.board.screen r.board.width r.board.height r.display (next_grid r.board c) keeps.entered ∙ keeps.main;
 }
 
-steps_keep : (m : Kept) (steps : List Step) (r : Run) → Keeps m r → Keeps m (after_steps steps r)
+steps_keep : (m : Kept) (steps : List Step) (r : Run) → Keeps m r → Keeps m (after_steps char_columns steps r)
 steps_keep m [] r keeps = keeps
-steps_keep m (s ∷ steps) r keeps = steps_keep m steps (after_step s r) (step_keeps m s r keeps)
+steps_keep m (s ∷ steps) r keeps = steps_keep m steps (after_step char_columns s r) (step_keeps m s r keeps)
 
 -- what is left then
 closes : (screen : Option Buffers) (d e : Display) → is_some screen ≡ true → d.main ≡ None → e.main ≡ Some (d.grid, d.cursor)
@@ -191,7 +191,7 @@ closes (Some b) d e entered none kept = left_again char_columns d e none kept
 
 pub shows_main_again : ShowsMainAgain
 shows_main_again r c steps none main =
-    let first = after_drawing c r in
+    let first = after_drawing char_columns c r in
     let keeps = steps_keep (Some (r.display.grid, r.display.cursor)) steps first
     (record { entered = refl; main = frame_enters r.board.screen r.board.width r.board.height r.display (next_grid r.board c) none main }) in
-    closes (after_steps steps first).board.screen r.display (after_steps steps first).display keeps.entered main keeps.main
+    closes (after_steps char_columns steps first).board.screen r.display (after_steps char_columns steps first).display keeps.entered main keeps.main
