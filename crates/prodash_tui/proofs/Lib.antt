@@ -32,6 +32,13 @@ pub mod KeptProgress
 pub mod FittingGrids
 pub mod HeldCharacters
 pub mod RowsApart
+pub mod StandingRows
+pub mod StandingCharacters
+pub mod StandingChanges
+pub mod StandingFrames
+pub mod StandingRuns
+pub mod CertainColumns
+pub mod WorkedWidths
 pub mod ReadableGrids
 pub mod WorkedDashboards
 pub mod WorkedBoards

@@ -35,7 +35,7 @@ Knows (Some cursor) d = d.cursor ≡ cursor
 
 -- ---- motions and styles
 
-abbrev moved_to : ℕ → ℕ → Display → Display
+abbrev pub moved_to : ℕ → ℕ → Display → Display
 moved_to row column d = record d { cursor = record d.cursor { row = row; column = column } }
 
 -- a motion inside the display
@@ -45,7 +45,7 @@ move_inside columns row column d low left =
     let c : min column (d.grid.width - 1) ≡ column = omega arith in
     λ i. moved_to (r i) (c i) d
 
-moved : (columns : ℕ → ℕ) (row column : ℕ) (k : Option Cursor) (d : Display) → Knows k d → row < d.grid.height → column < d.grid.width
+pub moved : (columns : ℕ → ℕ) (row column : ℕ) (k : Option Cursor) (d : Display) → Knows k d → row < d.grid.height → column < d.grid.width
     → after_signs columns (motion row column k) d ≡ moved_to row column d
 moved columns row column None d knows low left = move_inside columns row column d low left
 moved columns row column (Some cursor) d knows low left =
@@ -60,19 +60,19 @@ moved columns row column (Some cursor) d knows low left =
     ] in
     go (is_at row column cursor) refl
 
-abbrev styled_by : Style → Display → Display
+abbrev pub styled_by : Style → Display → Display
 styled_by style d = record d { cursor = record d.cursor { style = style } }
 
 -- the present style is the known one
-abbrev KnowsStyle : Option Cursor → Display → Type 0
+abbrev pub KnowsStyle : Option Cursor → Display → Type 0
 KnowsStyle None d = ⊤
 KnowsStyle (Some cursor) d = d.cursor.style ≡ cursor.style
 
-knows_style : (k : Option Cursor) (d : Display) (row column : ℕ) → Knows k d → KnowsStyle k (moved_to row column d)
+pub knows_style : (k : Option Cursor) (d : Display) (row column : ℕ) → Knows k d → KnowsStyle k (moved_to row column d)
 knows_style None d row column knows = tt
 knows_style (Some cursor) d row column knows = ap (λ (c : Cursor). c.style) knows
 
-styled : (columns : ℕ → ℕ) (style : Style) (k : Option Cursor) (d : Display) → KnowsStyle k d → after_signs columns (style_change style k) d ≡ styled_by style d
+pub styled : (columns : ℕ → ℕ) (style : Style) (k : Option Cursor) (d : Display) → KnowsStyle k d → after_signs columns (style_change style k) d ≡ styled_by style d
 styled columns style None d knows = refl
 styled columns style (Some cursor) d knows =
     let go : (b : Bool) → same_style cursor.style style ≡ b → after_signs columns (cond b [] (SetStyle style ∷ [])) d ≡ styled_by style d =
@@ -87,12 +87,12 @@ styled columns style (Some cursor) d knows =
 -- ---- characters
 
 -- the second half, if the character is wide
-abbrev half : Bool → List Cell
+abbrev pub half : Bool → List Cell
 half true = Half ∷ []
 half false = []
 
 -- a character of so many columns is wide, or it has one
-abbrev IsWide : Bool → ℕ → Type 0
+abbrev pub IsWide : Bool → ℕ → Type 0
 IsWide true n = 2 ≤ n
 IsWide false n = n ≡ 1
 
@@ -108,7 +108,7 @@ char_cells style false (suc zero) c is = refl
 char_cells style false (suc (suc n)) c is = absurd (omega arith)
 
 -- a display with these cells in a row, and the cursor behind them
-abbrev written_at : ℕ → ℕ → ℕ → List Cell → Style → Display → Display
+abbrev pub written_at : ℕ → ℕ → ℕ → List Cell → Style → Display → Display
 written_at row column n cells style d =
     record d { grid = record d.grid { rows = set d.grid.rows row cells }; cursor = record { row = row; column = column + n; style = style } }
 
@@ -123,7 +123,7 @@ stays_in_row new d fits =
     let stays : goes_on new d ≡ false = ap (λ (b : Bool). d.wraps && b) room ∙ and_false d.wraps in
     ap (λ (b : Bool). with_written new (cond b (at_next_row d) d)) stays
 
-char_written : (w : Bool) (n c : ℕ) (d : Display) → IsWide w n → d.cursor.column + (suc (length (half w))) ≤ d.grid.width
+pub char_written : (w : Bool) (n c : ℕ) (d : Display) → IsWide w n → d.cursor.column + (suc (length (half w))) ≤ d.grid.width
     → after_char n c d
     ≡ written_at d.cursor.row d.cursor.column (suc (length (half w))) (splice d.cursor.column (Holds c [] d.cursor.style ∷ half w) (get_or d.grid.rows d.cursor.row [])) d.cursor.style d
 char_written true zero c d is fits = absurd (omega arith)
@@ -135,6 +135,12 @@ char_written w (suc n) c d is fits =
     ∙ ap (λ (cells : List Cell). with_wrapped cells d) (cut_all d.grid.width new (omega arith))
     ∙ stays_in_row new d fits
     ∙ ap (λ (m : ℕ). record (in_cursor_row (splice m new) d) { cursor = record d.cursor { column = m + length new } }) x
+
+-- so are any cells where nothing wraps
+pub stays_unwrapped : (new : List Cell) (d : Display) → d.wraps ≡ false → with_wrapped new d ≡ with_written new d
+stays_unwrapped new d unwrapped =
+    let stays : goes_on new d ≡ false = ap (λ (b : Bool). b && nat_lt d.grid.width (d.cursor.column + length new)) unwrapped in
+    ap (λ (b : Bool). with_written new (cond b (at_next_row d) d)) stays
 
 -- a character joins one behind others
 joined_row : (w : Bool) (p rest : List Cell) (c : ℕ) (done : List ℕ) (style : Style) (j n : ℕ) → length p ≡ n
@@ -158,11 +164,11 @@ joined_row true p rest c done style j n at =
     ∙ ap (λ (h : Cell). set row n (more_joined j h)) cell
     ∙ set_at p a (Half ∷ rest) (Holds c (done ++ j ∷ []) style) n at
 
-abbrev with_joined : Bool → ℕ → List ℕ → Style → ℕ → ℕ → List Cell → Display → Display
+abbrev pub with_joined : Bool → ℕ → List ℕ → Style → ℕ → ℕ → List Cell → Display → Display
 with_joined w c js style row column cells d = written_at row column (suc (length (half w))) (splice column (Holds c js style ∷ half w) cells) style d
 
 -- a display with these rows
-abbrev written_at_rows : ℕ → ℕ → List (List Cell) → Style → Display → Display
+abbrev pub written_at_rows : ℕ → ℕ → List (List Cell) → Style → Display → Display
 written_at_rows row column rows style d = record d { grid = record d.grid { rows = rows }; cursor = record { row = row; column = column; style = style } }
 
 -- one character of no column behind the one that was written
@@ -181,7 +187,7 @@ join_one columns w c style row column cells e done j none fits inside =
     ∙ ap (λ (rs : List (List Cell)). written_at_rows row at rs style e) (set-set e.grid.rows row new (splice column (Holds c (done ++ j ∷ []) style ∷ half w) cells))
 
 -- all of them
-join_all : (columns : ℕ → ℕ) (w : Bool) (c : ℕ) (style : Style) (row column : ℕ) (cells : List Cell) (e : Display) (js done : List ℕ)
+pub join_all : (columns : ℕ → ℕ) (w : Bool) (c : ℕ) (style : Style) (row column : ℕ) (cells : List Cell) (e : Display) (js done : List ℕ)
     → Join columns js → column ≤ length cells → row < length e.grid.rows
     → after_signs columns (map Char js) (with_joined w c done style row column cells e) ≡ with_joined w c (done ++ js) style row column cells e
 join_all columns w c style row column cells e [] done join fits inside = ap (λ (ks : List ℕ). with_joined w c ks style row column cells e) (sym (append-nil done))
@@ -213,7 +219,7 @@ blank_written columns space row column style cells e shown room =
     char_written false (columns 32) 32 there space (omega arith) ∙ ap (λ (r : List Cell). written_at row column 1 (splice column (cell_of style 32 ∷ []) r) style e) shown
 
 -- blanks in the cells of a character, narrow or wide, and the cursor back at the first of them
-cleared : (columns : ℕ → ℕ) → columns 32 ≡ 1 → (w : Bool) (row column : ℕ) (style : Style) (d : Display) → row < d.grid.height → row < length d.grid.rows
+pub cleared : (columns : ℕ → ℕ) → columns 32 ≡ 1 → (w : Bool) (row column : ℕ) (style : Style) (d : Display) → row < d.grid.height → row < length d.grid.rows
     → length (get_or d.grid.rows row []) ≡ d.grid.width → column + (suc (length (half w))) ≤ d.grid.width
     → after_signs columns (map Char (replicate (suc (length (half w))) 32) ++ MoveTo row column ∷ []) (styled_by style (moved_to row column d))
     ≡ written_at_rows row column (set d.grid.rows row (splice column (replicate (suc (length (half w))) (cell_of style 32)) (get_or d.grid.rows row []))) style d
@@ -288,7 +294,7 @@ change_played columns space w c js style row column k d is join ready fits =
     ∙ text_played columns space (are_certain new) w c js style row column k d is join ready fits
 
 -- a character of two columns isn't shown in one by every terminal
-uncertain : (c : ℕ) (js : List ℕ) (style : Style) → are_certain (Holds c js style ∷ Half ∷ []) ≡ true → ⊥
+pub uncertain : (c : ℕ) (js : List ℕ) (style : Style) → are_certain (Holds c js style ∷ Half ∷ []) ≡ true → ⊥
 uncertain c [] style is = cc
 uncertain c (j ∷ js) style is = cc
 

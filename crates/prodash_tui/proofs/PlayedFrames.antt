@@ -61,7 +61,7 @@ after_grid : (columns : ℕ → ℕ) (a b : List Sign) (d : Display) → (after_
 after_grid columns a b d = ap (λ (e : Display). e.grid) (after_append columns a b d)
 
 -- a proper row of this width
-abbrev IsGood : (ℕ → ℕ) → ℕ → List Cell → Type 0
+abbrev pub IsGood : (ℕ → ℕ) → ℕ → List Cell → Type 0
 IsGood columns width row = IsProper columns row × (length row ≡ width)
 
 drawn_rows : (columns : ℕ → ℕ) → columns 32 ≡ 1 → (old new done : List (List Cell)) (k : Option Cursor) (d : Display)
@@ -102,7 +102,7 @@ both_rows : (columns : ℕ → ℕ) (width : ℕ) (rows : List (List Cell)) → 
 both_rows columns width [] proper wide = tt
 both_rows columns width (row ∷ rows) proper wide = ((proper.0, wide.0), both_rows columns width rows proper.1 wide.1)
 
-good_rows : (columns : ℕ → ℕ) (g : Sheet) → IsProperSheet columns g → AllByRecursion (IsGood columns g.width) g.rows
+pub good_rows : (columns : ℕ → ℕ) (g : Sheet) → IsProperSheet columns g → AllByRecursion (IsGood columns g.width) g.rows
 good_rows columns g h =
     both_rows columns g.width g.rows (recursion_from_All (IsProper columns) g.rows h.proper) (recursion_from_All (λ (row : List Cell). length row ≡ g.width) g.rows h.sheet.each)
 

@@ -48,12 +48,12 @@ narrow_step columns same sound c joined style new one alone others done (a ∷ o
     ] in
     go (same a b) refl
 
-or_true : (b : Bool) → (b || true) ≡ true
+pub or_true : (b : Bool) → (b || true) ≡ true
 or_true true = refl
 or_true false = refl
 
 -- behind a wide character is its second half, and then a proper row
-wide_more : (columns : ℕ → ℕ) (c : ℕ) (joined : List ℕ) (style : Style) (a : Cell) (cells : List Cell) → 2 ≤ columns c → IsEnd columns (Holds c joined style ∷ a ∷ cells) → (a ≡ Half) × IsProper columns cells
+pub wide_more : (columns : ℕ → ℕ) (c : ℕ) (joined : List ℕ) (style : Style) (a : Cell) (cells : List Cell) → 2 ≤ columns c → IsEnd columns (Holds c joined style ∷ a ∷ cells) → (a ≡ Half) × IsProper columns cells
 wide_more columns c joined style Half cells wide h = (refl, h.2)
 wide_more columns c joined style (Holds d joined' style') cells wide h = absurd (omega (arith, h.0))
 

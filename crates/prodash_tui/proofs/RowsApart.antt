@@ -1,5 +1,5 @@
 -- Frames write into each row only characters of that row of their grid, and spaces.
-use Rattle.std.proofs.Common.{◌≡◌, ℕ, zero, suc, ◌+◌, ◌-◌, ◌<◌, ◌≤◌, Bool, true, false, cond, ◌&&◌, ◌||◌, nat_eq, nat_lt, List, [], ◌∷◌, ◌++◌, length, map, Option, Some, None, refl, sym, ap, subst, ◌∙◌, arith}
+use Rattle.std.proofs.Common.{◌≡◌, ℕ, zero, suc, ◌+◌, ◌-◌, ◌<◌, ◌≤◌, Bool, true, false, cond, ◌||◌, nat_eq, List, [], ◌∷◌, ◌++◌, length, map, Option, Some, None, refl, sym, subst, ◌∙◌, arith}
 use Rattle.std.specs.Prelude.{min, replicate, slice_set, slice_index_or, ⊤}
 use Rattle.std.specs.List.{AllByRecursion}
 use Rattle.std.proofs.lemmas.Bool.{and_parts}
@@ -13,14 +13,14 @@ use Rattle.prodash_tui.specs.declared.sign.Sign.TheVariants.{Char, MoveTo, SetSt
 use Rattle.prodash_tui.specs.declared.style.Style.{Style}
 use Rattle.prodash_tui.specs.Cells.{cell_at, cell_of, is_half, plain, same_cell, same_style}
 use Rattle.prodash_tui.specs.Differences.{half_of, row_changes}
-use Rattle.prodash_tui.specs.Displays.{Display, after_char, after_sign, after_signs, at_next_row, erased, first_half, goes_on, in_cursor_row, join_before, more_joined, with_wrapped, with_written}
+use Rattle.prodash_tui.specs.Displays.{Display, after_char, after_sign, after_signs, erased, first_half, in_cursor_row, join_before, more_joined, with_wrapped, with_written}
 use Rattle.prodash_tui.specs.Frames.{are_certain, change_signs, changes_of, clearing, cursor_behind, difference, is_at, motion, row_cursor, row_signs, rows_signs, style_change}
 use Rattle.prodash_tui.specs.Grids.{Sheet, blank_sheet}
 use Rattle.prodash_tui.specs.HeldCharacters.{CellHolds, IsOf, KeepsToRows, RowHolds, RowsHold, ShowsOwnRows}
 use Rattle.prodash_tui.specs.Rows.{splice}
 use Rattle.prodash_tui.specs.Texts.{cells_with, cut}
 use Rattle.prodash_tui.proofs.HeldCharacters.{at_held, cut_held, set_held, splice_held}
-use Rattle.prodash_tui.proofs.PlayedChanges.{after_append}
+use Rattle.prodash_tui.proofs.PlayedChanges.{after_append, stays_unwrapped}
 
 -- a space is such a character in each row
 abbrev HaveSpaces : (ℕ → ℕ → Type 0) → Type 0
@@ -86,8 +86,7 @@ written_held P spaces height y new d h hs =
 
 wrapped_held : (P : ℕ → ℕ → Type 0) → HaveSpaces P → (height y : ℕ) (new : List Cell) (d : Display) → RowHolds (P y) new → Within P height y d → Within P height y (with_wrapped new d)
 wrapped_held P spaces height y new d h hs =
-    let stays : goes_on new d ≡ false = ap (λ (b : Bool). b && nat_lt d.grid.width (d.cursor.column + length new)) hs.keeps.unwrapped in
-    subst (λ (b : Bool). Within P height y (with_written new (cond b (at_next_row d) d))) (sym stays) (written_held P spaces height y new d h hs)
+    subst (λ (e : Display). Within P height y e) (sym (stays_unwrapped new d hs.keeps.unwrapped)) (written_held P spaces height y new d h hs)
 
 char_held : (P : ℕ → ℕ → Type 0) → HaveSpaces P → (height y n c : ℕ) (d : Display) → P y c → Within P height y d → Within P height y (after_char n c d)
 char_held P spaces height y zero c d h hs = in_row_held P height y (join_before d.cursor.column c) d (λ row i. joined_held (P y) (spaces y) d.cursor.column c row h i) hs

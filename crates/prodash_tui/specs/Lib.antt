@@ -24,5 +24,6 @@ pub mod Lends
 pub mod Dashboards
 pub mod Boards
 pub mod BoardRuns
+pub mod OtherWidths
 pub mod Reading
 pub mod plumbing

@@ -12,6 +12,7 @@ ghost use Rattle.prodash_tui.specs.Grids.{blank_sheet, with_background, with_bor
 ghost use Rattle.prodash_tui.specs.Rects.{intersect};
 ghost use Rattle.prodash_tui.specs.Screens.{DrawsEntered, DrawsFrames, Restores, RestoresFrames};
 ghost use Rattle.prodash_tui.specs.HeldCharacters.{KeepsToRows, ShowsOwnRows};
+ghost use Rattle.prodash_tui.specs.OtherWidths.{AreWidths, HasOnlyOwn, ShowsOnly, StandsFirst, StandsNext};
 ghost use Rattle.prodash_tui.specs.Reading.{DashboardsAreReadBack, FramesAreReadBack, HaveOneSpelling};
 ghost use Rattle.prodash_tui.specs.BoardRuns.{ShowsEachFrame, ShowsMainAgain};
 ghost use Rattle.prodash_core.specs.declared.render.tui.event.Line.{Line};
@@ -110,6 +111,19 @@ pub fn read_back()
 pub fn rows_apart()
     ensures next { (columns : ℕ → ℕ) → KeepsToRows columns }
     ensures first { (columns : ℕ → ℕ) → ShowsOwnRows columns }
+{}
+
+/// A terminal may give characters other columns than `unicode_width` does, if it gives none to the
+/// same ones, and one to printable ASCII, box drawing and block elements. Then each row of a
+/// display shows only characters of that row of the grid that was drawn last, and spaces: after a
+/// frame that is written whole, after each one by difference behind it, and so after each frame of
+/// every run of a dashboard, whatever was shown before. The columns of `unicode_width` are such.
+pub fn other_widths()
+    ensures own { AreWidths char_columns }
+    ensures only { ShowsOnly }
+    ensures next { (columns : ℕ → ℕ) → AreWidths columns → StandsNext columns }
+    ensures first { (columns : ℕ → ℕ) → AreWidths columns → StandsFirst columns }
+    ensures runs { (columns : ℕ → ℕ) → AreWidths columns → HasOnlyOwn columns }
 {}
 
 /// A display that has entered the alternate screen and left it is as it was before, with its cursor
