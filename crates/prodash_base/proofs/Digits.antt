@@ -15,6 +15,19 @@ unfolding last_digits
 last_digits-none zero n e = refl
 last_digits-none (suc places) n e = cc
 
+-- one digit is the last
+pub last_digits-one : (places n : ℕ) → places ≡ 1 → last_digits places n ≡ (48 + n % 10) ∷ []
+unfolding last_digits
+last_digits-one places n e = ap (λ k. last_digits k n) e
+
+-- two digits are those of what is left of hundreds
+pub last_digits-rest : (places n : ℕ) → places ≡ 2 → last_digits 2 (n % 100) ≡ last_digits places n
+unfolding last_digits
+last_digits-rest places n e =
+    let tens : n % 100 / 10 % 10 ≡ n / 10 % 10 = omega arith in
+    let ones : n % 100 % 10 ≡ n % 10 = omega arith in
+    ap (λ d. (48 + d) ∷ (48 + n % 100 % 10) ∷ []) tens ∙ ap (λ d. (48 + n / 10 % 10) ∷ (48 + d) ∷ []) ones ∙ ap (λ k. last_digits k n) (sym e)
+
 -- the last digit is after those of the tenth
 pub last_digits-last : (places n : ℕ) → 0 < places → last_digits places n ≡ last_digits (places - 1) (n / 10) ++ (48 + n % 10) ∷ []
 unfolding last_digits

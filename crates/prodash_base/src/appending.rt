@@ -51,6 +51,9 @@ pub(crate) fn push_ascii(out: &mut String, byte: u8) -> Result<(), AllocError>
 pub(crate) fn push_decimal(out: &mut String, n: u64) -> Result<(), AllocError>
     ensures { Pushes result out.old (decimal n) out.new }
 {
+    if n < 100 {
+        return push_below_100(out, n);
+    }
     push_text(out, Buffer::new().format(n))
 }
 
@@ -60,7 +63,12 @@ pub(crate) fn append_decimal(out: &mut String, n: u128) -> Result<(), AllocError
     ensures ok { OnOk result (Appends out.old (decimal n) out.new) }
     ensures err { OnErr result (string_bytes out.new ≡ string_bytes out.old) }
 {
-    out.push_str(Buffer::new().format(n))
+    let Ok(n) = u64::try_from(n) else {
+        return out.push_str(Buffer::new().format(n));
+    };
+    let length = out.len();
+    let appended = push_decimal(out, n);
+    undo_if_refused(out, length, appended)
 }
 
 /// Appends a number below 100 in decimal digits.
@@ -89,11 +97,15 @@ pub(crate) fn push_two_digits(out: &mut String, n: u64) -> Result<(), AllocError
 pub(crate) fn push_last_digits(out: &mut String, places: u8, n: u128) -> Result<(), AllocError>
     ensures { Pushes result out.old (last_digits places n) out.new }
 {
-    if places == 0 {
-        return Ok(());
+    match places {
+        0 => Ok(()),
+        1 => push_ascii(out, b'0' + (n % 10) as u8),
+        2 => push_two_digits(out, (n % 100) as u64),
+        _ => {
+            push_last_digits(out, places - 1, n / 10)?;
+            push_ascii(out, b'0' + (n % 10) as u8)
+        }
     }
-    push_last_digits(out, places - 1, n / 10)?;
-    push_ascii(out, b'0' + (n % 10) as u8)
 }
 
 /// Appends a decimal point and the last digits of a number, or nothing if `places` is 0.
