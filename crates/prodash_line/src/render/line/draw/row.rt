@@ -125,13 +125,16 @@ fn push_progress(
     ensures drawn { IfOk result (λ own. DrawsProgress drawn.now own out.old out.new) }
     ensures reason { IsOkUnless result Refusal.Memory }
 {
-    if !drawn.options.colored && drawn.timer.is_none() {
+    let (width, _) = drawn.options.terminal_dimensions;
+    if !drawn.options.colored && drawn.timer.is_none() && out.width() < width {
         let plain = push_plain(alloc, out, &mut texts.values, drawn)?;
         if let Some(own) = plain {
             return Ok(own);
         }
     }
-    let own = push_in_parts(alloc, out, texts, drawn)?;
+    // what is plain needn't be in memory, so that only the copy is
+    let in_parts = *drawn;
+    let own = push_in_parts(alloc, out, texts, &in_parts)?;
     Ok(own)
 }
 
