@@ -1,5 +1,6 @@
 pub mod ScreenTaken
 pub mod PairedTexts
+pub mod StyledBars
 pub mod PlainRows
 pub mod PlainPages
 pub mod PlainProgress

@@ -83,9 +83,14 @@ fn push_colored_bar(
     cells: u16,
     filled: u16,
 ) -> Result<(), AllocError>
-    requires { filled ≤ cells }
+    requires within { filled ≤ cells }
+    requires short { cells ≤ 65531 }
     ensures { OnOk result (AppendsIn true out.old (rows.bar_with style cells filled) out.new) }
 {
+    let whole = out.push_whole_bar(style, cells, filled)?;
+    if whole {
+        return Ok(());
+    }
     out.push_printable(b" [")?;
     out.push_repeated(Some(style), b'=', filled)?;
     out.push_repeated(Some(style), b'>', 1)?;

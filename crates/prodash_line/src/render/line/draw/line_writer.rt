@@ -3,11 +3,13 @@
 ghost use Rattle.std.specs.Prelude.{◌≡◌, ◌+◌, ◌-◌, ℕ, ◌∷◌, [], ◌++◌, ◌≤◌, ◌<◌, true, false, chars, length, replicate, take, OnOk, IfOk};
 ghost use Rattle.prodash_line.specs.Signs.{spelling_of};
 ghost use Rattle.prodash_line.specs.Lines.{piece, styled, spaces};
-ghost use Rattle.prodash_line.specs.plumbing.Writing.{IsMeasured, is_printable, style_of_length, open_bytes, reset_bytes, Appends, AppendsPair, AppendsIndented, AppendsIfRoom, run, Begun, SameLine, Counts};
+ghost use Rattle.prodash_line.specs.ProgressRows.{bar_with};
+ghost use Rattle.prodash_line.specs.plumbing.Writing.{IsMeasured, line_bytes, is_printable, style_of_length, open_bytes, reset_bytes, Appends, AppendsPair, AppendsIndented, AppendsIfRoom, run, Begun, SameLine, Counts};
 ghost use Rattle.prodash_line.specs.plumbing.RowWriting.{whole_text, text_length, length_of, progress_bytes};
 ghost use Rattle.prodash_line.specs.plumbing.OverwriteBytes.{on_row, EndsOver, IsCutWidth};
 
 use crate::render::line::byte_buffer::ByteBuffer;
+use crate::render::line::draw::bar::{ARROW, BRACKETS};
 use crate::render::line::draw::drawn_text::DrawnText;
 use crate::render::line::draw::erasing::start_row;
 use crate::render::line::draw::fitting::{fit_indented, fit_printable, fit_text};
@@ -310,11 +312,61 @@ impl LineWriter {
             (Appends self.old (styled style (replicate count character) ∷ []) self.new) }
     {
         let count = self.count_printable(count);
+        self.push_run(style, character, count)?;
+        Ok(())
+    }
+
+    /// Writes a printable ASCII character that has been counted `count` times, in this style if
+    /// there is one. Fails if out of memory.
+    #[inline(always)]
+    fn push_run(
+        &mut self,
+        style: Option<Style>,
+        character: u8,
+        count: u16,
+    ) -> Result<(), AllocError>
+        requires low { 32 ≤ character }
+        requires high { character ≤ 126 }
+        ensures bytes { OnOk result (self.new.bytes
+            ≡ self.old.bytes ++ line_bytes (styled style (replicate count character) ∷ [])) }
+        ensures line { OnOk result (SameLine self.old self.new) }
+    {
         let style = style_of_length(style, usize::from(count));
         self.open_style(style)?;
         self.bytes.push_copies(character, count)?;
         self.reset_style(style)?;
         Ok(())
+    }
+
+    /// Appends a bar of `cells` cells in this style, of which the first `filled` are filled, if the
+    /// line has room for all of it. Returns whether it has; otherwise nothing is appended. Fails if
+    /// out of memory.
+    pub(crate) fn push_whole_bar(
+        &mut self,
+        style: Style,
+        cells: u16,
+        filled: u16,
+    ) -> Result<bool, AllocError>
+        requires within { filled ≤ cells }
+        requires short { cells ≤ 65531 }
+        ensures whole { IfOk result (λ whole. whole ≡ true
+            → Appends self.old (bar_with style cells filled) self.new) }
+        ensures nothing { IfOk result (λ whole. whole ≡ false → self.new ≡ self.old) }
+    {
+        let columns = cells + (BRACKETS + ARROW);
+        match self.room {
+            Room::Columns(left) if columns <= left => {
+                self.bytes.extend_from_slice(b" [")?;
+                self.push_run(Some(style), b'=', filled)?;
+                self.push_run(Some(style), b'>', 1)?;
+                self.push_run(Some(style.dimmed()), b'-', cells - filled)?;
+                self.bytes.push(b']')?;
+                self.width = self.width.saturating_add(columns);
+                self.room = Room::Columns(left - columns);
+                Ok(true)
+            }
+            _ => Ok(false),
+        }
     }
 
     /// Appends a printable ASCII character `count` times, without a style. Fails if out of memory.
