@@ -92,8 +92,8 @@ fn drawn_other_text<'a>(
     })
 }
 
-/// Does what `drawn_text` does for a name of a row. One with characters other than printable ASCII
-/// isn't measured again if it is the one whose width was kept at its place.
+/// Does what `drawn_text` does for a name of a row. It isn't measured again if it is the one whose
+/// width was kept at its place.
 #[inline(always)]
 pub(crate) fn drawn_name<'a>(
     defensive: bool,
@@ -104,12 +104,9 @@ pub(crate) fn drawn_name<'a>(
     ensures text { IfOk result (λ drawn. chars drawn.text.now ≡ drawn_chars defensive name.now) }
     ensures width { IfOk result IsMeasured }
 {
-    match printable_width(name) {
+    match measured.next_width(name) {
         Some(width) => Ok(DrawnText { text: name, width }),
-        None => match measured.next_width(name) {
-            Some(width) => Ok(DrawnText { text: name, width }),
-            None => drawn_new_name(defensive, name, replaced, measured),
-        },
+        None => drawn_new_name(defensive, name, replaced, measured),
     }
 }
 

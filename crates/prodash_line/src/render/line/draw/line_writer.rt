@@ -222,6 +222,26 @@ impl LineWriter {
         Ok(())
     }
 
+    /// Appends at most 65535 printable ASCII characters, in this style if there is one. Fails if
+    /// out of memory.
+    #[inline(always)]
+    pub(crate) fn push_printable_in(
+        &mut self,
+        style: Option<Style>,
+        text: &[u8],
+    ) -> Result<(), AllocError>
+        requires printable { is_printable text.now ≡ true }
+        requires short { length text.now ≤ 65535 }
+        ensures { OnOk result (Appends self.old (styled style text.now ∷ []) self.new) }
+    {
+        let written = self.count_printable(text.len() as u16);
+        let style = style_of_length(style, usize::from(written));
+        self.open_style(style)?;
+        self.push_prefix(text, written)?;
+        self.reset_style(style)?;
+        Ok(())
+    }
+
     /// Adds a text of `length` printable ASCII characters to the width of the line, and returns how
     /// many of them are to be written.
     pub(crate) fn count_printable(&mut self, length: u16) -> u16

@@ -1,9 +1,11 @@
 //! The line of a row: its name, and with progress its values and a bar.
 ghost use Rattle.std.specs.Prelude.{◌≡◌, ◌≤◌, ◌+◌, ◌++◌, false, true, Some, None, length, OnOk, IfOk, IsOkUnless};
+ghost use Rattle.std.specs.Bool.{then_some};
 ghost use Rattle.prodash_base.specs.Rows.{row_of};
 ghost use Rattle.prodash_line.specs.ProgressRows as rows;
 ghost use Rattle.prodash_line.specs.ProgressRows.{fraction_values};
 ghost use Rattle.prodash_line.specs.Lines.{capped};
+ghost use Rattle.prodash_line.specs.TextStyles as styles;
 ghost use Rattle.prodash_line.specs.plumbing.RowWriting.{FollowsStep, end_of_values, Pads, PadsValues, drawn_values, unit_values, own_midpoint, text_length, whole_text, DrawsRow, DrawsProgress, DrawsFraction, DrawsInUnit, DrawsText, OrNothing, AppendsName};
 ghost use Rattle.prodash_line.specs.plumbing.Writing.{is_printable};
 
@@ -14,7 +16,8 @@ use crate::render::line::draw::line_writer::{LineWriter, style_of_length};
 use crate::render::line::draw::plain_progress::{PlainProgress, PlainText};
 use crate::render::line::draw::row_time::{TimeTexts, push_time};
 use crate::render::line::draw::styles::{name_style, values_style};
-use crate::render::line::draw::text::printable_width;
+use crate::render::line::draw::text::{is_all_printable, printable_width};
+use crate::render::line::page::Style;
 use itoa::Buffer;
 use prodash_base::Refusal;
 use prodash_base::progress::{Level, Row, Step, Value};
@@ -132,10 +135,24 @@ fn push_progress(
             return Ok(own);
         }
     }
-    // what is plain needn't be in memory, so that only the copy is
-    let in_parts = *drawn;
-    let own = push_in_parts(alloc, out, texts, &in_parts)?;
+    let own = push_copy_in_parts(alloc, out, texts, drawn)?;
     Ok(own)
+}
+
+/// Does what `push_progress` does, part by part, with a copy: what is drawn at once is then never
+/// in memory.
+#[inline(always)]
+fn push_copy_in_parts(
+    alloc: Global,
+    out: &mut LineWriter,
+    texts: &mut RowTexts,
+    drawn: &DrawnProgress<'_>,
+) -> Result<u16, Refusal>
+    ensures drawn { IfOk result (λ own. DrawsProgress drawn.now own out.old out.new) }
+    ensures reason { IsOkUnless result Refusal.Memory }
+{
+    let copy = *drawn;
+    push_in_parts(alloc, out, texts, &copy)
 }
 
 /// Does what `push_progress` does, part by part.
@@ -411,13 +428,22 @@ fn push_name(
 ) -> Result<(), AllocError>
     ensures { OnOk result (AppendsName options.now row.now out.old out.new) }
 {
-    let name = drawn_name(
-        options.defensive,
-        row.name.as_str(),
-        replaced,
-        &mut out.names,
-    )?;
-    let style = options.colored.then_some(name_style(&row.progress));
-    out.push_drawn(style, &name)?;
+    let name = row.name.as_str();
+    let bytes = name.as_bytes();
+    if bytes.len() <= usize::from(u16::MAX) && is_all_printable(bytes) {
+        out.push_printable_in(style_of_name(options, row), bytes)?;
+        return Ok(());
+    }
+    let name = drawn_name(options.defensive, name, replaced, &mut out.names)?;
+    out.push_drawn(style_of_name(options, row), &name)?;
     Ok(())
+}
+
+/// Returns the style in which the name of a row is drawn, if it is coloured.
+#[inline(always)]
+fn style_of_name(options: &Options, row: &Row) -> Option<Style>
+    ensures { result
+        ≡ then_some options.now.colored (styles.name_style (row_of row.now).1.progress) }
+{
+    options.colored.then_some(name_style(&row.progress))
 }

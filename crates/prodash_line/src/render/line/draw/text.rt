@@ -35,7 +35,7 @@ fn is_block_printable(block: &[u8]) -> bool
 const BLOCK: usize = 32;
 
 /// Whether the bytes are all printable ASCII characters.
-fn is_all_printable(text: &[u8]) -> bool
+pub(crate) fn is_all_printable(text: &[u8]) -> bool
     ensures { result ≡ is_printable text.now }
 {
     let mut left = text;

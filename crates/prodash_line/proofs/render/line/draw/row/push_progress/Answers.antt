@@ -12,4 +12,4 @@ returns-clause-drawn c =
       | then-not-drawn+then-is_none+then-width+in_ok-plain+in_default w ↦ w.out-is ∙ subst (OrNothing c.args.out.now w.push_plain.new.out (DrawsProgress drawn)) w.in_default.is w.in_ok-plain.ensures.drawn
       | else-not-drawn w ↦ w.out-is
     ] in
-    subst (λ (old : LineWriter). DrawsProgress drawn c.in_ok-own.own old c.push_in_parts.new.out) same c.in_ok-own.ensures.drawn
+    subst (λ (old : LineWriter). DrawsProgress drawn c.in_ok-own.own old c.push_copy_in_parts.new.out) same c.in_ok-own.ensures.drawn
