@@ -85,6 +85,13 @@ impl Unit {
     {
         &self.kind
     }
+
+    /// Returns the mode that says whether a percentage and a throughput are shown, if there is one.
+    pub fn mode(&self) -> Option<Mode>
+        ensures { result ≡ self.now.mode }
+    {
+        self.mode
+    }
 }
 
 /// A value in a unit, as it is displayed.
