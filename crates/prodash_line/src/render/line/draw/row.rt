@@ -24,7 +24,7 @@ use prodash_base::progress::{Level, Row, Step, Value};
 use prodash_base::time::Moment;
 use prodash_base::timing::Timer;
 use prodash_base::unit::Unit;
-use prodash_base::unit::display::Throughput;
+use prodash_base::unit::display::{Throughput, append_unit, append_values};
 use std::alloc::{AllocError, Global};
 
 /// Memory for the texts of one row, which that of the next row reuses.
@@ -130,7 +130,7 @@ fn push_progress(
 {
     let (width, _) = drawn.options.terminal_dimensions;
     if !drawn.options.colored && drawn.timer.is_none() && out.width() < width {
-        let plain = push_plain(alloc, out, &mut texts.values, drawn)?;
+        let plain = push_plain(out, &mut texts.values, drawn)?;
         if let Some(own) = plain {
             return Ok(own);
         }
@@ -187,7 +187,6 @@ fn push_in_parts(
 /// nothing and returns `None`. `text` is memory for the values and the unit.
 #[inline(always)]
 fn push_plain(
-    alloc: Global,
     out: &mut LineWriter,
     text: &mut String,
     drawn: &DrawnProgress<'_>,
@@ -202,7 +201,7 @@ fn push_plain(
     };
     let plain = match &drawn.value.unit {
         None => push_plain_fraction(out, drawn, done_at)?,
-        Some(unit) => push_plain_unit(alloc, out, text, drawn, unit, done_at)?,
+        Some(unit) => push_plain_unit(out, text, drawn, unit, done_at)?,
     };
     Ok(plain)
 }
@@ -234,7 +233,6 @@ fn push_plain_fraction(
 /// Does what `push_plain` does for a progress with this bound and this unit.
 #[inline(always)]
 fn push_plain_unit(
-    alloc: Global,
     out: &mut LineWriter,
     text: &mut String,
     drawn: &DrawnProgress<'_>,
@@ -247,10 +245,11 @@ fn push_plain_unit(
 {
     text.clear();
     let value = drawn.value;
-    let mut display = unit.display(alloc, value.step, value.done_at, drawn.throughput);
-    display.values().append_to(text)?;
+    let (kind, mode) = (unit.as_display_value(), unit.mode());
+    let (step, bound, throughput) = (value.step, value.done_at, drawn.throughput);
+    append_values(text, kind, mode, step, bound, throughput)?;
     text.push(' ')?;
-    display.unit().append_to(text)?;
+    append_unit(text, kind, mode, step, bound, throughput)?;
     let Some(columns) = printable_width(text.as_str()) else {
         return Ok(None);
     };
