@@ -27,6 +27,7 @@ pub mod Decimals
 pub mod ErasedRows
 pub mod Choosing
 pub mod FittingRows
+pub mod KeptLines
 pub mod FramesOnPage
 pub mod ErasedPages
 pub mod ErasedRenderings

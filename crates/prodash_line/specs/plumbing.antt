@@ -9,6 +9,7 @@ pub mod MeasuredNames
 pub mod Writing
 pub mod RowWriting
 pub mod OverwriteBytes
+pub mod KeptLines
 pub mod Observing
 pub mod Choosing
 pub mod FrameWriting

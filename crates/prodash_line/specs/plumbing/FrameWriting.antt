@@ -1,5 +1,5 @@
 -- What composing a frame writes, and what it leaves to the next frame.
-use Rattle.std.specs.Prelude.{◌≡◌, ℕ, Bool, true, List, [], ◌∷◌, ◌++◌, ◌+◌, ◌-◌, length, Option, Some, max}
+use Rattle.std.specs.Prelude.{◌≡◌, ℕ, Bool, true, List, [], ◌∷◌, ◌++◌, ◌+◌, ◌-◌, length, Option, Some, IfSome, max}
 use Rattle.std.specs.Global.{Vec}
 use Rattle.prodash_base.specs.FrameTrackers.{FrameTracker}
 use Rattle.prodash_base.specs.declared.messages.Message.{Message}
@@ -12,6 +12,9 @@ use Rattle.prodash_line.specs.declared.render.line.draw.input.Options.{Options}
 use Rattle.prodash_line.specs.declared.render.line.draw.action.Action.{Action}
 use Rattle.prodash_line.specs.declared.render.line.draw.action.Drawn.{Drawn}
 use Rattle.prodash_line.specs.declared.render.line.draw.action.Composed.{Composed}
+use Rattle.prodash_line.specs.declared.render.line.draw.frame.LineSource.{LineSource}
+use Rattle.prodash_line.specs.declared.render.line.draw.latest_rows.LineSize.{LineSize}
+use Rattle.prodash_line.specs.declared.render.line.draw.latest_rows.RowLine.{RowLine}
 use Rattle.prodash_line.specs.declared.render.line.draw.layout.Layout.{Layout}
 use Rattle.prodash_line.specs.declared.render.line.draw.layout.Layout.TheVariants.{Overwriting, Erasing}
 use Rattle.prodash_line.specs.declared.render.line.draw.action.Action.TheVariants.{Leave}
@@ -30,7 +33,8 @@ use Rattle.prodash_line.specs.ProgressRows.{DrawnRow, Times, times_at, filtered,
 use Rattle.prodash_line.specs.MessageLines.{message_lines, widths_of_origins}
 use Rattle.prodash_base.specs.declared.refusal.Refusal.TheVariants as refusals
 use Rattle.prodash_line.specs.Renderer.{Renderer, Drawing, FrameState, drawing_of, body_of, opening_of, ending_of, state_after, state_at, action_at, remember, latest_rows, frame_bytes, ended_after, is_cursor_hidden}
-use Rattle.prodash_line.specs.plumbing.OverwriteBytes.{lines_bytes}
+use Rattle.prodash_line.specs.plumbing.OverwriteBytes.{lines_bytes, row_end}
+use Rattle.prodash_line.specs.plumbing.KeptLines.{AreAmong, IsLineOf, IsSizeOf, untimed_line, own_bytes}
 use Rattle.prodash_line.specs.plumbing.Choosing.{quotas_of, all_reserved, chosen}
 use Rattle.prodash_line.specs.plumbing.Observing.{shown_by, ahead_of, tracker_by}
 use Rattle.prodash_line.specs.Tracking.{kept_of, tracked}
@@ -148,6 +152,14 @@ pub record LeavesTick (r : Renderer) (input : Input) (frame : Composed) (tracker
   pub origin_widths : frame.origin_widths.items ≡ (remember r input).origin_widths
   pub timer : frame.timer ≡ (remember r input).timer
 
+-- the lines that it has kept of its rows are among these bytes
+abbrev pub KeepsLines : Renderer → List PathRow → LineWriter → Drawn → Type 0
+KeepsLines r rows out drawn = AreAmong r.options r.midpoint rows out.bytes drawn.lines.items
+
+-- a tick that leaves the lines on screen because the rows stay saw the rows that are remembered
+abbrev pub RowsStay : Renderer → List PathRow → Composed → Type 0
+RowsStay r rows frame = frame.rows_stay ≡ true → r.last_rows ≡ Some rows
+
 -- what such a frame leaves if its tracker was `old` and is `new`
 abbrev pub LeftBy : Renderer → Option FrameTracker → Input → Option FrameTracker → Drawn → Type 0
 LeftBy r old input new drawn = Leaves (tracked r old) input drawn new
@@ -212,6 +224,33 @@ pub record AddsRows (options : Options) (aligned : ℕ) (times : Times) (tracker
   pub midpoint : new.midpoint ≡ max old.midpoint (greatest_midpoint options.defensive (shown_rows options tracker rows))
   pub rows_erased : new.rows_erased ≡ old.rows_erased
   pub action : new.action ≡ old.action
+
+-- these lines are among the bytes, of these rows of a scene
+abbrev pub KeepsOf : Scene → List Row → LineWriter → Vec RowLine → Type 0
+KeepsOf scene rows out lines = AreAmong scene.options scene.past.now.midpoint (rows_of rows) out.bytes lines.items
+
+-- and of all its rows
+abbrev pub KeepsLinesOf : Scene → LineWriter → Drawn → Type 0
+KeepsLinesOf scene out drawn = KeepsOf scene scene.rows.now out drawn.lines
+
+-- more bytes follow those of old
+pub record Extends (old new : LineWriter) : Type 0 where
+  pub more : List ℕ
+  pub bytes : new.bytes ≡ old.bytes ++ more
+
+-- the earlier line, if there is one, is that of a row of a scene
+abbrev pub HasEarlier : Scene → Row → LineSource → Type 0
+HasEarlier scene row source = IfSome source.earlier (IsLineOf scene.options scene.past.now.midpoint (row_of row, source.throughput))
+
+-- the line of a row of a scene, over one of this width, follows the bytes of old
+abbrev pub WritesLine : Scene → DrawnRow → ℕ → LineWriter → LineWriter → Type 0
+WritesLine scene drawn width old new =
+    let line = untimed_line scene.options scene.past.now.midpoint drawn in
+    new.bytes ≡ old.bytes ++ (own_bytes scene.options line ++ row_end (width - columns_of line))
+
+-- it is so large
+abbrev pub IsSizeIn : Scene → DrawnRow → LineSize → Type 0
+IsSizeIn scene drawn size = IsSizeOf scene.options scene.past.now.midpoint drawn size
 
 -- the rows of a scene have been drawn besides those of old
 abbrev pub DrawsRows : Scene → Option FrameTracker → List Row → Drawn → Drawn → Type 0

@@ -47,6 +47,13 @@ impl ByteBuffer {
         &self.initialized[..self.length]
     }
 
+    /// Returns how many bytes there are.
+    pub(crate) fn len(&self) -> usize
+        ensures { result ≡ length self.now }
+    {
+        self.length
+    }
+
     /// Returns the bytes without a copy.
     pub(crate) fn into_vec(self) -> Vec<u8>
         ensures { result.items ≡ self }

@@ -13,6 +13,7 @@ mod erasing;
 mod fitting;
 mod frame;
 mod input;
+mod latest_rows;
 mod layout;
 mod line_writer;
 mod measured_names;
@@ -145,7 +146,8 @@ fn draw_tick<S: Screen>(
     send_frame(screen, &mut state.past, state.frame.bytes())?;
     let (rows, messages, copy_state) = seen;
     keep_observed(&mut state.tracker, frame.drawn.action, rows.as_slice());
-    Ok(state.past.remember_tick(frame, rows, messages, copy_state))
+    let (past, bytes) = (&mut state.past, &mut state.frame);
+    Ok(past.remember_tick(frame, bytes, rows, messages, copy_state))
 }
 
 /// Draws the frame of a resize, and sets the size.
@@ -165,7 +167,7 @@ fn draw_resized<S: Screen>(
     let drawn = compose_resized(alloc, &mut state.frame, past, tracker, at, size, show)?;
     send_frame(screen, &mut state.past, state.frame.bytes())?;
     keep_observed(&mut state.tracker, drawn.action, state.past.latest_rows());
-    state.past.set_size(size, drawn);
+    state.past.set_size(size, drawn, &mut state.frame);
     Ok(Answer::Drawn)
 }
 

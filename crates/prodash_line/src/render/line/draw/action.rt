@@ -1,4 +1,5 @@
 //! What a frame does after its messages, and what it leaves to the next one.
+use crate::render::line::draw::latest_rows::RowLine;
 use prodash_base::timing::Timer;
 
 /// What a frame does after its messages.
@@ -25,6 +26,8 @@ pub(crate) struct Drawn {
     pub(crate) rows_erased: bool,
     /// What the frame does after its messages.
     pub(crate) action: Action,
+    /// The lines of rows that the next frame may copy.
+    pub(crate) lines: Vec<RowLine>,
 }
 
 /// What the composed frame of a tick leaves to the next one.
@@ -36,4 +39,6 @@ pub(crate) struct Composed {
     pub(crate) origin_widths: Vec<u16>,
     /// The timer that has seen the rows of the tick, if times are shown.
     pub(crate) timer: Option<Timer>,
+    /// Whether it leaves the lines on screen because the tick saw the rows that are remembered.
+    pub(crate) rows_stay: bool,
 }

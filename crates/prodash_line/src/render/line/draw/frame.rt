@@ -1,13 +1,14 @@
 //! Frames: the lines of messages and rows, written over the lines on screen.
-ghost use Rattle.std.specs.Prelude.{◌≡◌, ℕ, true, List, [], ◌++◌, drop, OnOk, IfOk, IsOkUnless};
+ghost use Rattle.std.specs.Prelude.{◌≡◌, ℕ, true, None, List, [], ◌++◌, drop, OnOk, IfOk, IsOkUnless};
 ghost use Rattle.prodash_line.specs.declared.render.line.draw.action.Action.TheVariants.{Redraw};
 ghost use Rattle.prodash_line.specs.Frames.{first_width, redraw, cursor_up};
 ghost use Rattle.prodash_line.specs.DrawnLines.{prefers_running};
-ghost use Rattle.prodash_line.specs.Renderer.{ending_of};
-ghost use Rattle.prodash_line.specs.plumbing.FrameWriting.{closing_signs, closing_bytes, Composes, AppendsSigns, AppendsBody, AppendsRedraw, BeginsFrame, FinishesRedraw, LeftBy, LeftByTick, LeftByAction, AddsOrigins, DrawsRows, DrawsFitting, WritesMessages, WritesRows, WritesRow, WritesChosen, WritesFitting, SplitsScene, DrawsFirst, DrawsRowOf, DrawsChosen, resize_to, tick_seeing};
+ghost use Rattle.prodash_line.specs.Renderer.{ending_of, latest_rows, resized};
+ghost use Rattle.prodash_line.specs.plumbing.FrameWriting.{closing_signs, closing_bytes, Composes, AppendsSigns, AppendsBody, AppendsRedraw, BeginsFrame, FinishesRedraw, LeftBy, LeftByTick, LeftByAction, AddsOrigins, DrawsRows, DrawsFitting, WritesMessages, WritesRows, WritesRow, WritesChosen, WritesFitting, SplitsScene, DrawsFirst, DrawsRowOf, DrawsChosen, HasEarlier, WritesLine, IsSizeIn, KeepsOf, KeepsLinesOf, KeepsLines, RowsStay, Extends, resize_to, tick_seeing};
 ghost use Rattle.prodash_line.specs.Tracking.{kept_of};
 ghost use Rattle.prodash_line.specs.plumbing.Observing.{ObservesDrawn, ObservesScene};
 ghost use Rattle.prodash_line.specs.plumbing.OverwriteBytes.{blank_bytes};
+ghost use Rattle.prodash_base.specs.Rows.{row_of};
 
 use crate::render::line::draw::action::{Action, Composed, Drawn};
 use crate::render::line::draw::drawn_text::drawn_text;
@@ -15,6 +16,7 @@ use crate::render::line::draw::erasing::{
     end_frame, finish_erasing, start_frame, start_lines, start_messages, start_row,
 };
 use crate::render::line::draw::input::Options;
+use crate::render::line::draw::latest_rows::{CopiedLine, LineSize, RowLine, keep_line};
 use crate::render::line::draw::layout::Layout;
 use crate::render::line::draw::line_writer::LineWriter;
 use crate::render::line::draw::message::{greatest_width, push_message};
@@ -30,6 +32,7 @@ use prodash_base::progress::{Row, Rows};
 use prodash_base::throughput::FrameThroughput;
 use prodash_base::time::Moment;
 use prodash_base::timing::Timer;
+use prodash_base::unit::display::Throughput;
 use std::alloc::{AllocError, Global};
 
 /// What the body of a frame is drawn from.
@@ -62,6 +65,9 @@ pub(crate) fn compose_tick(
         (Composes past.now tracker.old (tick_seeing at show seen.now) out.new) }
     ensures state { IfOk result
         (LeftByTick past.now tracker.old at show seen.now tracker.new) }
+    ensures lines { IfOk result
+        (λ frame. KeepsLines past.now seen.now.0 out.new frame.drawn) }
+    ensures rows { IfOk result (RowsStay past.now seen.now.0) }
     ensures kept { kept_of tracker.new ≡ kept_of tracker.old }
     ensures reason { IsOkUnless result Refusal.Memory }
 {
@@ -70,6 +76,7 @@ pub(crate) fn compose_tick(
     let (rows, messages) = (seen.0.as_slice(), seen.1.as_slice());
     let has_messages = !messages.is_empty();
     let action = past.tick_action(show, has_messages, &seen.0);
+    let rows_stay = past.rows_stay(action, show);
     begin_frame(out, past, layout, action)?;
     start_messages(out, layout, has_messages)?;
     let mut origin_widths = Vec::from_slice(alloc, &past.origin_widths)?;
@@ -97,6 +104,7 @@ pub(crate) fn compose_tick(
         drawn,
         origin_widths,
         timer,
+        rows_stay,
     })
 }
 
@@ -124,6 +132,8 @@ pub(crate) fn compose_resized(
 ) -> Result<Drawn, Refusal>
     ensures bytes { OnOk result (Composes past.now tracker.old (resize_to at show size) out.new) }
     ensures state { IfOk result (LeftBy past.now tracker.old (resize_to at show size) tracker.new) }
+    ensures lines { IfOk result (KeepsLines (resized past.now size.0 size.1)
+        (latest_rows past.now.last_rows) out.new) }
     ensures kept { kept_of tracker.new ≡ kept_of tracker.old }
     ensures reason { IsOkUnless result Refusal.Memory }
 {
@@ -177,6 +187,7 @@ fn write_body(
         (AppendsBody action scene.now tracker.old left.now out.old out.new) }
     ensures state { IfOk result
         (LeftByAction action scene.now tracker.old left.now tracker.new) }
+    ensures lines { IfOk result (KeepsLinesOf scene.now out.new) }
     ensures kept { kept_of tracker.new ≡ kept_of tracker.old }
     ensures reason { IsOkUnless result Refusal.Memory }
 {
@@ -187,6 +198,7 @@ fn write_body(
             midpoint,
             rows_erased: scene.past.rows_erased(),
             action,
+            lines: Vec::new(alloc),
         }),
         Action::Redraw => redraw_rows(alloc, out, tracker, scene, left),
         Action::Erase => {
@@ -196,6 +208,7 @@ fn write_body(
                 midpoint,
                 rows_erased: true,
                 action,
+                lines: Vec::new(alloc),
             })
         }
         Action::Close => {
@@ -205,6 +218,7 @@ fn write_body(
                 midpoint,
                 rows_erased: scene.past.rows_erased(),
                 action,
+                lines: Vec::new(alloc),
             })
         }
     }
@@ -307,6 +321,7 @@ fn redraw_rows(
         (AppendsRedraw scene.now tracker.old widths.now out.old out.new) }
     ensures state { IfOk result
         (LeftByAction Redraw scene.now tracker.old widths.now tracker.new) }
+    ensures lines { IfOk result (KeepsLinesOf scene.now out.new) }
     ensures kept { kept_of tracker.new ≡ kept_of tracker.old }
     ensures reason { IsOkUnless result Refusal.Memory }
 {
@@ -316,10 +331,11 @@ fn redraw_rows(
         midpoint: 0,
         rows_erased: false,
         action: Action::Redraw,
+        lines: Vec::new(alloc),
     };
     begin_observing(tracker, scene.at);
     start_lines(out, layout)?;
-    write_fitting(alloc, out, tracker, &mut drawn, scene, widths)?;
+    drawn.lines = write_fitting(alloc, out, tracker, &mut drawn, scene, widths)?;
     finish_redraw(out, layout, widths, drawn.widths.len())?;
     Ok(drawn)
 }
@@ -333,18 +349,20 @@ fn write_fitting(
     drawn: &mut Drawn,
     scene: &Scene<'_>,
     widths: &[u16],
-) -> Result<(), Refusal>
+) -> Result<Vec<RowLine>, Refusal>
     ensures bytes { OnOk result
         (WritesFitting scene.now tracker.old widths.now out.old out.new) }
     ensures drawn { OnOk result (DrawsFitting scene.now tracker.old drawn.old drawn.new) }
     ensures observed { OnOk result (ObservesScene scene.now tracker.old tracker.new) }
+    ensures lines { IfOk result (KeepsOf scene.now scene.now.rows.now out.new) }
     ensures kept { kept_of tracker.new ≡ kept_of tracker.old }
     ensures reason { IsOkUnless result Refusal.Memory }
 {
     let options = &scene.options;
     let parts = split_fitting(options.layout(), options.level_filter, scene.rows);
     if options.prefers_running() && !parts.1.is_empty() {
-        write_preferred(alloc, out, tracker, drawn, scene, parts)
+        write_preferred(alloc, out, tracker, drawn, scene, parts)?;
+        Ok(Vec::new(alloc))
     } else {
         write_first(alloc, out, tracker, drawn, scene, widths, parts)
     }
@@ -361,13 +379,14 @@ fn write_first(
     scene: &Scene<'_>,
     widths: &[u16],
     parts: (&[Row], &[Row]),
-) -> Result<(), Refusal>
+) -> Result<Vec<RowLine>, Refusal>
     requires split { SplitsScene scene.now parts.0.now parts.1.now }
     requires first { DrawsFirst scene.now.options parts.1.now }
     ensures bytes { OnOk result
         (WritesFitting scene.now tracker.old widths.now out.old out.new) }
     ensures drawn { OnOk result (DrawsFitting scene.now tracker.old drawn.old drawn.new) }
     ensures observed { OnOk result (ObservesScene scene.now tracker.old tracker.new) }
+    ensures lines { IfOk result (KeepsOf scene.now scene.now.rows.now out.new) }
     ensures kept { kept_of tracker.new ≡ kept_of tracker.old }
     ensures reason { IsOkUnless result Refusal.Memory }
 {
@@ -375,9 +394,9 @@ fn write_first(
     let options = &scene.options;
     let layout = options.layout();
     let covered = layout.covered_widths(widths);
-    write_rows(alloc, out, tracker, drawn, scene, covered, shown)?;
+    let lines = write_shown(alloc, out, tracker, drawn, scene, covered, shown)?;
     write_more(alloc, out, tracker, drawn, options, others)?;
-    Ok(())
+    Ok(lines)
 }
 
 /// Does what `write_fitting` does if rows of running tasks are preferred. `parts` are the rows up
@@ -467,6 +486,7 @@ fn write_row(
 
 /// Writes the lines of the rows that are drawn over the lines on screen. Adds their widths to
 /// those that are drawn, and observes each row.
+#[inline(never)]
 fn write_rows(
     alloc: Global,
     out: &mut LineWriter,
@@ -507,6 +527,157 @@ fn write_rows(
     Ok(())
 }
 
+/// What the line of a row is written with.
+#[derive(Clone, Copy, Drop)]
+struct LineSource<'a> {
+    /// The throughput of the row, if there is one.
+    throughput: Option<Throughput>,
+    /// The line in an earlier frame, if it is the same.
+    earlier: Option<CopiedLine<'a>>,
+    /// The width of the line on screen that it is written over.
+    old_width: u16,
+}
+
+/// Does what `write_rows` does, and returns the lines that the next frame may copy. Lines of the
+/// latest frame are copied, unless most rows have changed.
+fn write_shown(
+    alloc: Global,
+    out: &mut LineWriter,
+    tracker: &mut Option<FrameThroughput>,
+    drawn: &mut Drawn,
+    scene: &Scene<'_>,
+    widths: &[u16],
+    rows: &[Row],
+) -> Result<Vec<RowLine>, Refusal>
+    ensures bytes { OnOk result
+        (WritesRows scene.now tracker.old widths.now rows.now out.old out.new) }
+    ensures drawn { OnOk result (DrawsRows scene.now tracker.old rows.now drawn.old drawn.new) }
+    ensures observed { OnOk result
+        (ObservesDrawn scene.now.options rows.now tracker.old tracker.new) }
+    ensures lines { IfOk result (KeepsOf scene.now rows.now out.new) }
+    ensures kept { kept_of tracker.new ≡ kept_of tracker.old }
+    ensures reason { IsOkUnless result Refusal.Memory }
+{
+    if scene.timer.is_some() || !scene.past.resembles(rows) {
+        write_rows(alloc, out, tracker, drawn, scene, widths, rows)?;
+        return Ok(Vec::new(alloc));
+    }
+    write_again(alloc, out, tracker, drawn, scene, widths, rows)
+}
+
+/// Does what `write_rows` does where no times are shown, and returns the lines that the next frame
+/// may copy. The line of a row that was drawn alike is copied.
+#[inline(never)]
+fn write_again(
+    alloc: Global,
+    out: &mut LineWriter,
+    tracker: &mut Option<FrameThroughput>,
+    drawn: &mut Drawn,
+    scene: &Scene<'_>,
+    widths: &[u16],
+    rows: &[Row],
+) -> Result<Vec<RowLine>, Refusal>
+    requires { scene.now.timer.now ≡ None }
+    ensures bytes { OnOk result
+        (WritesRows scene.now tracker.old widths.now rows.now out.old out.new) }
+    ensures drawn { OnOk result (DrawsRows scene.now tracker.old rows.now drawn.old drawn.new) }
+    ensures observed { OnOk result
+        (ObservesDrawn scene.now.options rows.now tracker.old tracker.new) }
+    ensures lines { IfOk result (KeepsOf scene.now rows.now out.new) }
+    ensures kept { kept_of tracker.new ≡ kept_of tracker.old }
+    ensures reason { IsOkUnless result Refusal.Memory }
+{
+    let options = &scene.options;
+    let earlier = scene.past.earlier_lines(options);
+    let mut next = 0;
+    let mut lines = Vec::with_capacity(alloc, rows.len())?;
+    let mut texts = RowTexts::new(alloc);
+    let mut left = widths;
+    for (n, row) in rows.iter().enumerate() {
+        if !is_row_drawn(options.level_filter, row) {
+            continue;
+        }
+        let (old_width, others) = split_first_width(left);
+        let throughput = observe_row(alloc, tracker, row)?;
+        let source = LineSource {
+            throughput,
+            earlier: earlier.find(&mut next, row, &throughput),
+            old_width,
+        };
+        let start = out.len();
+        let size = write_line(alloc, out, &mut texts, scene, row, source)?;
+        drawn.midpoint = drawn.midpoint.max(size.midpoint);
+        drawn.widths.push(size.width)?;
+        let line = RowLine {
+            row: n,
+            start,
+            size,
+        };
+        keep_line(&mut lines, row, &throughput, line)?;
+        left = others;
+    }
+    Ok(lines)
+}
+
+/// Writes the line of a row where no times are shown. Returns how large it is.
+#[inline(always)]
+fn write_line(
+    alloc: Global,
+    out: &mut LineWriter,
+    texts: &mut RowTexts,
+    scene: &Scene<'_>,
+    row: &Row,
+    source: LineSource<'_>,
+) -> Result<LineSize, Refusal>
+    requires timer { scene.now.timer.now ≡ None }
+    requires earlier { HasEarlier scene.now row.now source }
+    ensures bytes { OnOk result (WritesLine scene.now (row_of row.now, source.entry.throughput)
+        source.entry.old_width out.old out.new) }
+    ensures size { IfOk result (IsSizeIn scene.now (row_of row.now, source.entry.throughput)) }
+    ensures reason { IsOkUnless result Refusal.Memory }
+{
+    if let Some(line) = source.earlier {
+        out.push_copied(line.bytes, source.old_width.saturating_sub(line.size.width))?;
+        return Ok(line.size);
+    }
+    let (throughput, old_width) = (source.throughput, source.old_width);
+    compose_line(alloc, out, texts, scene, row, throughput, old_width)
+}
+
+/// Composes the line of a row where no times are shown. Returns how large it is.
+#[inline(never)]
+fn compose_line(
+    alloc: Global,
+    out: &mut LineWriter,
+    texts: &mut RowTexts,
+    scene: &Scene<'_>,
+    row: &Row,
+    throughput: Option<Throughput>,
+    old_width: u16,
+) -> Result<LineSize, Refusal>
+    requires { scene.now.timer.now ≡ None }
+    ensures bytes { OnOk result
+        (WritesLine scene.now (row_of row.now, throughput) old_width out.old out.new) }
+    ensures size { IfOk result (IsSizeIn scene.now (row_of row.now, throughput)) }
+    ensures reason { IsOkUnless result Refusal.Memory }
+{
+    let measured = Measured {
+        throughput,
+        timer: scene.timer,
+        at: scene.at,
+    };
+    let start = out.len();
+    let aligned = scene.past.midpoint();
+    let midpoint = push_row(alloc, out, texts, &scene.options, aligned, row, measured)?;
+    let length = out.len() - start;
+    let width = out.end_line_over(old_width)?;
+    Ok(LineSize {
+        length,
+        width,
+        midpoint,
+    })
+}
+
 /// Blanks the lines on screen below the first `drawn` rows, and moves the cursor up to the first
 /// row.
 fn finish_redraw(
@@ -515,7 +686,8 @@ fn finish_redraw(
     widths: &[u16],
     drawn: usize,
 ) -> Result<(), AllocError>
-    ensures { OnOk result (FinishesRedraw layout out.old widths.now drawn out.new) }
+    ensures redraw { OnOk result (FinishesRedraw layout out.old widths.now drawn out.new) }
+    ensures kept { OnOk result (Extends out.old out.new) }
 {
     match layout {
         Layout::Overwriting => finish_overwriting(out, widths, drawn)?,
@@ -527,8 +699,9 @@ fn finish_redraw(
 /// Writes blanks over the lines on screen below the first `drawn` rows, and moves the cursor up
 /// from below all rows to the first.
 fn finish_overwriting(out: &mut LineWriter, widths: &[u16], drawn: usize) -> Result<(), AllocError>
-    ensures { OnOk result
+    ensures redraw { OnOk result
         (FinishesRedraw Layout.Overwriting out.old widths.now drawn out.new) }
+    ensures kept { OnOk result (Extends out.old out.new) }
 {
     write_blanks(out, widths_below(widths, drawn))?;
     push_up(out, drawn.max(widths.len()))?;

@@ -6,7 +6,7 @@ ghost use Rattle.prodash_line.specs.Lines.{piece, styled, spaces};
 ghost use Rattle.prodash_line.specs.ProgressRows.{bar_with};
 ghost use Rattle.prodash_line.specs.plumbing.Writing.{IsMeasured, line_bytes, is_printable, style_of_length, open_bytes, reset_bytes, Appends, AppendsPair, AppendsIndented, AppendsIfRoom, run, Begun, SameLine, Counts};
 ghost use Rattle.prodash_line.specs.plumbing.RowWriting.{whole_text, text_length, length_of, progress_bytes};
-ghost use Rattle.prodash_line.specs.plumbing.OverwriteBytes.{on_row, EndsOver, IsCutWidth};
+ghost use Rattle.prodash_line.specs.plumbing.OverwriteBytes.{on_row, row_end, EndsOver, IsCutWidth};
 
 use crate::render::line::byte_buffer::ByteBuffer;
 use crate::render::line::draw::bar::{ARROW, BRACKETS};
@@ -21,6 +21,7 @@ use crate::render::line::draw::text::text_width;
 use crate::render::line::page::{Sign, Style, push_open, push_reset, push_sign};
 use prodash_base::progress::Level;
 use std::alloc::{AllocError, Global};
+use std::mem;
 
 /// Writes lines into one buffer, one after another, and measures the current line.
 #[derive(Drop)]
@@ -56,6 +57,13 @@ impl LineWriter {
         ensures { result.now ≡ self.now.bytes }
     {
         self.bytes.as_slice()
+    }
+
+    /// Returns how many bytes were written since the buffer was last cleared.
+    pub(crate) fn len(&self) -> usize
+        ensures { result ≡ length self.now.bytes }
+    {
+        self.bytes.len()
     }
 
     /// Returns the width of the line so far, before it is cut, in columns, at most 65535.
@@ -465,6 +473,26 @@ impl LineWriter {
             .push_copies(b' ', width.saturating_sub(own_width))?;
         self.bytes.push(b'\n')?;
         Ok(own_width)
+    }
+
+    /// Appends the bytes of a line, then `spaces` spaces and a line feed. Fails if out of memory.
+    #[inline(always)]
+    pub(crate) fn push_copied(&mut self, line: &[u8], spaces: u16) -> Result<(), AllocError>
+        ensures { OnOk result
+            (self.new.bytes ≡ self.old.bytes ++ (line.now ++ row_end spaces)) }
+    {
+        self.bytes.extend_from_slice(line)?;
+        self.bytes.push_copies(b' ', spaces)?;
+        self.bytes.push(b'\n')?;
+        Ok(())
+    }
+
+    /// Swaps the bytes written since the buffer was last cleared with others.
+    pub(crate) fn swap_bytes(&mut self, others: &mut ByteBuffer)
+        ensures own { self.new.bytes ≡ others.old }
+        ensures others { others.new ≡ self.old.bytes }
+    {
+        mem::swap(&mut self.bytes, others);
     }
 
     /// Appends a sign after the lines. Fails if out of memory.

@@ -1,15 +1,17 @@
 //! What the renderer keeps from frame to frame.
-ghost use Rattle.std.specs.Prelude.{◌≡◌, [], false, Some, IfSome, IfOk, IsOkUnless};
-ghost use Rattle.prodash_base.specs.Rows.{rows_of};
+ghost use Rattle.std.specs.Prelude.{◌≡◌, Bool, List, [], true, false, Some, IfSome, IfOk, IsOkUnless};
+ghost use Rattle.prodash_base.specs.Rows.{PathRow, rows_of};
 ghost use Rattle.prodash_base.specs.Timers.{timer_after};
 ghost use Rattle.std.specs.Option.{option_map};
 ghost use Rattle.prodash_line.specs.Renderer.{IsEndRefusal, new_renderer, rows_changed, draws_again, any_goes_on, times_go_on, is_drawn, erases_at_end, closes_at, hides_cursor, is_cursor_hidden, latest_rows, resized, tick_action, resize_action, answer_of};
-ghost use Rattle.prodash_line.specs.plumbing.FrameWriting.{keeping, remembering};
+ghost use Rattle.prodash_line.specs.plumbing.FrameWriting.{KeepsLines, RowsStay, keeping, remembering};
+ghost use Rattle.prodash_line.specs.plumbing.KeptLines.{AreAmong, AreEarlier};
 ghost use Rattle.prodash_line.specs.Tracking.{kept_of};
 ghost use Rattle.prodash_base.specs.Rings.{keep_last};
 
 use crate::render::line::draw::action::{Action, Composed, Drawn};
 use crate::render::line::draw::input::{Answer, Options};
+use crate::render::line::draw::latest_rows::{EarlierLines, LatestRows, RowLine};
 use crate::render::line::draw::line_writer::LineWriter;
 use crate::render::line::draw::row::is_row_drawn;
 use prodash_base::Refusal;
@@ -48,7 +50,7 @@ pub(crate) struct Past {
     /// The greatest midpoint of the frame drawn last, 0 before the first.
     last_progress_midpoint: u16,
     /// The rows at the latest accepted tick with a root.
-    last_rows: Option<Rows>,
+    last_rows: LatestRows,
     /// The rows that were remembered before those, kept only for their memory. Contracts don't see
     /// them.
     spare_rows: Option<Rows>,
@@ -158,7 +160,7 @@ impl State {
         ensures reason { IsOkUnless result Refusal.Memory }
     {
         Ok(State {
-            past: self.past.deep_clone()?,
+            past: self.past.deep_clone(alloc)?,
             frame: LineWriter::new(alloc),
             tracker: self.copied_tracker()?,
         })
@@ -214,7 +216,7 @@ impl Past {
             options,
             widths: Vec::new(alloc),
             last_progress_midpoint: 0,
-            last_rows: None,
+            last_rows: LatestRows::new(alloc, options, None),
             spare_rows: None,
             spare_messages: None,
             origin_widths: Vec::new(alloc),
@@ -231,7 +233,7 @@ impl Past {
     }
 
     /// Returns an equal copy.
-    fn deep_clone(&self) -> Result<Past, Refusal>
+    fn deep_clone(&self, alloc: Global) -> Result<Past, Refusal>
         ensures ok { IfOk result (λ copy. copy ≡ self.now) }
         ensures reason { IsOkUnless result Refusal.Memory }
     {
@@ -239,7 +241,7 @@ impl Past {
             options: self.options,
             widths: self.widths.clone()?,
             last_progress_midpoint: self.last_progress_midpoint,
-            last_rows: self.last_rows.clone()?,
+            last_rows: LatestRows::new(alloc, self.options, self.last_rows.rows().clone()?),
             spare_rows: None,
             spare_messages: None,
             origin_widths: self.origin_widths.clone()?,
@@ -264,7 +266,7 @@ impl Past {
     fn rows_changed(&self, rows: &Rows) -> bool
         ensures { result ≡ rows_changed self.now.last_rows rows.now }
     {
-        match &self.last_rows {
+        match self.last_rows.rows() {
             None => true,
             Some(before) => *before != *rows,
         }
@@ -315,6 +317,18 @@ impl Past {
             Action::Erase
         } else {
             Action::Leave
+        }
+    }
+
+    /// Whether a tick with this action saw the rows of the tick before: it would draw others.
+    pub(crate) fn rows_stay(&self, action: Action, show: bool) -> bool
+        ensures { (printed : Bool) (rows : List PathRow)
+            → action ≡ tick_action self.now show printed rows
+            → result ≡ true → self.now.last_rows ≡ Some rows }
+    {
+        match action {
+            Action::Leave => show && self.options.output_is_terminal,
+            Action::Redraw | Action::Erase | Action::Close => false,
         }
     }
 
@@ -386,10 +400,20 @@ impl Past {
     pub(crate) fn latest_rows(&self) -> &[Row]
         ensures { rows_of result.now ≡ latest_rows self.now.last_rows }
     {
-        match &self.last_rows {
-            None => &[],
-            Some(rows) => rows.as_slice(),
-        }
+        self.last_rows.as_slice()
+    }
+
+    /// Whether some of a few rows, spread over all, were the same at the latest accepted tick.
+    pub(crate) fn resembles(&self, rows: &[Row]) -> bool {
+        self.last_rows.resemble(rows)
+    }
+
+    /// Returns the lines of the latest frame that one with these options may copy.
+    pub(crate) fn earlier_lines(&self, options: &Options) -> EarlierLines<'_>
+        ensures { AreEarlier options.now self.now.midpoint result }
+    {
+        self.last_rows
+            .lines_for(options, self.last_progress_midpoint)
     }
 
     /// Records whether the cursor is hidden once a frame is written.
@@ -405,16 +429,20 @@ impl Past {
     pub(crate) fn remember_tick(
         &mut self,
         frame: Composed,
+        bytes: &mut LineWriter,
         rows: Rows,
         messages: Messages,
         seen: MessageCopyState,
     ) -> Answer
+        requires lines { KeepsLines self.old rows bytes.old frame.drawn }
+        requires rows { RowsStay self.old rows frame }
         ensures state { self.new ≡ remembering frame rows seen self.old }
         ensures answer { result ≡ answer_of frame.drawn.action }
     {
-        let action = frame.drawn.action;
-        self.keep_drawn(frame.drawn);
-        self.spare_rows = self.last_rows.replace(rows);
+        let (action, rows_stay) = (frame.drawn.action, frame.rows_stay);
+        let midpoint = self.midpoint();
+        let lines = self.keep_drawn(frame.drawn);
+        self.keep_rows(rows_stay, rows, midpoint, lines, bytes);
         self.spare_messages = Some(messages);
         self.origin_widths = frame.origin_widths;
         self.seen = Some(seen);
@@ -428,21 +456,60 @@ impl Past {
         }
     }
 
-    /// Records what the body of a written frame left.
-    fn keep_drawn(&mut self, drawn: Drawn)
-        ensures { self.new ≡ keeping drawn self.old }
+    /// Remembers the rows of a tick, and the lines of its frame, in which values are brought to this
+    /// midpoint. If `rows_stay`, the same rows are remembered already, and their lines are kept.
+    fn keep_rows(
+        &mut self,
+        rows_stay: bool,
+        rows: Rows,
+        midpoint: u16,
+        lines: Vec<RowLine>,
+        frame: &mut LineWriter,
+    )
+        requires rows { rows_stay ≡ true → self.old.last_rows ≡ Some rows }
+        requires lines { AreAmong self.old.options midpoint rows frame.old.bytes lines.items }
+        ensures { self.new ≡ record self.old { last_rows = Some rows } }
+    {
+        if rows_stay {
+            self.spare_rows = Some(rows);
+            return;
+        }
+        self.spare_rows = self.last_rows.replace(rows);
+        self.keep_lines(midpoint, lines, frame);
+    }
+
+    /// Keeps the lines of the frame that was written last, in which values are brought to this
+    /// midpoint.
+    fn keep_lines(&mut self, midpoint: u16, lines: Vec<RowLine>, frame: &mut LineWriter)
+        requires { AreAmong self.old.options midpoint (latest_rows self.old.last_rows)
+            frame.old.bytes lines.items }
+        ensures { self.new ≡ self.old }
+    {
+        self.last_rows
+            .keep_lines(self.options, midpoint, lines, frame);
+    }
+
+    /// Records what the body of a written frame left. Returns its lines that the next frame may copy.
+    fn keep_drawn(&mut self, drawn: Drawn) -> Vec<RowLine>
+        ensures state { self.new ≡ keeping drawn self.old }
+        ensures lines { result ≡ drawn.lines }
     {
         self.widths = drawn.widths;
         self.last_progress_midpoint = drawn.midpoint;
         self.rows_erased = drawn.rows_erased;
+        drawn.lines
     }
 
     /// Sets the size of the terminal, and records what the written frame left.
-    pub(crate) fn set_size(&mut self, size: (u16, u16), drawn: Drawn)
+    pub(crate) fn set_size(&mut self, size: (u16, u16), drawn: Drawn, frame: &mut LineWriter)
+        requires { KeepsLines (resized self.old size.0 size.1) (latest_rows self.old.last_rows)
+            frame.old drawn }
         ensures { self.new ≡ keeping drawn (resized self.old size.0 size.1) }
     {
         self.options.terminal_dimensions = size;
-        self.keep_drawn(drawn);
+        let midpoint = self.midpoint();
+        let lines = self.keep_drawn(drawn);
+        self.keep_lines(midpoint, lines, frame);
         keep_latest(&mut self.origin_widths, usize::from(size.1));
     }
 

@@ -1,4 +1,4 @@
-use Rattle.std.proofs.Common.{◌≡◌, ℕ, ◌++◌, List, ap, sym, ◌∙◌, append-nil, refl}
+use Rattle.std.proofs.Common.{◌≡◌, ℕ, ◌++◌, List, ap, subst, sym, ◌∙◌, append-nil, refl}
 use Rattle.prodash_base.specs.Rows.{rows_of}
 use Rattle.prodash_line.specs.declared.render.line.draw.action.Action.{Action}
 use Rattle.prodash_line.specs.declared.render.line.draw.input.Input.{Input}
@@ -12,6 +12,8 @@ use Rattle.prodash_line.specs.plumbing.FrameWriting.{action_start, action_end, s
 use Rattle.prodash_line.specs.Tracking.{tracked}
 use Rattle.prodash_line.specs.Renderer.{Renderer, Drawing, frame_at, remember, drawing_of, drawing_at, action_at, body_of, ending_of, state_after}
 use Rattle.prodash_line.proofs.OverwriteBytes.{begins_without, action_ends, frame_bytes_of}
+use Rattle.prodash_line.specs.plumbing.KeptLines.{AreAmong}
+use Rattle.prodash_line.proofs.KeptLines.{among_more}
 use Rattle.prodash_line.proofs.render.line.draw.frame.compose_resized.Goals as goal
 
 abbrev input : goal.In_ok-end_frame → Input
@@ -73,3 +75,12 @@ returns-clause-state c =
           ∙ ap (λ (left : List ℕ). state_after action r (drawing_at r (input c)) left) (left_is c);
       action = c.in_ok-drawn.ensures.state.action ∙ c.resize_action-action.ensures;
     }
+
+pub returns-clause-lines : goal.returns-clause-lines
+returns-clause-lines c =
+    let r = c.args.past.now in
+    let rows = rows_of c.latest_rows.result.now in
+    let lines = c.in_ok-drawn.drawn.lines.items in
+    subst (λ rows. AreAmong (remember r (input c)).options r.midpoint rows c.end_frame.new.out.bytes lines) c.latest_rows.ensures
+    (among_more (remember r (input c)).options r.midpoint rows c.write_body.new.out.bytes _ c.end_frame.new.out.bytes lines c.in_ok-end_frame.ensures
+    (subst (λ (o : Options). AreAmong o r.midpoint rows c.write_body.new.out.bytes lines) (sized_is c) c.in_ok-drawn.ensures.lines))

@@ -1,11 +1,11 @@
-use Rattle.std.proofs.Common.{rules, ◌≡◌, ℕ, ◌++◌, nat_eq, Bool, List, length, drop, ap, sym, ◌∙◌, Some}
+use Rattle.std.proofs.Common.{rules, ◌≡◌, ℕ, ◌++◌, nat_eq, Bool, List, length, drop, ap, subst, sym, ◌∙◌, Some}
 use Rattle.std.specs.Prelude.{not}
 use Rattle.std.specs.Option.{option_map}
 use Rattle.prodash_base.specs.Timers.{timer_after}
 use Rattle.prodash_base.specs.declared.messages.Message.{Message}
 use Rattle.prodash_line.specs.declared.render.line.draw.layout.Layout.{Layout}
 use Rattle.prodash_line.specs.DrawnLines.{layout_of}
-use Rattle.prodash_base.specs.Rows.{rows_of}
+use Rattle.prodash_base.specs.Rows.{PathRow, rows_of}
 use Rattle.prodash_line.specs.declared.render.line.draw.input.Input.{Input}
 use Rattle.prodash_line.specs.declared.render.line.draw.input.Input.TheVariants.{Tick}
 use Rattle.prodash_line.specs.Signs.{spelling}
@@ -16,6 +16,8 @@ use Rattle.prodash_line.specs.Tracking.{tracked}
 use Rattle.prodash_line.specs.MessageLines.{message_lines}
 use Rattle.prodash_line.specs.Renderer.{Renderer, Drawing, remember, frame_at, drawing_of, drawing_at, tick_action, action_at, printed_at, body_of, opening_of, ending_of, state_after}
 use Rattle.prodash_line.proofs.OverwriteBytes.{action_starts, action_ends, begun_with, has_by_length, frame_bytes_of, length-message_lines}
+use Rattle.prodash_line.specs.plumbing.KeptLines.{AreAmong}
+use Rattle.prodash_line.proofs.KeptLines.{among_more}
 use Rattle.prodash_line.proofs.render.line.draw.frame.compose_tick.Goals as goal
 
 printed : (c : goal.In_ok-end_frame) → length c.as_slice-messages.result.now ≡ length (message_lines c.args.past.now.options c.args.past.now.origin_widths c.args.seen.now.1)
@@ -125,3 +127,13 @@ returns-clause-state c =
       origin_widths = search rules;
       timer = timer_is c;
     }
+
+pub returns-clause-lines : goal.returns-clause-lines
+returns-clause-lines c =
+    let r = c.args.past.now in
+    subst (λ (rows : List PathRow). AreAmong r.options r.midpoint rows c.end_frame.new.out.bytes c.in_ok-drawn.drawn.lines.items) c.as_slice-rows.ensures
+    (among_more r.options r.midpoint (rows_of c.as_slice-rows.result.now) c.write_body.new.out.bytes _ c.end_frame.new.out.bytes _ c.in_ok-end_frame.ensures
+    (subst (λ (x : Renderer). AreAmong x.options r.midpoint (rows_of c.as_slice-rows.result.now) c.write_body.new.out.bytes c.in_ok-drawn.drawn.lines.items) c.past.view_is c.in_ok-drawn.ensures.lines))
+
+pub returns-clause-rows : goal.returns-clause-rows
+returns-clause-rows c = c.rows_stay-rows_stay.ensures (not c.is_empty-has_messages.result) c.args.seen.now.0 c.tick_action-action.ensures

@@ -10,6 +10,7 @@ use Rattle.prodash_line.specs.ProgressRows.{DrawnRow, filtered, row_lines, more_
 use Rattle.prodash_line.specs.plumbing.OverwriteBytes.{lines_bytes}
 use Rattle.prodash_line.specs.plumbing.Observing.{observe_all, ahead_of}
 use Rattle.prodash_line.specs.plumbing.FrameWriting.{times_in, more_of, shown_rows, shown_lines, fitting_shown, fitting_lines}
+use Rattle.prodash_line.proofs.KeptLines.{among_first, among_more}
 use Rattle.prodash_line.proofs.FittingRows.{fits_first, others_are, observes_both, both_written}
 use Rattle.prodash_line.proofs.render.line.draw.frame.write_first.Goals as goal
 
@@ -34,7 +35,7 @@ returns-clause-bytes c =
     let shown = shown_lines options c.args.scene.now.past.now.midpoint (times_in c.args.scene.now) (ahead_of c.args.tracker.now) c.args.parts.0.now in
     let before = c.args.out.now.bytes in
     both_written layout options options.level_filter c.args.widths.now c.args.scene.now.rows.now c.args.parts.0.now c.args.parts.1.now shown before _ _ c.requires.split
-    (c.in_ok-write_rows.ensures.bytes ∙ ap (λ (ws : List ℕ). before ++ lines_bytes layout ws shown)
+    (c.in_ok-lines.ensures.bytes ∙ ap (λ (ws : List ℕ). before ++ lines_bytes layout ws shown)
     (c.covered_widths-covered.ensures ∙ ap (λ (l : Layout). covered l c.args.widths.now) c.layout-layout.ensures))
     c.in_ok-write_more.ensures.bytes
     ∙ ap (λ (ls : List Line). before ++ lines_bytes layout (covered layout c.args.widths.now) ls) (sym (lines c))
@@ -47,18 +48,24 @@ returns-clause-drawn c =
     let more = more_of options c.args.parts.1.now in
     record {
       widths = c.in_ok-write_more.ensures.drawn.widths
-          ∙ ap (λ (ws : List ℕ). ws ++ widths_of more) c.in_ok-write_rows.ensures.drawn.widths
+          ∙ ap (λ (ws : List ℕ). ws ++ widths_of more) c.in_ok-lines.ensures.drawn.widths
           ∙ append_assoc old.widths.items (widths_of shown) (widths_of more)
           ∙ ap (λ (ws : List ℕ). old.widths.items ++ ws) (sym (map-append columns_of shown more) ∙ ap widths_of (sym (lines c)));
-      midpoint = c.in_ok-write_more.ensures.drawn.midpoint ∙ c.in_ok-write_rows.ensures.drawn.midpoint
+      midpoint = c.in_ok-write_more.ensures.drawn.midpoint ∙ c.in_ok-lines.ensures.drawn.midpoint
           ∙ ap (λ (rs : List DrawnRow). max old.midpoint (greatest_midpoint options.defensive rs)) (sym (fit c));
-      rows_erased = c.in_ok-write_more.ensures.drawn.rows_erased ∙ c.in_ok-write_rows.ensures.drawn.rows_erased;
-      action = c.in_ok-write_more.ensures.drawn.action ∙ c.in_ok-write_rows.ensures.drawn.action;
+      rows_erased = c.in_ok-write_more.ensures.drawn.rows_erased ∙ c.in_ok-lines.ensures.drawn.rows_erased;
+      action = c.in_ok-write_more.ensures.drawn.action ∙ c.in_ok-lines.ensures.drawn.action;
     }
 
 pub returns-clause-observed : goal.returns-clause-observed
 returns-clause-observed c =
     let levels = c.args.scene.now.options.level_filter in
     c.in_ok-write_more.ensures.observed
-    ∙ ap (λ t. observe_all t (filtered levels (rows_of c.args.parts.1.now))) c.in_ok-write_rows.ensures.observed
+    ∙ ap (λ t. observe_all t (filtered levels (rows_of c.args.parts.1.now))) c.in_ok-lines.ensures.observed
     ∙ observes_both levels (ahead_of c.args.tracker.now) c.args.scene.now.rows.now c.args.parts.0.now c.args.parts.1.now c.requires.split.whole
+
+pub returns-clause-lines : goal.returns-clause-lines
+returns-clause-lines c =
+    let scene = c.args.scene.now in
+    among_more scene.options scene.past.now.midpoint (rows_of scene.rows.now) c.write_shown.new.out.bytes _ c.write_more.new.out.bytes _ c.in_ok-write_more.ensures.bytes
+    (among_first scene.options scene.past.now.midpoint scene.rows.now c.args.parts.0.now c.args.parts.1.now c.write_shown.new.out.bytes _ c.requires.split.whole c.in_ok-lines.ensures.lines)

@@ -6,4 +6,4 @@ use Rattle.prodash_line.proofs.render.line.draw.frame.write_no_rows.Goals as goa
 pub returns : goal.returns
 returns c =
     let old = c.args.out.now.bytes in
-    c.in_ok-finish_redraw.ensures old [] refl (c.in_ok-start_lines.ensures ∙ ap (λ t. old ++ t) (sym (append-nil (spelling (lines_start c.args.layout)))))
+    c.in_ok-finish_redraw.ensures.redraw old [] refl (c.in_ok-start_lines.ensures ∙ ap (λ t. old ++ t) (sym (append-nil (spelling (lines_start c.args.layout)))))

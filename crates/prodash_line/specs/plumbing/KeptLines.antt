@@ -1,0 +1,76 @@
+-- Lines of rows that are kept from one frame to the next.
+use Rattle.std.specs.Prelude.{◌≡◌, ℕ, Bool, List, ◌++◌, length, Option, Some, None, slice_get}
+use Rattle.std.specs.List.{All}
+use Rattle.prodash_base.specs.Rows.{PathRow, rows_of}
+use Rattle.prodash_base.specs.declared.unit.display.Throughput.{Throughput}
+use Rattle.prodash_line.specs.declared.render.line.draw.input.Options.{Options}
+use Rattle.prodash_line.specs.declared.render.line.draw.latest_rows.CopiedLine.{CopiedLine}
+use Rattle.prodash_line.specs.declared.render.line.draw.latest_rows.EarlierLines.{EarlierLines}
+use Rattle.prodash_line.specs.declared.render.line.draw.latest_rows.LineSize.{LineSize}
+use Rattle.prodash_line.specs.declared.render.line.draw.latest_rows.RowLine.{RowLine}
+use Rattle.prodash_line.specs.DrawnLines.{layout_of}
+use Rattle.prodash_line.specs.Frames.{row_start}
+use Rattle.prodash_line.specs.Lines.{Line, columns_of}
+use Rattle.prodash_line.specs.ProgressRows.{DrawnRow, drawn_row_line, midpoint_of, times_at}
+use Rattle.prodash_line.specs.Signs.{spelling}
+use Rattle.prodash_line.specs.plumbing.Writing.{line_bytes}
+
+-- the line of a row that doesn't show its time
+abbrev pub untimed_line : Options → ℕ → DrawnRow → Line
+untimed_line options midpoint drawn = drawn_row_line options midpoint (times_at None 0) drawn
+
+-- the bytes of a line on its row of the terminal, without what follows it
+abbrev pub own_bytes : Options → Line → List ℕ
+own_bytes options line = spelling (row_start (layout_of options)) ++ line_bytes line
+
+-- these bytes are among others, from this index on
+pub record IsAt (start : ℕ) (part whole : List ℕ) : Type 0 where
+  pub before : List ℕ
+  pub after : List ℕ
+  pub joined : whole ≡ before ++ (part ++ after)
+  pub begins : length before ≡ start
+
+-- the line of a row is so large, and its values end there
+pub record IsSizeOf (options : Options) (aligned : ℕ) (drawn : DrawnRow) (size : LineSize) : Type 0 where
+  pub bytes : size.length ≡ length (own_bytes options (untimed_line options aligned drawn))
+  pub width : size.width ≡ columns_of (untimed_line options aligned drawn)
+  pub midpoint : size.midpoint ≡ midpoint_of options.defensive drawn
+
+-- it is the line of one of these rows without a throughput, among these bytes
+pub record IsAmong (options : Options) (aligned : ℕ) (rows : List PathRow) (bytes : List ℕ) (line : RowLine) : Type 0 where
+  pub row : PathRow
+  pub found : slice_get rows line.row ≡ Some row
+  pub size : IsSizeOf options aligned (row, None) line.size
+  pub place : IsAt line.start (own_bytes options (untimed_line options aligned (row, None))) bytes
+
+-- each of them is
+abbrev pub AreAmong : Options → ℕ → List PathRow → List ℕ → List RowLine → Type 0
+AreAmong options midpoint rows bytes lines = All (IsAmong options midpoint rows bytes) lines
+
+-- the lines of an earlier frame are those of its rows
+abbrev pub AreEarlier : Options → ℕ → EarlierLines → Type 0
+AreEarlier options midpoint e = AreAmong options midpoint (rows_of e.rows.now) e.bytes.now e.lines.now
+
+-- it is the line of this row
+pub record IsLineOf (options : Options) (midpoint : ℕ) (drawn : DrawnRow) (line : CopiedLine) : Type 0 where
+  pub size : IsSizeOf options midpoint drawn line.size
+  pub bytes : line.bytes.now ≡ own_bytes options (untimed_line options midpoint drawn)
+
+-- a row is drawn with this throughput as without one
+pub record ShowsNone (row : PathRow) (throughput : Option Throughput) : Type 0 where
+  pub line : (options : Options) (midpoint : ℕ) → untimed_line options midpoint (row, throughput) ≡ untimed_line options midpoint (row, None)
+  pub midpoint : (defensive : Bool) → midpoint_of defensive (row, throughput) ≡ midpoint_of defensive (row, None)
+
+-- rows whose lines are the same
+pub record AreAlike (row other : PathRow) : Type 0 where
+  pub level : length row.0 ≡ length other.0
+  pub name : row.1.name ≡ other.1.name
+  pub progress : row.1.progress ≡ other.1.progress
+
+-- the lines of rows are the same with these options as with those
+pub record DrawAlike (own other : Options) : Type 0 where
+  pub width : own.terminal_dimensions.0 ≡ other.terminal_dimensions.0
+  pub output_is_terminal : own.output_is_terminal ≡ other.output_is_terminal
+  pub bar_columns : own.bar_columns ≡ other.bar_columns
+  pub defensive : own.defensive ≡ other.defensive
+  pub colored : own.colored ≡ other.colored

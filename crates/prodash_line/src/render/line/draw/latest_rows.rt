@@ -1,0 +1,299 @@
+//! Rows that are remembered, and the lines that they were drawn in, for the next frame to copy.
+ghost use Rattle.std.specs.Prelude.{◌≡◌, ℕ, List, true, None, Some, IfSome, OnOk};
+ghost use Rattle.prodash_base.specs.Rows.{PathRow, row_of, rows_of};
+ghost use Rattle.prodash_line.specs.Renderer.{latest_rows};
+ghost use Rattle.prodash_line.specs.declared.render.line.draw.input.Options.{Options};
+ghost use Rattle.prodash_line.specs.plumbing.KeptLines.{AreAlike, AreAmong, AreEarlier, DrawAlike, IsAmong, IsLineOf, ShowsNone};
+
+use crate::render::line::byte_buffer::ByteBuffer;
+use crate::render::line::draw::input::Options;
+use crate::render::line::draw::line_writer::LineWriter;
+use prodash_base::progress::{Row, Rows};
+use prodash_base::unit::display::Throughput;
+use std::alloc::{AllocError, Global};
+use std::marker::Model;
+
+/// How many rows are compared to tell whether most have changed.
+const SAMPLES: usize = 8;
+
+/// How large the line of a row is.
+#[derive(Clone, Copy, Debug)]
+pub(crate) struct LineSize {
+    /// How many bytes it has, without what follows it over a wider line, and without its line feed.
+    pub(crate) length: usize,
+    /// How many columns it has.
+    pub(crate) width: u16,
+    /// The column at which the row's values end without padding.
+    pub(crate) midpoint: u16,
+}
+
+/// The line of a row among the bytes of a frame.
+#[derive(Clone, Copy, Debug)]
+pub(crate) struct RowLine {
+    /// The index of the row.
+    pub(crate) row: usize,
+    /// The index of the line's first byte.
+    pub(crate) start: usize,
+    pub(crate) size: LineSize,
+}
+
+/// A line that is copied from an earlier frame.
+#[derive(Clone, Copy, Debug)]
+pub(crate) struct CopiedLine<'a> {
+    pub(crate) bytes: &'a [u8],
+    pub(crate) size: LineSize,
+}
+
+/// The rows at the latest accepted tick with a root, and the lines that they were drawn in, as far
+/// as a frame may copy them. Contracts see the rows.
+#[derive(Drop)]
+pub(crate) struct LatestRows {
+    rows: Option<Rows>,
+    /// The lines of rows that show neither a throughput nor a time.
+    lines: Vec<RowLine>,
+    /// The bytes of the frame that has drawn them.
+    bytes: ByteBuffer,
+    /// The options that it was drawn with.
+    options: Options,
+    /// The midpoint that values were brought to.
+    midpoint: u16,
+}
+
+/// Lines of an earlier frame, and its rows.
+#[derive(Clone, Copy, Drop)]
+pub(crate) struct EarlierLines<'a> {
+    rows: &'a [Row],
+    lines: &'a [RowLine],
+    bytes: &'a [u8],
+}
+
+impl Model for LatestRows {
+    ghost use Rattle.std.specs.Prelude.{List, Option};
+    ghost use Rattle.prodash_base.specs.Rows.{PathRow};
+    ghost use Rattle.prodash_line.specs.Renderer.{latest_rows};
+    ghost use Rattle.prodash_line.specs.plumbing.KeptLines.{AreAmong};
+
+    ghost Value = { Option (List PathRow) };
+
+    ghost view = { λ l. l.rows };
+
+    ghost invariant = { λ l. AreAmong l.options l.midpoint (latest_rows l.rows) l.bytes l.lines.items };
+}
+
+impl LatestRows {
+    /// Returns these rows without lines.
+    pub(crate) fn new(alloc: Global, options: Options, rows: Option<Rows>) -> LatestRows
+        ensures { result ≡ rows }
+    {
+        LatestRows {
+            rows,
+            lines: Vec::new(alloc),
+            bytes: ByteBuffer::new(alloc),
+            options,
+            midpoint: 0,
+        }
+    }
+
+    /// Returns the rows.
+    pub(crate) fn rows(&self) -> &Option<Rows>
+        ensures { result.now ≡ self.now }
+    {
+        &self.rows
+    }
+
+    /// Returns the rows as a slice, which is empty before the first tick.
+    pub(crate) fn as_slice(&self) -> &[Row]
+        ensures { rows_of result.now ≡ latest_rows self.now }
+    {
+        match &self.rows {
+            None => &[],
+            Some(rows) => rows.as_slice(),
+        }
+    }
+
+    /// Replaces the rows, and drops their lines. Returns the rows that were there.
+    pub(crate) fn replace(&mut self, rows: Rows) -> Option<Rows>
+        ensures { self.new ≡ Some rows }
+    {
+        self.lines.clear();
+        self.rows.replace(rows)
+    }
+
+    /// Keeps the lines of the frame that was written last.
+    pub(crate) fn keep_lines(
+        &mut self,
+        options: Options,
+        midpoint: u16,
+        lines: Vec<RowLine>,
+        frame: &mut LineWriter,
+    )
+        requires { AreAmong options midpoint (latest_rows self.old) frame.old.bytes lines.items }
+        ensures { self.new ≡ self.old }
+    {
+        self.options = options;
+        self.midpoint = midpoint;
+        self.lines = lines;
+        frame.swap_bytes(&mut self.bytes);
+    }
+
+    /// Returns the lines that a frame with these options and this midpoint may copy.
+    pub(crate) fn lines_for(&self, options: &Options, midpoint: u16) -> EarlierLines<'_>
+        ensures { AreEarlier options.now midpoint result }
+    {
+        if self.midpoint == midpoint && draw_alike(&self.options, options) {
+            EarlierLines {
+                rows: self.as_slice(),
+                lines: self.lines.as_slice(),
+                bytes: self.bytes.as_slice(),
+            }
+        } else {
+            EarlierLines {
+                rows: &[],
+                lines: &[],
+                bytes: &[],
+            }
+        }
+    }
+
+    /// Whether some of a few rows, spread over all, have the progress of those in their places. If
+    /// not, most rows have changed, and lines aren't worth keeping.
+    pub(crate) fn resemble(&self, rows: &[Row]) -> bool {
+        let earlier = self.as_slice();
+        let step = rows.len() / SAMPLES + 1;
+        let mut n = 0;
+        while n < rows.len() && n < earlier.len() {
+            if rows[n].progress == earlier[n].progress {
+                return true;
+            }
+            n += step;
+        }
+        false
+    }
+}
+
+impl<'a> EarlierLines<'a> {
+    /// Returns the line of a row, if one was drawn that is the same. `next` is the index of the line at
+    /// which it is looked for first, and then that of the next row.
+    #[inline(always)]
+    pub(crate) fn find(
+        &self,
+        next: &mut usize,
+        row: &Row,
+        throughput: &Option<Throughput>,
+    ) -> Option<CopiedLine<'a>>
+        ensures { (options : Options) (midpoint : ℕ) → AreEarlier options midpoint self.now
+            → IfSome result (IsLineOf options midpoint (row_of row.now, throughput.now)) }
+    {
+        if !shows_no_throughput(row, throughput) {
+            return None;
+        }
+        self.find_without_throughput(next, row)
+    }
+
+    /// Does what `find` does for a row that shows no throughput.
+    #[inline(always)]
+    fn find_without_throughput(&self, next: &mut usize, row: &Row) -> Option<CopiedLine<'a>>
+        ensures { (options : Options) (midpoint : ℕ) → AreEarlier options midpoint self.now
+            → IfSome result (IsLineOf options midpoint (row_of row.now, None)) }
+    {
+        while let Some(line) = self.lines.get(*next) {
+            if let Some(copied) = self.line_of(row, line) {
+                *next += 1;
+                return Some(copied);
+            }
+            if !self.is_above(line, row) {
+                return None;
+            }
+            *next += 1;
+        }
+        None
+    }
+
+    /// Returns this line, if it is that of this row too.
+    #[inline(always)]
+    fn line_of(&self, row: &Row, line: &RowLine) -> Option<CopiedLine<'a>>
+        ensures { (options : Options) (midpoint : ℕ)
+            → IsAmong options midpoint (rows_of self.now.rows.now) self.now.bytes.now line.now
+            → IfSome result (IsLineOf options midpoint (row_of row.now, None)) }
+    {
+        let earlier = self.rows.get(line.row)?;
+        if !are_alike(row, earlier) {
+            return None;
+        }
+        let (start, size) = (line.start, line.size);
+        let end = start.checked_add(size.length)?;
+        let bytes = self.bytes.get(start..end)?;
+        Some(CopiedLine { bytes, size })
+    }
+
+    /// Returns whether the row of a line is above this one in the tree's order.
+    fn is_above(&self, line: &RowLine, row: &Row) -> bool {
+        match self.rows.get(line.row) {
+            Some(earlier) => earlier.key < row.key,
+            None => false,
+        }
+    }
+}
+
+/// Returns whether two rows are drawn alike. Progress is compared first, since it changes most often.
+#[inline(always)]
+fn are_alike(row: &Row, earlier: &Row) -> bool
+    ensures { result ≡ true → AreAlike (row_of row.now) (row_of earlier.now) }
+{
+    if row.progress != earlier.progress {
+        return false;
+    }
+    if row.key.level() != earlier.key.level() {
+        return false;
+    }
+    row.name == earlier.name
+}
+
+/// Adds the line of a row to those that the next frame may copy, if it shows no throughput. Fails if
+/// out of memory.
+#[inline(always)]
+pub(crate) fn keep_line(
+    lines: &mut Vec<RowLine>,
+    row: &Row,
+    throughput: &Option<Throughput>,
+    line: RowLine,
+) -> Result<(), AllocError>
+    ensures { (options : Options) (midpoint : ℕ) (rows : List PathRow) (bytes : List ℕ)
+        → AreAmong options midpoint rows bytes lines.old.items
+        → (ShowsNone (row_of row.now) throughput.now → IsAmong options midpoint rows bytes line)
+        → OnOk result (AreAmong options midpoint rows bytes lines.new.items) }
+{
+    if shows_no_throughput(row, throughput) {
+        lines.push(line)?;
+    }
+    Ok(())
+}
+
+/// Returns whether the line of a row is the same with this throughput as without.
+fn shows_no_throughput(row: &Row, throughput: &Option<Throughput>) -> bool
+    ensures { result ≡ true → ShowsNone (row_of row.now) throughput.now }
+{
+    match &row.progress {
+        Some(value) => throughput.is_none() || value.unit.is_none(),
+        None => true,
+    }
+}
+
+/// Returns whether the lines of rows are the same with these options as with those.
+fn draw_alike(own: &Options, other: &Options) -> bool
+    ensures { result ≡ true → DrawAlike own.now other.now }
+{
+    if own.terminal_dimensions != other.terminal_dimensions {
+        return false;
+    }
+    if own.output_is_terminal != other.output_is_terminal {
+        return false;
+    }
+    if own.bar_columns != other.bar_columns {
+        return false;
+    }
+    if own.defensive != other.defensive {
+        return false;
+    }
+    own.colored == other.colored
+}
