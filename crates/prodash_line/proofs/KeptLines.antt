@@ -1,7 +1,6 @@
 -- Lines of rows that are kept from one frame to the next.
 use Rattle.std.proofs.Common.{◌≡◌, ℕ, zero, suc, ◌+◌, ◌-◌, Bool, true, false, List, [], ◌∷◌, ◌++◌, length, take, drop, get_or, drop-cons, ◌<◌, refl, sym, ap, subst, ◌∙◌, append_assoc, length-append, arith, cond, not, Option, Some, None}
 use Rattle.std.specs.Prelude.{◌&&◌, ◌||◌, IfSome, slice_get}
-use Rattle.std.specs.Bool.{then_some}
 use Rattle.std.specs.Option.{option_map}
 use Rattle.std.proofs.lemmas.List.{map-append, take_at, drop_at}
 use Rattle.std.proofs.lemmas.List.Elements.{All-weaker}
@@ -16,18 +15,16 @@ use Rattle.prodash_line.specs.declared.render.line.draw.input.Options.{Options}
 use Rattle.prodash_line.specs.declared.render.line.draw.latest_rows.CopiedLine.{CopiedLine}
 use Rattle.prodash_line.specs.declared.render.line.draw.latest_rows.LineSize.{LineSize}
 use Rattle.prodash_line.specs.declared.render.line.draw.latest_rows.RowLine.{RowLine}
-use Rattle.prodash_line.specs.declared.render.line.draw.layout.Layout.TheVariants.{Overwriting, Erasing}
 use Rattle.prodash_line.specs.declared.render.line.draw.action.Action.{Action}
 use Rattle.prodash_line.specs.declared.render.line.draw.action.Action.TheVariants.{Close, Leave, Redraw}
-use Rattle.prodash_line.specs.declared.render.line.page.sign.Sign.TheVariants.{EraseLine}
-use Rattle.prodash_line.specs.DrawnLines.{as_drawn, drawn_chars, erases_rows, layout_of}
+use Rattle.prodash_line.specs.DrawnLines.{as_drawn, drawn_chars, layout_of}
 use Rattle.prodash_line.specs.Frames.{row_start}
-use Rattle.prodash_line.specs.Lines.{Line, columns_of, cut, in_color, spaces, styled}
+use Rattle.prodash_line.specs.Lines.{Line, columns_of, spaces, styled}
 use Rattle.prodash_line.specs.ProgressRows.{DrawnRow, bar, bar_columns, filtered, head_of, is_row_drawn, midpoint_of, midpoint_with, row_line, row_line_with, values_of, with_time}
 use Rattle.prodash_line.specs.Renderer.{Renderer, closes_at, draws_again, idle_action, is_drawn, rows_changed, tick_action, times_go_on}
 use Rattle.prodash_line.specs.Signs.{spelling}
 use Rattle.prodash_line.specs.TextStyles.{name_style, row_style}
-use Rattle.prodash_line.specs.plumbing.KeptLines.{AreAlike, AreAmong, DrawAlike, IsAmong, IsAt, IsLineOf, IsSizeOf, ShowsNone, own_bytes, untimed_line}
+use Rattle.prodash_line.specs.plumbing.KeptLines.{AreAlike, AreAmong, IsAmong, IsAt, IsLineOf, IsSizeOf, ShowsNone, own_bytes, untimed_line}
 use Rattle.prodash_line.specs.plumbing.Writing.{line_bytes}
 
 -- ---- rows that are alike
@@ -84,46 +81,6 @@ same_size options midpoint drawn other size line own s = record {
   width = s.width ∙ ap columns_of line;
   midpoint = s.midpoint ∙ own;
 }
-
--- ---- options that draw alike
-
-start_by : (erases : Bool) (height : ℕ) (synchronized whole : Bool) → row_start (cond erases (Erasing height synchronized whole) Overwriting) ≡ cond erases (EraseLine ∷ []) []
-start_by true height synchronized whole = refl
-start_by false height synchronized whole = refl
-
-starts : (own other : Options) → DrawAlike own other → row_start (layout_of own) ≡ row_start (layout_of other)
-starts own other h =
-    start_by (erases_rows own) own.terminal_dimensions.1 own.synchronized own.whole_messages
-    ∙ (λ i. cond (h.defensive i && h.output_is_terminal i) (EraseLine ∷ []) [])
-    ∙ sym (start_by (erases_rows other) other.terminal_dimensions.1 other.synchronized other.whole_messages)
-
-line_by : (own other : Options) (midpoint : ℕ) (drawn : DrawnRow) → DrawAlike own other → untimed_line own midpoint drawn ≡ untimed_line other midpoint drawn
-line_by own other midpoint drawn h = λ i.
-    cut (then_some (h.output_is_terminal i) (h.width i)) (in_color (h.colored i) (row_line (h.defensive i) (h.width i) (h.bar_columns i) midpoint drawn None))
-
-own_by : (own other : Options) (midpoint : ℕ) (drawn : DrawnRow) → DrawAlike own other
-    → own_bytes own (untimed_line own midpoint drawn) ≡ own_bytes other (untimed_line other midpoint drawn)
-own_by own other midpoint drawn h = λ i. spelling (starts own other h i) ++ line_bytes (line_by own other midpoint drawn h i)
-
-among_by : (own other : Options) (midpoint : ℕ) (rows : List PathRow) (bytes : List ℕ) → DrawAlike own other
-    → (line : RowLine) → IsAmong own midpoint rows bytes line → IsAmong other midpoint rows bytes line
-among_by own other midpoint rows bytes h line a =
-    let same = own_by own other midpoint (a.row, None) h in
-    record {
-      row = a.row;
-      found = a.found;
-      size = record {
-        bytes = a.size.bytes ∙ ap length same;
-        width = a.size.width ∙ ap columns_of (line_by own other midpoint (a.row, None) h);
-        midpoint = a.size.midpoint ∙ ap (λ (defensive : Bool). midpoint_of defensive (a.row, None)) h.defensive;
-      };
-      place = subst (λ (part : List ℕ). IsAt line.start part bytes) same a.place;
-    }
-
-pub among_alike : (own other : Options) (midpoint : ℕ) (rows : List PathRow) (bytes : List ℕ) (lines : List RowLine) → DrawAlike own other
-    → AreAmong own midpoint rows bytes lines → AreAmong other midpoint rows bytes lines
-among_alike own other midpoint rows bytes lines h a =
-    All-weaker (IsAmong own midpoint rows bytes) (IsAmong other midpoint rows bytes) (among_by own other midpoint rows bytes h) lines a
 
 -- ---- bytes
 

@@ -1,6 +1,8 @@
 //! Rows that are remembered, and the lines that they were drawn in, for the next frame to copy.
-ghost use Rattle.std.specs.Prelude.{◌≡◌, ℕ, List, true, None, Some, IfSome, OnOk};
+ghost use Rattle.std.specs.Prelude.{◌≡◌, ℕ, List, Option, true, None, Some, IfSome, OnOk};
 ghost use Rattle.prodash_base.specs.Rows.{PathRow, row_of, rows_of};
+ghost use Rattle.prodash_base.specs.Units.{measure_of};
+ghost use Rattle.prodash_base.specs.declared.unit.display.Throughput.{Throughput};
 ghost use Rattle.prodash_line.specs.Renderer.{latest_rows};
 ghost use Rattle.prodash_line.specs.declared.render.line.draw.input.Options.{Options};
 ghost use Rattle.prodash_line.specs.plumbing.KeptLines.{AreAlike, AreAmong, AreEarlier, DrawAlike, IsAmong, IsLineOf, ShowsNone};
@@ -10,6 +12,7 @@ use crate::render::line::draw::input::Options;
 use crate::render::line::draw::line_writer::LineWriter;
 use prodash_base::progress::{Row, Rows};
 use prodash_base::unit::display::Throughput;
+use prodash_base::unit::{Unit, dynamic};
 use std::alloc::{AllocError, Global};
 use std::marker::Model;
 
@@ -155,14 +158,14 @@ impl LatestRows {
         }
     }
 
-    /// Whether some of a few rows, spread over all, have the progress of those in their places. If
-    /// not, most rows have changed, and lines aren't worth keeping.
+    /// Whether some of a few rows, spread over all, show their values alone, and have the progress of
+    /// those in their places. If not, few lines can be copied, and lines aren't worth keeping.
     pub(crate) fn resemble(&self, rows: &[Row]) -> bool {
         let earlier = self.as_slice();
         let step = rows.len() / SAMPLES + 1;
         let mut n = 0;
         while n < rows.len() && n < earlier.len() {
-            if rows[n].progress == earlier[n].progress {
+            if rows[n].progress == earlier[n].progress && shows_values_alone(&rows[n]) {
                 return true;
             }
             n += step;
@@ -273,10 +276,28 @@ pub(crate) fn keep_line(
 fn shows_no_throughput(row: &Row, throughput: &Option<Throughput>) -> bool
     ensures { result ≡ true → ShowsNone (row_of row.now) throughput.now }
 {
-    match &row.progress {
-        Some(value) => throughput.is_none() || value.unit.is_none(),
+    throughput.is_none() || shows_values_alone(row)
+}
+
+/// Returns whether a row shows neither a percentage nor a throughput with its values.
+fn shows_values_alone(row: &Row) -> bool
+    ensures { result ≡ true
+        → (throughput : Option Throughput) → ShowsNone (row_of row.now) throughput }
+{
+    let Some(value) = &row.progress else {
+        return true;
+    };
+    match &value.unit {
         None => true,
+        Some(unit) => has_no_mode(unit),
     }
+}
+
+/// Returns whether a unit shows neither a percentage nor a throughput with its values.
+fn has_no_mode(unit: &Unit) -> bool
+    ensures { result ≡ true → (measure_of unit.now).mode ≡ None }
+{
+    *unit == dynamic(*unit.as_display_value())
 }
 
 /// Returns whether the lines of rows are the same with these options as with those.
