@@ -20,6 +20,9 @@ pub mod BorderCells
 pub mod ColoredCells
 pub mod PackedCells
 pub mod PrintableChars
+pub mod CertainChars
+pub mod BlankParts
+pub mod MeasuredTexts
 pub mod PaneRows
 pub mod WorkedBars
 pub mod WorkedProgress

@@ -6,3 +6,4 @@ pub mod GridInside
 pub mod BoardParts
 pub mod PaneParts
 pub mod Observed
+pub mod BlankParts

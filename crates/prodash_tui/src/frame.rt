@@ -2,20 +2,22 @@
 //!
 //! A private call that runs out of memory may have appended a part of its bytes, and leaves what
 //! the buffer held before.
-ghost use Rattle.std.specs.Prelude.{◌≡◌, true, ◌+◌, ◌^◌, ◌<◌, ◌≤◌, ◌∷◌, ◌++◌, length, map, take, None, IsOkUnless, OnErr, OnOk};
+ghost use Rattle.std.specs.Prelude.{◌≡◌, true, ◌+◌, ◌^◌, ◌<◌, ◌≤◌, ◌∷◌, ◌++◌, length, map, min, take, None, IsOkUnless, OnErr, OnOk};
 ghost use Rattle.prodash_base.specs.Appending.{IsPrefix};
 ghost use Rattle.prodash_tui.specs.Cells.{plain};
-ghost use Rattle.prodash_tui.specs.Frames.{difference, first_frame, is_certain, motion, rows_signs, style_change};
+ghost use Rattle.prodash_tui.specs.Frames.{difference, first_frame, motion, rows_signs, style_change};
 ghost use Rattle.prodash_tui.specs.declared.sign.Sign.TheVariants.{Char};
+ghost use Rattle.prodash_tui.specs.plumbing.BlankParts.{IsSameWithin};
 ghost use Rattle.prodash_tui.specs.plumbing.Appended.{AreCounted, Spells, all_over_blank, begins_certain, begins_wide, changes_from, clearing_at, cursor_over_blank, cursor_past, cursor_past_row, first_signs, known_behind, signs_at, signs_of_row, signs_over_blank};
 
 use crate::cell::Cell;
 use crate::cursor::Cursor;
 use crate::grid::Grid;
+use crate::grid_row::{GridRow, Span};
 use crate::packed::{PackedCell, blank_cell, is_half};
-use crate::row::Row;
 use crate::sign::{Sign, push_sign};
 use crate::style::{Style, same_style};
+use crate::text::is_certain;
 use prodash_base::Refusal;
 use std::alloc::AllocError;
 
@@ -62,15 +64,6 @@ fn push_chars(out: &mut Vec<u8>, chars: &[char]) -> Result<(), AllocError>
         push_sign(out, Sign::Char(*c))?;
     }
     Ok(())
-}
-
-/// Returns whether every terminal shows a character in one column: printable ASCII, box drawing and
-/// block elements. Others have as many columns as `unicode_width` counts, or as the terminal takes
-/// them for.
-fn is_certain(c: char) -> bool
-    ensures { result ≡ is_certain c }
-{
-    matches!(c, ' '..='~' | '\u{2500}'..='\u{259F}')
 }
 
 /// Returns whether the cells begin with a character that has two of them.
@@ -223,42 +216,86 @@ fn next_change(old: &[PackedCell], new: &[PackedCell], x: usize, end: usize) -> 
     k
 }
 
-/// Appends the characters of row `y` that aren't those of the row before.
+/// Returns columns that are blank in both rows.
+fn shared_blank(old: &GridRow, new: &GridRow) -> Span
+    ensures { IsSameWithin (min (length old.now) (length new.now)) result old.now new.now }
+{
+    let (a, b) = (old.blank_part(), new.blank_part());
+    let (first, last) = (a.first.max(b.first), a.last.min(b.last));
+    if last < first {
+        return Span { first: 0, last: 0 };
+    }
+    Span { first, last }
+}
+
+/// Returns the first column from `x` up to `end` in which two rows differ, or `end`. The columns of
+/// `same`, in which they don't, are not compared.
+fn next_change_outside(
+    old: &[PackedCell],
+    new: &[PackedCell],
+    same: Span,
+    x: usize,
+    end: usize,
+) -> usize
+    requires order { x ≤ end }
+    requires old { end ≤ length old.now }
+    requires new { end ≤ length new.now }
+    requires known { IsSameWithin end same old.now new.now }
+    ensures behind { x ≤ result }
+    ensures within { result ≤ end }
+    ensures same { changes_from x old.now new.now ≡ changes_from result old.now new.now }
+{
+    if same.first < x {
+        return next_change(old, new, x, end);
+    }
+    let k = next_change(old, new, x, same.first);
+    if k < same.first {
+        return k;
+    }
+    next_change(old, new, same.last, end)
+}
+
+/// Appends the characters of row `y` that aren't those of the row before. The columns of `same`
+/// are not compared.
 fn push_row(
     out: &mut Vec<u8>,
     y: u16,
     old: &[PackedCell],
     new: &[PackedCell],
+    same: Span,
     cursor: &mut Option<Cursor>,
 ) -> Result<(), AllocError>
-    requires { length new.now < 2 ^ 16 }
+    requires few { length new.now < 2 ^ 16 }
+    requires known { IsSameWithin (min (length old.now) (length new.now)) same old.now new.now }
     ensures ok { Spells result out.old.items (signs_of_row y old.now new.now cursor.old)
         out.new.items }
     ensures cursor { OnOk result (cursor.new ≡ cursor_past_row y old.now new.now cursor.old) }
     ensures kept { IsPrefix out.old.items out.new.items }
 {
     let end = old.len().min(new.len());
-    let mut k = next_change(old, new, 0, end);
+    let mut k = next_change_outside(old, new, same, 0, end);
     while k < end {
         push_changed(out, y, k as u16, &old[k], &new[k..], cursor)?;
-        k = next_change(old, new, k + 1, end);
+        k = next_change_outside(old, new, same, k + 1, end);
     }
     Ok(())
 }
 
 /// Appends the characters of rows that aren't those of the rows before.
-fn push_rows(out: &mut Vec<u8>, old: &[Row], new: &[Row]) -> Result<(), AllocError>
+fn push_rows(out: &mut Vec<u8>, old: &[GridRow], new: &[GridRow]) -> Result<(), AllocError>
     requires { AreCounted new.now }
     ensures ok { Spells result out.old.items (rows_signs 0 old.now new.now None) out.new.items }
     ensures kept { IsPrefix out.old.items out.new.items }
 {
     let mut cursor = None;
     for y in 0..old.len().min(new.len()) {
+        let same = shared_blank(&old[y], &new[y]);
         push_row(
             out,
             y as u16,
             old[y].as_slice(),
             new[y].as_slice(),
+            same,
             &mut cursor,
         )?;
     }
@@ -286,7 +323,7 @@ fn push_row_over_blank(
 }
 
 /// Appends the characters of rows that aren't blank cells.
-fn push_rows_over_blank(out: &mut Vec<u8>, new: &[Row]) -> Result<(), AllocError>
+fn push_rows_over_blank(out: &mut Vec<u8>, new: &[GridRow]) -> Result<(), AllocError>
     requires { AreCounted new.now }
     ensures ok { Spells result out.old.items (all_over_blank new.now) out.new.items }
     ensures kept { IsPrefix out.old.items out.new.items }
@@ -299,7 +336,7 @@ fn push_rows_over_blank(out: &mut Vec<u8>, new: &[Row]) -> Result<(), AllocError
 }
 
 /// Appends what erases a display, and then the characters of rows that aren't blank cells.
-fn push_first_rows(out: &mut Vec<u8>, new: &[Row]) -> Result<(), AllocError>
+fn push_first_rows(out: &mut Vec<u8>, new: &[GridRow]) -> Result<(), AllocError>
     requires { AreCounted new.now }
     ensures ok { Spells result out.old.items (first_signs new.now) out.new.items }
     ensures kept { IsPrefix out.old.items out.new.items }

@@ -6,9 +6,9 @@ ghost use Rattle.prodash_tui.specs.Grids.{IsRow, IsSheet, blank_sheet, left_of, 
 ghost use Rattle.prodash_tui.specs.plumbing.Appended.{AreCounted};
 ghost use Rattle.prodash_tui.specs.plumbing.GridInside.{colored_rows, filled_rows};
 
+use crate::grid_row::GridRow;
 use crate::packed::PackedCell;
 use crate::rect::{bottom_of, left_side_of, right_side_of, top_of};
-use crate::row::Row;
 use crate::style::{Color, Style};
 use prodash_base::Refusal;
 use prodash_core::render::tui::Rect;
@@ -32,7 +32,7 @@ use std::marker::Model;
 pub struct Grid {
     width: u16,
     height: u16,
-    rows: Vec<Row>,
+    rows: Vec<GridRow>,
     /// Whether nothing was drawn on it since it was blank.
     is_blank: bool,
 }
@@ -50,7 +50,7 @@ impl Model for Grid {
 }
 
 /// Blanks all cells of the rows.
-fn clear_rows(rows: &mut Vec<Row>, width: u16)
+fn clear_rows(rows: &mut Vec<GridRow>, width: u16)
     requires { All (λ row. length row ≡ width) rows.old.items }
     ensures { rows.new.items ≡ replicate (length rows.old.items) (blank_cells width) }
 {
@@ -61,7 +61,7 @@ fn clear_rows(rows: &mut Vec<Row>, width: u16)
 
 /// Fills the columns from `x` up to `end` with a character, in rows `first` up to `last`.
 fn fill_rows(
-    rows: &mut Vec<Row>,
+    rows: &mut Vec<GridRow>,
     first: usize,
     last: usize,
     x: usize,
@@ -81,7 +81,14 @@ fn fill_rows(
 }
 
 /// Changes the background of the columns from `x` up to `end`, in rows `first` up to `last`.
-fn color_rows(rows: &mut Vec<Row>, first: usize, last: usize, x: usize, end: usize, color: Color)
+fn color_rows(
+    rows: &mut Vec<GridRow>,
+    first: usize,
+    last: usize,
+    x: usize,
+    end: usize,
+    color: Color,
+)
     requires order { x ≤ end }
     requires end { All (λ row. end ≤ length row) rows.old.items }
     requires rows { first ≤ last }
@@ -103,7 +110,7 @@ impl Grid {
     {
         let mut rows = Vec::new(alloc);
         for _ in 0..height {
-            let row = Row::blank(alloc, width)?;
+            let row = GridRow::blank(alloc, width)?;
             rows.push(row)?;
         }
         Ok(Grid {
@@ -137,7 +144,7 @@ impl Grid {
     }
 
     /// Returns the rows.
-    pub(crate) fn rows(&self) -> &[Row]
+    pub(crate) fn rows(&self) -> &[GridRow]
         ensures rows { result.now ≡ self.now.rows }
         ensures counted { AreCounted result.now }
         ensures sheet { IsSheet self.now }

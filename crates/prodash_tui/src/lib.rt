@@ -7,6 +7,7 @@ mod dashboard;
 pub mod draw;
 mod frame;
 mod grid;
+mod grid_row;
 pub mod laws;
 mod offset;
 mod packed;

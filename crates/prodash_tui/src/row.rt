@@ -8,8 +8,7 @@ ghost use Rattle.prodash_tui.specs.plumbing.Writing.{IsInside, after_char, pen_a
 
 use crate::packed::{PackedCell, blank_cell, cell_of, color_cell, half_cell, is_half, join_cell};
 use crate::style::{Color, Style};
-use crate::text::{columns_of, drawn_char, text_columns};
-use prodash_line::render::line::draw::safe_char;
+use crate::text::{columns_of, drawn_char, fits};
 use std::alloc::{AllocError, Global};
 use std::marker::Model;
 
@@ -57,6 +56,17 @@ fn clear_cells(cells: &mut [PackedCell])
     for k in 0..cells.len() {
         cells[k] = blank_cell();
     }
+}
+
+/// Blanks all cells but those from column `first` up to `last`.
+fn clear_outside(cells: &mut [PackedCell], first: usize, last: usize)
+    requires order { first ≤ last }
+    requires last { last ≤ length cells.old }
+    ensures { cells.new ≡ blank_cells first
+        ++ (take (last - first) (drop first cells.old) ++ blank_cells (length cells.old - last)) }
+{
+    clear_cells(&mut cells[..first]);
+    clear_cells(&mut cells[last..]);
 }
 
 impl Row {
@@ -167,14 +177,15 @@ impl Row {
         pen.at
     }
 
-    /// Fills the columns from `x` up to `end` with a character.
-    pub(crate) fn fill(&mut self, x: usize, end: usize, c: char, style: Style)
+    /// Fills the columns from `x` up to `end` with a character, and returns the column behind it.
+    pub(crate) fn fill(&mut self, x: usize, end: usize, c: char, style: Style) -> usize
         requires order { x ≤ end }
         requires end { end ≤ length self.old }
         ensures cells { self.new ≡ splice x (filling style (end - x) c) self.old }
+        ensures behind { result ≡ x + length (filling style (end - x) c) }
         ensures width { length self.new ≡ length self.old }
     {
-        let c = safe_char(c);
+        let c = drawn_char(c);
         let columns = columns_of(c);
         let room = end - x;
         let mut pen = self.begin(x, end);
@@ -182,22 +193,24 @@ impl Row {
             self.push_columns(&mut pen, columns, c, style);
         }
         self.heal_behind(pen.at);
+        pen.at
     }
 
-    /// Draws a text in the columns from `x` up to `end`, with an ellipsis if it has more.
-    pub(crate) fn draw_shortened(&mut self, x: usize, end: usize, text: &str, style: Style)
+    /// Draws a text in the columns from `x` up to `end`, with an ellipsis if it has more, and
+    /// returns the column behind it.
+    pub(crate) fn draw_shortened(&mut self, x: usize, end: usize, text: &str, style: Style) -> usize
         requires order { x ≤ end }
         requires end { end ≤ length self.old }
         requires narrow { end < 2 ^ 16 }
         ensures cells { self.new ≡ splice x (text_shortened style (end - x) text.now) self.old }
+        ensures behind { result ≡ x + length (text_shortened style (end - x) text.now) }
         ensures width { length self.new ≡ length self.old }
     {
-        if x == end || text_columns(text) as usize <= end - x {
-            self.draw_text(x, end, text, style);
-            return;
+        if x == end || fits(text, end - x) {
+            return self.draw_text(x, end, text, style);
         }
         let behind = self.draw_text(x, end - 1, text, style);
-        self.fill(behind, behind + 1, '…', style);
+        self.fill(behind, behind + 1, '…', style)
     }
 
     /// Changes the background of the columns from `x` up to `end`.
@@ -209,10 +222,13 @@ impl Row {
         color_cells(&mut self.cells, x, end, color);
     }
 
-    /// Blanks all cells.
-    pub(crate) fn clear(&mut self)
-        ensures { self.new ≡ blank_cells (length self.old) }
+    /// Blanks all cells but those from column `first` up to `last`.
+    pub(crate) fn clear_outside(&mut self, first: usize, last: usize)
+        requires order { first ≤ last }
+        requires last { last ≤ length self.old }
+        ensures { self.new ≡ blank_cells first
+            ++ (take (last - first) (drop first self.old) ++ blank_cells (length self.old - last)) }
     {
-        clear_cells(&mut self.cells);
+        clear_outside(&mut self.cells, first, last);
     }
 }

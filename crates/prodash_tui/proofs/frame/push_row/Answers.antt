@@ -20,14 +20,14 @@ loop-k-preserved c =
     let cells = take (length new - k) (drop k new) in
     let rest : drop k new ≡ cells = sym (take_all (length new - k) (drop k new) (omega (arith, length-drop k new))) in
     let pushed = c.in_ok-push_changed.ensures in
-    let same = sym c.next_change-k-in-loop-k.ensures.same in
+    let same = sym c.next_change_outside-k-in-loop-k.ensures.same in
     record {
       ok = ap (λ changes. c.push_changed.new.out.items ++ spelling (row_signs row changes c.push_changed.new.cursor)) same
           ∙ row_more row k old_cell cells old new c.loop-k.out.items c.push_changed.new.out.items _ c.loop-k.cursor c.push_changed.new.cursor inside within a rest pushed.ok pushed.cursor c.loop-k.invariant.ok;
       cursor = ap (λ changes. row_cursor row changes c.push_changed.new.cursor) same
           ∙ cursor_more row k old_cell cells old new _ c.loop-k.cursor c.push_changed.new.cursor inside within a rest pushed.cursor c.loop-k.invariant.cursor;
       kept = IsPrefix-trans _ _ _ c.loop-k.invariant.kept c.push_changed.ensures.kept;
-      within = c.next_change-k-in-loop-k.ensures.within;
+      within = c.next_change_outside-k-in-loop-k.ensures.within;
     }
 
 pub returns-clause-ok : goal.returns-clause-ok

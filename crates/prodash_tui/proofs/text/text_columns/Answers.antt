@@ -14,7 +14,7 @@ loop-c-preserved c =
     let next = c.in-Some.c in
     let more : text_columns char_columns (map safe_char (c.loop-c.yielded ++ next ∷ [])) ≡ text_columns char_columns text + min (char_columns (safe_char next)) 2 =
     ap (text_columns char_columns) (map-append safe_char c.loop-c.yielded (next ∷ [])) ∙ text_columns-last char_columns text (safe_char next) in
-    let width : c.columns_of-more.result ≡ min (char_columns (safe_char next)) 2 = c.columns_of-more.ensures.value ∙ ap (λ (d : ℕ). min (char_columns d) 2) c.drawn_char.ensures in
+    let width : c.drawn_columns-more.result ≡ min (char_columns (safe_char next)) 2 = c.drawn_columns-more.ensures.value in
     let so_far : c.loop-c.columns ≡ min (text_columns char_columns text) 65536 = c.loop-c.invariant in
     let all : c.min-columns.result ≡ min (text_columns char_columns (map safe_char (c.loop-c.yielded ++ next ∷ []))) 65536 = omega arith in
     all
