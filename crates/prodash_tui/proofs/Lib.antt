@@ -23,6 +23,8 @@ pub mod PrintableChars
 pub mod CertainChars
 pub mod BlankParts
 pub mod MeasuredTexts
+pub mod PrintableTexts
+pub mod FittingTexts
 pub mod PaneRows
 pub mod WorkedBars
 pub mod WorkedProgress

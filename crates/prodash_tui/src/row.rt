@@ -1,14 +1,14 @@
 //! The cells of a row of a grid.
-ghost use Rattle.std.specs.Prelude.{◌≡◌, ◌+◌, ◌-◌, ◌^◌, ◌<◌, ◌≤◌, ◌++◌, length, take, drop, replicate, IfOk};
+ghost use Rattle.std.specs.Prelude.{◌≡◌, ◌+◌, ◌-◌, ◌^◌, ◌<◌, ◌≤◌, ◌++◌, length, map, take, drop, replicate, IfOk};
 ghost use Rattle.prodash_line.specs.CellRows.{char_columns};
-ghost use Rattle.prodash_tui.specs.Cells.{blank_cells, on_background};
+ghost use Rattle.prodash_tui.specs.Cells.{blank_cells, cell_of, on_background};
 ghost use Rattle.prodash_tui.specs.Rows.{front, healed, in_part, splice};
 ghost use Rattle.prodash_tui.specs.Texts.{filling, text_cut, text_shortened};
 ghost use Rattle.prodash_tui.specs.plumbing.Writing.{IsInside, after_char, pen_at};
 
 use crate::packed::{PackedCell, blank_cell, cell_of, color_cell, half_cell, is_half, join_cell};
 use crate::style::{Color, Style};
-use crate::text::{columns_of, drawn_char, fits};
+use crate::text::{columns_of, drawn_char, fits, is_all_printable};
 use std::alloc::{AllocError, Global};
 use std::marker::Model;
 
@@ -55,6 +55,17 @@ fn clear_cells(cells: &mut [PackedCell])
 {
     for k in 0..cells.len() {
         cells[k] = blank_cell();
+    }
+}
+
+/// Writes printable ASCII characters into the cells from column `x` on, one into each.
+fn write_printable(cells: &mut Vec<PackedCell>, x: usize, text: &[u8], style: Style)
+    requires { x + length text.now ≤ length cells.old.items }
+    ensures { cells.new.items ≡ take x cells.old.items
+        ++ (map (cell_of style) text.now ++ drop (x + length text.now) cells.old.items) }
+{
+    for k in 0..text.len() {
+        cells[x + k] = cell_of(text[k] as char, style);
     }
 }
 
@@ -161,6 +172,23 @@ impl Row {
         }
     }
 
+    /// Draws printable ASCII characters in the columns from `x` up to `end`, and returns the column
+    /// behind them.
+    fn draw_printable(&mut self, x: usize, end: usize, text: &[u8], style: Style) -> usize
+        requires order { x ≤ end }
+        requires end { end ≤ length self.old }
+        ensures cells { self.new
+            ≡ splice x (map (cell_of style) (take (end - x) text.now)) self.old }
+        ensures behind { result ≡ x + length (take (end - x) text.now) }
+    {
+        self.heal_before(x);
+        let some = &text[..text.len().min(end - x)];
+        write_printable(&mut self.cells, x, some, style);
+        let behind = x + some.len();
+        self.heal_behind(behind);
+        behind
+    }
+
     /// Draws a text in the columns from `x` up to `end`, and returns the column behind it.
     pub(crate) fn draw_text(&mut self, x: usize, end: usize, text: &str, style: Style) -> usize
         requires order { x ≤ end }
@@ -169,6 +197,10 @@ impl Row {
         ensures behind { result ≡ x + length (text_cut style (end - x) text.now) }
         ensures width { length self.new ≡ length self.old }
     {
+        let bytes = text.as_bytes();
+        if is_all_printable(bytes) {
+            return self.draw_printable(x, end, bytes, style);
+        }
         let mut pen = self.begin(x, end);
         for c in text.chars() {
             self.push(&mut pen, drawn_char(c), style);

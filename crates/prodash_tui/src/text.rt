@@ -2,6 +2,7 @@
 ghost use Rattle.std.specs.Prelude.{◌≡◌, ◌<◌, ◌≤◌, min, nat_le};
 ghost use Rattle.prodash_line.specs.CellRows.{char_columns, text_columns};
 ghost use Rattle.prodash_line.specs.DrawnLines.{safe_char};
+ghost use Rattle.prodash_line.specs.plumbing.Writing.{is_printable};
 ghost use Rattle.prodash_tui.specs.Frames.{is_certain};
 ghost use Rattle.prodash_tui.specs.Texts.{block_width, drawn_text};
 
@@ -65,6 +66,18 @@ fn other_columns(c: char) -> usize
     ensures few { result ≤ 2 }
 {
     columns_of(drawn_char(c))
+}
+
+/// Returns whether the bytes are all printable ASCII characters.
+pub(crate) fn is_all_printable(text: &[u8]) -> bool
+    ensures { result ≡ is_printable text.now }
+{
+    for byte in text {
+        if *byte < 0x20 || 0x7e < *byte {
+            return false;
+        }
+    }
+    true
 }
 
 /// Returns how many columns a text has, at most 65536.

@@ -1,4 +1,4 @@
-use Rattle.std.proofs.Common.{◌≡◌, ◌+◌, ◌<◌, length, refl, sym, ◌∙◌, arith}
+use Rattle.std.proofs.Common.{◌+◌, ◌<◌, length, refl, sym, ◌∙◌, arith}
 use Rattle.prodash_tui.proofs.SpelledSigns.{same_left}
 use Rattle.prodash_tui.proofs.frame.next_change.Goals as goal
 

@@ -1,4 +1,4 @@
-use Rattle.std.proofs.Common.{rules, ◌≡◌, ◌<◌, ◌++◌, ◌+◌, ◌-◌, length, take, drop, sym, ap, ◌∙◌, append-nil, arith}
+use Rattle.std.proofs.Common.{rules, ◌≡◌, ◌<◌, ◌++◌, ◌-◌, length, take, drop, sym, ap, ◌∙◌, append-nil, arith}
 use Rattle.std.proofs.lemmas.List.{get_or_read, length-drop, take_all}
 use Rattle.prodash_base.proofs.Prefixes.{IsPrefix-trans}
 use Rattle.prodash_tui.specs.Cells.{blank_cell, cell_at}

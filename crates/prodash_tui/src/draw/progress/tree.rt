@@ -3,9 +3,11 @@ ghost use Rattle.std.specs.Prelude.{◌≡◌, ◌+◌, ◌<◌, length, OnOk, I
 ghost use Rattle.std.specs.Option.{option_map};
 ghost use Rattle.prodash_base.specs.Adjacency.{IsAscending, paths_of};
 ghost use Rattle.prodash_base.specs.Rows.{progress_of, rows_of};
+ghost use Rattle.prodash_tui.specs.Grids.{with_shortened};
 ghost use Rattle.prodash_tui.specs.ProgressPanes as panes;
 ghost use Rattle.prodash_tui.specs.ProgressPanes.{tree_columns, with_tree, with_tree_row};
 ghost use Rattle.prodash_tui.specs.RowTexts.{tree_row_columns};
+ghost use Rattle.prodash_tui.specs.Texts.{block_width};
 
 use crate::draw::parts::bold;
 use crate::draw::progress::texts::write_tree_text;
@@ -47,6 +49,20 @@ fn tree_line(area: Rect, line: u16) -> Rect
     }
 }
 
+/// Draws a text of so many columns as `Grid::draw_text_with_ellipsis` does. One that has room is not
+/// measured again.
+fn draw_measured(grid: &mut Grid, area: Rect, text: &str, columns: u16, style: Style)
+    requires { columns ≡ block_width text.now }
+    ensures { grid.new ≡ with_shortened area style text.now grid.old }
+{
+    let room = area.width.min(grid.width().saturating_sub(area.x));
+    if columns < u16::MAX && columns <= room {
+        grid.draw_text(area, text, style);
+        return;
+    }
+    grid.draw_text_with_ellipsis(area, text, style);
+}
+
 /// Draws a row of the tree, and returns how many columns it has, with one behind it.
 fn draw_tree_row(
     grid: &mut Grid,
@@ -63,8 +79,10 @@ fn draw_tree_row(
     ensures reason { IsOkUnless result Refusal.Memory }
 {
     write_tree_text(text, rows, index)?;
-    grid.draw_text_with_ellipsis(line, text.as_str(), tree_style(&rows[index].progress));
-    Ok(block_width(text.as_str()).saturating_add(1))
+    let style = tree_style(&rows[index].progress);
+    let columns = block_width(text.as_str());
+    draw_measured(grid, line, text.as_str(), columns, style);
+    Ok(columns.saturating_add(1))
 }
 
 /// Draws the tree of the rows from an offset on, and returns how many columns the widest has, with
