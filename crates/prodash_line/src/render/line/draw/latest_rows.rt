@@ -11,8 +11,8 @@ use crate::render::line::byte_buffer::ByteBuffer;
 use crate::render::line::draw::input::Options;
 use crate::render::line::draw::line_writer::LineWriter;
 use prodash_base::progress::{Row, Rows};
+use prodash_base::unit::Unit;
 use prodash_base::unit::display::Throughput;
-use prodash_base::unit::{Unit, dynamic};
 use std::alloc::{AllocError, Global};
 use std::marker::Model;
 
@@ -136,7 +136,9 @@ impl LatestRows {
         self.options = options;
         self.midpoint = midpoint;
         self.lines = lines;
-        frame.swap_bytes(&mut self.bytes);
+        if !self.lines.is_empty() {
+            frame.swap_bytes(&mut self.bytes);
+        }
     }
 
     /// Returns the lines that a frame with these options and this midpoint may copy.
@@ -297,7 +299,7 @@ fn shows_values_alone(row: &Row) -> bool
 fn has_no_mode(unit: &Unit) -> bool
     ensures { result ≡ true → (measure_of unit.now).mode ≡ None }
 {
-    *unit == dynamic(*unit.as_display_value())
+    unit.mode().is_none()
 }
 
 /// Returns whether the lines of rows are the same with these options as with those.
