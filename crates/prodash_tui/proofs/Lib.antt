@@ -1,6 +1,7 @@
 pub mod SplicedRows
 pub mod WrittenTexts
 pub mod GridRows
+pub mod TextRows
 pub mod GridCells
 pub mod WorkedGrids
 pub mod RowDifferences
@@ -42,7 +43,6 @@ pub mod StandingCharacters
 pub mod StandingChanges
 pub mod StandingFrames
 pub mod StandingRuns
-pub mod CertainColumns
 pub mod WorkedWidths
 pub mod ReadableGrids
 pub mod WorkedDashboards

@@ -1,4 +1,4 @@
-use Rattle.prodash_tui.proofs.CertainColumns.{own_widths}
+use Rattle.prodash_tui.proofs.CertainChars.{own_widths}
 use Rattle.prodash_tui.proofs.StandingFrames.{shows_only, stands_first, stands_next}
 use Rattle.prodash_tui.proofs.StandingRuns.{has_only_own}
 use Rattle.prodash_tui.proofs.laws.other_widths.Goals as goal
