@@ -184,6 +184,10 @@ module _ {X : Type 0} (f : X → Path) where
       → IsPartitionedBy test (map f xs) → IsPartitionPoint (λ q. test q ≡ true) (λ q. other q ≡ true) (map f xs) i
   point_of_paths test opposite xs i short found parted = paths_parted test opposite xs i short (found (rows_parted test xs parted))
 
+  -- all paths share their first 0 numbers
+  pub one_branch : (xs : List X) (p : Path) → EndsBranch (map f xs) p 0 (length xs)
+  one_branch xs p = (λ k d low high. refl, λ k d low high. let inside : k < length xs = subst (λ n. k < n) (length-map xs f) high in absurd (omega arith))
+
   pub path_of_row : (xs : List X) (i : ℕ) (d : X) → i < length xs → path_at (map f xs) i ≡ f (get_or xs i d)
   path_of_row xs i d h = get_or-map f xs i d [] h
 

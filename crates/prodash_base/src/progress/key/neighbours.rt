@@ -129,11 +129,14 @@ fn first_of_branch(sorted: &[Row], key: &Key, level: Level) -> usize
 }
 
 /// Returns the index of the first row whose first `level` numbers are greater than those of the
-/// key.
+/// key. At level 0 no row is looked at, since all of them share no numbers.
 fn end_of_branch(sorted: &[Row], key: &Key, level: Level) -> usize
     requires sorted { IsAscending (paths_of sorted.now) }
     ensures bound { result ≤ length sorted.now }
     ensures end { EndsBranch (paths_of sorted.now) key.now level result }
 {
+    if level == 0 {
+        return sorted.len();
+    }
     sorted.partition_point(|row| row.key.cmp_prefix(key, level).is_le())
 }
