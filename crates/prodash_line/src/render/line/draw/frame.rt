@@ -486,7 +486,6 @@ fn write_row(
 
 /// Writes the lines of the rows that are drawn over the lines on screen. Adds their widths to
 /// those that are drawn, and observes each row.
-#[inline(never)]
 fn write_rows(
     alloc: Global,
     out: &mut LineWriter,
