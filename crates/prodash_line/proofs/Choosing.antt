@@ -1,5 +1,5 @@
 -- The rows that are chosen by quotas are those before which fewer rows come than fit.
-use Rattle.std.proofs.Common.{◌≡◌, ℕ, ◌+◌, ◌-◌, ◌≤◌, ◌<◌, nat_lt, Bool, true, false, cond, List, [], ◌∷◌, ◌++◌, length, map, refl, sym, ap, subst, ◌∙◌, suc, append-nil, length-append, arith}
+use Rattle.std.proofs.Common.{◌≡◌, ℕ, ◌+◌, ◌-◌, ◌≤◌, nat_lt, Bool, true, false, cond, List, [], ◌∷◌, ◌++◌, length, map, refl, sym, ap, subst, ◌∙◌, suc, append-nil, length-append, arith}
 use Rattle.std.specs.Prelude.{min, zip, ◌||◌, take_while}
 use Rattle.std.specs.List.{list_any, filter}
 use Rattle.std.proofs.lemmas.List.{length-map}
@@ -11,7 +11,7 @@ use Rattle.prodash_line.specs.declared.render.line.draw.rank.Standing.{Standing}
 use Rattle.prodash_line.specs.declared.render.line.draw.rank.Rank.{Rank}
 use Rattle.prodash_line.specs.declared.render.line.draw.rank.Rank.TheVariants as ranks
 use Rattle.prodash_line.specs.declared.render.line.draw.rank.Quotas.{Quotas}
-use Rattle.prodash_line.specs.RowRanks.{has_standing, is_deeper, is_above, rank_of, ranks_of, order, is_before, same_rank, place, places_from, places}
+use Rattle.prodash_line.specs.RowRanks.{has_standing, is_deeper, is_above, ranks_of, is_before, same_rank, place, places_from, places}
 use Rattle.prodash_line.specs.plumbing.Choosing.{quotas_of, quota, lessened, reserved, taken, all_reserved, chosen}
 
 -- ---- rows below a row

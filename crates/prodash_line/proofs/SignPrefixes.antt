@@ -1,11 +1,10 @@
 -- Which sign bytes begin with, and the longest prefix that signs spell.
 use Rattle.std.proofs.Common.{◌≡◌, ℕ, ◌+◌, ◌-◌, ◌<◌, ◌≤◌, ◌≢◌, true, false, List, [], ◌∷◌, ◌++◌, length, get_or, take, drop, refl, sym, ap, ◌∙◌, append_assoc, length-append, arith, nat_eq}
 use Rattle.std.specs.Cmp.Lexicographic.{pointwise}
-use Rattle.std.specs.List.{AllByRecursion, prefix_len}
+use Rattle.std.specs.List.{prefix_len}
 use Rattle.std.specs.Char.{encode_utf8, is_control, IsScalar}
 use Rattle.std.specs.Fmt.{decimal}
 use Rattle.std.proofs.lemmas.Bool.{both_ways}
-use Rattle.std.proofs.lemmas.Fmt.{decimal_is_IsNumeral}
 use Rattle.std.proofs.lemmas.List.{take-append-drop, take_at, get_or_at, length-take-le, append-nil, nil_from_length}
 use Rattle.std.proofs.lemmas.Str.{char_from_byte, encode_same}
 use Rattle.prodash_line.specs.declared.render.line.page.sign.Sign.{Sign}

@@ -1,5 +1,5 @@
 -- Which characters are unsafe: the ends of each range of them, and their neighbours.
-use Rattle.std.proofs.Common.{◌≡◌, ℕ, Bool, true, false, List, [], ◌∷◌, map, refl}
+use Rattle.std.proofs.Common.{◌≡◌, true, false, [], ◌∷◌, map, refl}
 use Rattle.prodash_line.specs.UnsafeCharacters.{is_unsafe}
 
 -- control characters

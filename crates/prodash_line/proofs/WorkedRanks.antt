@@ -1,7 +1,7 @@
 -- Worked rows of a window that hasn't room for all, by computation alone.
-use Rattle.std.proofs.Common.{◌≡◌, ℕ, Bool, true, false, List, [], ◌∷◌, map, Option, Some, None, refl}
+use Rattle.std.proofs.Common.{◌≡◌, ℕ, Bool, true, false, List, [], ◌∷◌, map, Some, None, refl}
 use Rattle.prodash_base.specs.Path.{Path}
-use Rattle.prodash_base.specs.Rows.{Phase, Blocked, Halted, Running, RowProgress, PathRow, unknown_id}
+use Rattle.prodash_base.specs.Rows.{Phase, Blocked, Halted, Running, PathRow, unknown_id}
 use Rattle.prodash_line.specs.declared.render.line.draw.input.Options.{Options}
 use Rattle.prodash_line.specs.declared.render.line.draw.rank.Rank.TheVariants as ranks
 use Rattle.prodash_line.specs.ProgressRows.{DrawnRow, preferred, fitting}

@@ -1,5 +1,5 @@
 -- Lines of rows that are kept from one frame to the next.
-use Rattle.std.specs.Prelude.{◌≡◌, ℕ, Bool, List, ◌++◌, length, Option, Some, None, slice_get}
+use Rattle.std.specs.Prelude.{◌≡◌, ℕ, Bool, List, ◌++◌, length, Option, Some, None, IfSome, slice_get}
 use Rattle.std.specs.List.{All}
 use Rattle.prodash_base.specs.Rows.{PathRow, rows_of}
 use Rattle.prodash_base.specs.declared.unit.display.Throughput.{Throughput}
@@ -56,10 +56,23 @@ pub record IsLineOf (options : Options) (midpoint : ℕ) (drawn : DrawnRow) (lin
   pub size : IsSizeOf options midpoint drawn line.size
   pub bytes : line.bytes.now ≡ own_bytes options (untimed_line options midpoint drawn)
 
+-- what is found of a row is its line, with whichever options and midpoint the lines of an earlier frame are those of its rows
+abbrev pub FindsLine : EarlierLines → DrawnRow → Option CopiedLine → Type 0
+FindsLine e drawn found = (options : Options) (midpoint : ℕ) → AreEarlier options midpoint e → IfSome found (IsLineOf options midpoint drawn)
+
+-- the same of one of these lines
+abbrev pub FindsLineIn : EarlierLines → RowLine → DrawnRow → Option CopiedLine → Type 0
+FindsLineIn e line drawn found = (options : Options) (midpoint : ℕ) → IsAmong options midpoint (rows_of e.rows.now) e.bytes.now line → IfSome found (IsLineOf options midpoint drawn)
+
 -- a row is drawn with this throughput as without one
 pub record ShowsNone (row : PathRow) (throughput : Option Throughput) : Type 0 where
   pub line : (options : Options) (midpoint : ℕ) → untimed_line options midpoint (row, throughput) ≡ untimed_line options midpoint (row, None)
   pub midpoint : (defensive : Bool) → midpoint_of defensive (row, throughput) ≡ midpoint_of defensive (row, None)
+
+-- lines that are among the bytes still are when this one is added, if it is one where the throughput isn't shown
+abbrev pub AddsLine : PathRow → Option Throughput → RowLine → List RowLine → List RowLine → Type 0
+AddsLine row throughput line old new = (options : Options) (midpoint : ℕ) (rows : List PathRow) (bytes : List ℕ) → AreAmong options midpoint rows bytes old
+    → (ShowsNone row throughput → IsAmong options midpoint rows bytes line) → AreAmong options midpoint rows bytes new
 
 -- rows whose lines are the same
 pub record AreAlike (row other : PathRow) : Type 0 where

@@ -1,11 +1,10 @@
 //! Rows that are remembered, and the lines that they were drawn in, for the next frame to copy.
-ghost use Rattle.std.specs.Prelude.{◌≡◌, ℕ, List, Option, true, None, Some, IfSome, OnOk};
-ghost use Rattle.prodash_base.specs.Rows.{PathRow, row_of, rows_of};
+ghost use Rattle.std.specs.Prelude.{◌≡◌, Option, true, None, Some, OnOk};
+ghost use Rattle.prodash_base.specs.Rows.{row_of, rows_of};
 ghost use Rattle.prodash_base.specs.Units.{measure_of};
 ghost use Rattle.prodash_base.specs.declared.unit.display.Throughput.{Throughput};
 ghost use Rattle.prodash_line.specs.Renderer.{latest_rows};
-ghost use Rattle.prodash_line.specs.declared.render.line.draw.input.Options.{Options};
-ghost use Rattle.prodash_line.specs.plumbing.KeptLines.{AreAlike, AreAmong, AreEarlier, DrawAlike, IsAmong, IsLineOf, ShowsNone};
+ghost use Rattle.prodash_line.specs.plumbing.KeptLines.{AddsLine, AreAlike, AreAmong, AreEarlier, DrawAlike, FindsLine, FindsLineIn, ShowsNone};
 
 use crate::render::line::byte_buffer::ByteBuffer;
 use crate::render::line::draw::input::Options;
@@ -186,8 +185,7 @@ impl<'a> EarlierLines<'a> {
         row: &Row,
         throughput: &Option<Throughput>,
     ) -> Option<CopiedLine<'a>>
-        ensures { (options : Options) (midpoint : ℕ) → AreEarlier options midpoint self.now
-            → IfSome result (IsLineOf options midpoint (row_of row.now, throughput.now)) }
+        ensures { FindsLine self.now (row_of row.now, throughput.now) result }
     {
         if !shows_no_throughput(row, throughput) {
             return None;
@@ -198,8 +196,7 @@ impl<'a> EarlierLines<'a> {
     /// Does what `find` does for a row that shows no throughput.
     #[inline(always)]
     fn find_without_throughput(&self, next: &mut usize, row: &Row) -> Option<CopiedLine<'a>>
-        ensures { (options : Options) (midpoint : ℕ) → AreEarlier options midpoint self.now
-            → IfSome result (IsLineOf options midpoint (row_of row.now, None)) }
+        ensures { FindsLine self.now (row_of row.now, None) result }
     {
         while let Some(line) = self.lines.get(*next) {
             if let Some(copied) = self.line_of(row, line) {
@@ -217,9 +214,7 @@ impl<'a> EarlierLines<'a> {
     /// Returns this line, if it is that of this row too.
     #[inline(always)]
     fn line_of(&self, row: &Row, line: &RowLine) -> Option<CopiedLine<'a>>
-        ensures { (options : Options) (midpoint : ℕ)
-            → IsAmong options midpoint (rows_of self.now.rows.now) self.now.bytes.now line.now
-            → IfSome result (IsLineOf options midpoint (row_of row.now, None)) }
+        ensures { FindsLineIn self.now line.now (row_of row.now, None) result }
     {
         let earlier = self.rows.get(line.row)?;
         if !are_alike(row, earlier) {
@@ -263,10 +258,8 @@ pub(crate) fn keep_line(
     throughput: &Option<Throughput>,
     line: RowLine,
 ) -> Result<(), AllocError>
-    ensures { (options : Options) (midpoint : ℕ) (rows : List PathRow) (bytes : List ℕ)
-        → AreAmong options midpoint rows bytes lines.old.items
-        → (ShowsNone (row_of row.now) throughput.now → IsAmong options midpoint rows bytes line)
-        → OnOk result (AreAmong options midpoint rows bytes lines.new.items) }
+    ensures { OnOk result (AddsLine (row_of row.now) throughput.now line lines.old.items
+        lines.new.items) }
 {
     if shows_no_throughput(row, throughput) {
         lines.push(line)?;

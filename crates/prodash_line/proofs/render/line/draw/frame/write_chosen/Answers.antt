@@ -1,4 +1,4 @@
-use Rattle.std.proofs.Common.{rules, arith, ◌≡◌, ℕ, List, [], Option, ◌+◌, ◌∷◌, ◌++◌, drop, max, ap, sym, ◌∙◌, append_assoc}
+use Rattle.std.proofs.Common.{rules, arith, ◌≡◌, ℕ, List, [], ◌+◌, ◌∷◌, ◌++◌, drop, max, ap, sym, ◌∙◌, append_assoc}
 use Rattle.std.proofs.lemmas.Grind.{common_steps}
 use Rattle.prodash_base.specs.Rows.{row_of, rows_of}
 use Rattle.prodash_base.specs.declared.progress.Row.{Row}
@@ -11,7 +11,7 @@ use Rattle.prodash_line.specs.Lines.{Line, columns_of}
 use Rattle.prodash_line.specs.ProgressRows.{DrawnRow, filtered, row_line, row_lines, midpoint_of, greatest_midpoint}
 use Rattle.prodash_line.specs.plumbing.Observing.{observe_all, ahead_of}
 use Rattle.prodash_line.specs.plumbing.OverwriteBytes.{lines_bytes}
-use Rattle.prodash_line.specs.plumbing.FrameWriting.{times_in, measured_line, chosen_rows}
+use Rattle.prodash_line.specs.plumbing.FrameWriting.{times_in, chosen_rows}
 use Rattle.prodash_line.proofs.FittingRows.{chosen_next, chosen_passed, max_assoc, rest_whole}
 use Rattle.prodash_line.proofs.OverwriteBytes.{lines_bytes-append}
 use Rattle.prodash_line.proofs.render.line.draw.frame.write_chosen.Goals as goal

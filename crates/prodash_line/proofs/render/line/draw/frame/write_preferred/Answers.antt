@@ -1,4 +1,4 @@
-use Rattle.std.proofs.Common.{◌≡◌, ℕ, ◌-◌, Bool, List, [], ◌++◌, length, true, ap, sym, ◌∙◌, append_assoc}
+use Rattle.std.proofs.Common.{◌≡◌, ℕ, ◌-◌, List, [], ◌++◌, length, true, ap, sym, ◌∙◌, append_assoc}
 use Rattle.std.specs.Prelude.{max}
 use Rattle.std.proofs.lemmas.List.{map-append}
 use Rattle.prodash_line.specs.Lines.{Line, columns_of}
@@ -7,7 +7,7 @@ use Rattle.prodash_line.specs.Frames.{widths_of}
 use Rattle.prodash_line.specs.ProgressRows.{DrawnRow, row_lines, more_lines, greatest_midpoint}
 use Rattle.prodash_line.specs.plumbing.OverwriteBytes.{lines_bytes}
 use Rattle.prodash_line.specs.plumbing.Observing.{ahead_of}
-use Rattle.prodash_line.specs.plumbing.FrameWriting.{times_in, more_of, shown_rows, chosen_rows, chosen_lines, quotas_for, fitting_shown, fitting_lines}
+use Rattle.prodash_line.specs.plumbing.FrameWriting.{times_in, more_of, shown_rows, chosen_rows, quotas_for, fitting_shown, fitting_lines}
 use Rattle.prodash_line.proofs.FittingRows.{fits_preferred, others_preferred, lines_joined, none_covered, first_true, second_true}
 use Rattle.prodash_line.proofs.render.line.draw.frame.write_preferred.Goals as goal
 

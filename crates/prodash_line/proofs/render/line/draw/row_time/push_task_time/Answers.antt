@@ -1,4 +1,4 @@
-use Rattle.std.proofs.Common.{◌≡◌, ℕ, List, true, Option, Some, ap, sym, subst, ◌∙◌, arith}
+use Rattle.std.proofs.Common.{◌≡◌, Option, ap, sym, subst, ◌∙◌, arith}
 use Rattle.prodash_base.specs.declared.timing.task_time.TaskTime.{TaskTime}
 use Rattle.prodash_line.specs.ProgressRows.{fitting_time}
 use Rattle.prodash_line.specs.plumbing.RowWriting.{AppendsTime}

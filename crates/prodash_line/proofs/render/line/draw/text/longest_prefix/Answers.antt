@@ -1,9 +1,8 @@
-use Rattle.std.proofs.Common.{ℕ, ◌<◌, length, chars, false, true, sym, ap, ◌∙◌, arith, take, ◌-◌, ◌≡◌}
+use Rattle.std.proofs.Common.{ℕ, ◌<◌, length, chars, true, sym, ap, ◌∙◌, arith, take, ◌-◌, ◌≡◌}
 use Rattle.std.proofs.lemmas.List.{take_all}
 use Rattle.std.specs.Prelude.{min}
 use Rattle.prodash_line.specs.Lines.{longest_prefix_of, longest_prefix}
 use Rattle.prodash_line.specs.plumbing.Writing.{is_printable}
-use Rattle.unicode_width.specs.Width.{str_width}
 use Rattle.prodash_line.proofs.Columns.{width-ascii, printable-take}
 use Rattle.prodash_line.proofs.Prefixes.{prefix_init, prefix_fewer, prefix_found, prefix_sliced, shorter, prefix_shorter}
 use Rattle.prodash_line.proofs.render.line.draw.text.longest_prefix.Goals as goal

@@ -1,4 +1,4 @@
-use Rattle.std.proofs.Common.{◌≡◌, ◌-◌, ◌++◌, length, take, drop, replicate}
+use Rattle.std.proofs.Common.{◌≡◌, ◌-◌, ◌++◌, take, drop}
 use Rattle.prodash_line.specs.CellRows.{blank_cells, torn}
 use Rattle.prodash_line.proofs.render.line.page.row_cells.RowCells.blank_from.Given as goal
 
