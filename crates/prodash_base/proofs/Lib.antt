@@ -31,3 +31,4 @@ pub mod WorkedTimes
 pub mod WorkedTimers
 pub mod TimedTables
 pub mod Marks
+pub mod ShortTexts

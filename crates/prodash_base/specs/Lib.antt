@@ -1,4 +1,5 @@
 pub mod Numbers
+pub mod Texts
 pub mod Path
 pub mod Key
 pub mod Rows

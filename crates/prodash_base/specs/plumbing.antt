@@ -13,3 +13,4 @@ pub mod Summaries
 pub mod TimedTables
 pub mod KeptSamples
 pub mod KeptTables
+pub mod TextForms

@@ -168,7 +168,7 @@ impl<R: Wait + Clone + Drop, W: Write + Drop> Items<R, W> {
         if !self.replaces_words && self.names.get(word.as_str()).is_some() {
             return Err(Unserved::Fault(LineFault::WordInUse(word)));
         }
-        Ok(word.into_string())
+        Ok(word.into_string()?)
     }
 
     /// Adds an item below the root, and returns its handle.

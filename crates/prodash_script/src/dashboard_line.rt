@@ -41,11 +41,11 @@ impl DashboardLine {
     {
         match self {
             DashboardLine::Press(key) => Ok(Event::Input(key)),
-            DashboardLine::SetTitle(title) => Ok(Event::SetTitle(title.into_string())),
+            DashboardLine::SetTitle(title) => Ok(Event::SetTitle(title.into_string()?)),
             DashboardLine::SetWindow(area) => Ok(Event::SetWindowSize(area)),
             DashboardLine::SetInterruptMode(mode) => Ok(Event::SetInterruptMode(mode)),
-            DashboardLine::AddTitle(text) => join(information, Line::Title(text.into_string())),
-            DashboardLine::AddText(text) => join(information, Line::Text(text.into_string())),
+            DashboardLine::AddTitle(text) => join(information, Line::Title(text.into_string()?)),
+            DashboardLine::AddText(text) => join(information, Line::Text(text.into_string()?)),
             DashboardLine::ClearInformation => {
                 information.clear();
                 Ok(Event::SetInformation(Vec::new(alloc)))

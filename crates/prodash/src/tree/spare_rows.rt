@@ -5,10 +5,6 @@ use crate::progress::{Key, Row, Rows, UNKNOWN};
 use prodash_base::{Refusal, Text};
 use std::alloc::{AllocError, Global};
 
-/// The number of bytes for which the name of a blank row has room. The C library gives no less for
-/// a shorter name.
-const ROOM_FOR_NAME: usize = 24;
-
 /// Returns that many rows: those of `spare` without the last ones, or with blank rows behind them.
 pub(crate) fn resized(spare: Rows, count: usize) -> Result<Rows, Refusal>
     ensures count { IfOk result (λ rows. length rows ≡ count) }
@@ -28,18 +24,18 @@ fn push_blank_rows(rows: &mut Vec<Row>, count: usize) -> Result<(), AllocError>
     let (alloc, missing) = (*rows.allocator(), count - rows.len());
     rows.reserve(missing)?;
     for _ in 0..missing {
-        rows.push(blank_row(alloc)?)?;
+        rows.push(blank_row(alloc))?;
     }
     Ok(())
 }
 
-/// Returns a row without a name and without progress.
-fn blank_row(alloc: Global) -> Result<Row, AllocError> {
-    let name = String::with_capacity(alloc, ROOM_FOR_NAME)?;
-    Ok(Row {
+/// Returns a row without a name and without progress. A short name can be copied into it without
+/// memory.
+fn blank_row(alloc: Global) -> Row {
+    Row {
         key: Key::default(),
-        name: Text::new(name),
+        name: Text::new(String::new(alloc)),
         id: UNKNOWN,
         progress: None,
-    })
+    }
 }

@@ -1,4 +1,4 @@
-ghost use Rattle.std.specs.Prelude.{◌≡◌, ◌+◌, ◌^◌, ◌<◌, ◌↔◌, min, IsTrue, length, drop, OnOk, OnErr, IfOk, IfErr, IsOkUnless};
+ghost use Rattle.std.specs.Prelude.{◌≡◌, ◌+◌, ◌^◌, ◌<◌, ◌↔◌, min, IsTrue, Some, length, drop, OnOk, OnErr, IfOk, IfErr, IsOkUnless};
 ghost use Rattle.prodash_base.specs.Refusals.{RefusesMessage};
 ghost use Rattle.circular_buffer.specs.Buffer.{buffer};
 ghost use Rattle.prodash_base.specs.Messages.{message_of};
@@ -132,8 +132,10 @@ impl MessageRingBuffer {
         if self.pushed == u64::MAX {
             return Err(Refusal::TooManyMessages);
         }
-        let message = copied_into(alloc, self.replaced.take(), at, level, origin, message)?;
-        self.replaced = self.ring.push_back(message);
+        fill(&mut self.replaced, alloc, at, level, origin, message)?;
+        if let Some(message) = self.replaced.take() {
+            self.replaced = self.ring.push_back(message);
+        }
         self.pushed += 1;
         Ok(())
     }
@@ -213,35 +215,35 @@ impl fmt::Debug for MessageRingBuffer {
     }
 }
 
-/// Returns a message with copies of these texts, in the memory of another message if there is one,
-/// or an `AllocError` if out of memory.
+/// Makes the spare message the given one, in its memory if there is one. Fails if out of memory.
 #[inline(always)]
-fn copied_into(
+fn fill(
+    spare: &mut Option<Message>,
     alloc: Global,
-    other: Option<Message>,
     at: Moment,
     level: MessageLevel,
     origin: &str,
     message: &str,
-) -> Result<Message, AllocError>
-    ensures { IfOk result (λ m. m ≡ message_of at level origin.now message.now) }
+) -> Result<(), AllocError>
+    ensures { OnOk result (spare.new ≡ Some (message_of at level origin.now message.now)) }
 {
-    let (origin, message) = match other {
-        Some(other) => (
-            other.origin.replaced_by(origin)?,
-            other.message.replaced_by(message)?,
-        ),
-        None => (
-            Text::from_str(alloc, origin)?,
-            Text::from_str(alloc, message)?,
-        ),
-    };
-    Ok(Message {
-        time: at,
-        level,
-        origin,
-        message,
-    })
+    match spare {
+        Some(spare) => {
+            spare.time = at;
+            spare.level = level;
+            spare.origin.replace(origin)?;
+            spare.message.replace(message)?;
+        }
+        None => {
+            *spare = Some(Message {
+                time: at,
+                level,
+                origin: Text::from_str(alloc, origin)?,
+                message: Text::from_str(alloc, message)?,
+            });
+        }
+    }
+    Ok(())
 }
 
 /// Replaces a message with a copy of another, in the memory that it has. Fails if out of memory.
@@ -250,8 +252,8 @@ fn overwrite(message: &mut Message, by: &Message) -> Result<(), AllocError>
 {
     message.time = by.time;
     message.level = by.level;
-    message.origin.replace(by.origin.as_str())?;
-    message.message.replace(by.message.as_str())
+    message.origin.replace_with(&by.origin)?;
+    message.message.replace_with(&by.message)
 }
 
 /// Returns a buffer of the same capacity with copies of the messages, or an `AllocError` if out of

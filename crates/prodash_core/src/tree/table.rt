@@ -468,7 +468,7 @@ fn replace_name(name: &mut Text, by: &Text) -> Result<(), AllocError>
 {
     let longest = name.as_str().len().max(by.as_str().len());
     if longest <= LONGEST_REPLACED {
-        name.replace(by.as_str())?;
+        name.replace_with(by)?;
     } else {
         *name = by.clone()?;
     }

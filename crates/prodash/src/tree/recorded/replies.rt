@@ -54,7 +54,7 @@ pub(crate) fn name_in(made: Result<Reply, Refusal>) -> Result<Option<String>, Re
     ensures reason { IsOkUnless result Refusal.Memory }
 {
     match made {
-        Ok(Reply::Name(Some(name))) => Ok(Some(name.into_string())),
+        Ok(Reply::Name(Some(name))) => Ok(Some(name.into_string()?)),
         Ok(_) => Ok(None),
         Err(_) => Err(Refusal::Memory),
     }
