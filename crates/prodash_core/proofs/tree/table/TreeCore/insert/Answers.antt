@@ -11,5 +11,5 @@ returns-clause-ok g c =
     table_of-update old new c.args.key c.in_ok-task.task
     c.in_ok-insert.ensures.updates.0
     ∙ ap (λ t. finite.insert (table_of old) c.args.key (entry_of t)) c.in_ok-task.ensures.ok
-    ∙ ap (λ (name : List ℕ). finite.insert (table_of old) c.args.key (record { name = name; id = c.args.id; progress = None })) c.in_ok-name.ensures
+    ∙ ap (λ (name : List ℕ). finite.insert (table_of old) c.args.key (record { name = name; id = c.args.id; progress = None })) c.in_ok-name.ensures.bytes
     ∙ ap (λ m. finite.insert m c.args.key (record { name = c.args.name.now; id = c.args.id; progress = None })) c.self.view_is
