@@ -34,16 +34,28 @@ impl Key {
 }
 
 /// Returns the location at a level from 1 on.
+#[inline(always)]
 fn location(sorted: &[Row], index: usize, level: Level) -> SiblingLocation
     requires sorted { IsAscending (paths_of sorted.now) }
     requires inside { index < length sorted.now }
     requires level { 0 < level }
     ensures { result ≡ at_row spec.location sorted.now index level }
 {
-    let own_level = sorted[index].key.level();
-    if own_level < level {
+    if sorted[index].key.level() < level {
         return SiblingLocation::NotFound;
     }
+    known_location(sorted, index, level)
+}
+
+/// Returns the location at a level from 1 to that of the row.
+fn known_location(sorted: &[Row], index: usize, level: Level) -> SiblingLocation
+    requires sorted { IsAscending (paths_of sorted.now) }
+    requires inside { index < length sorted.now }
+    requires level { 0 < level }
+    requires own { level ≤ length (path_at (paths_of sorted.now) index) }
+    ensures { result ≡ at_row spec.location sorted.now index level }
+{
+    let own_level = sorted[index].key.level();
     let above = has_above(sorted, index, level);
     let below = has_below(sorted, index, level);
     match (above, below) {
