@@ -11,7 +11,7 @@ use Rattle.prodash_line.specs.DrawnLines.{safe_char}
 use Rattle.prodash_line.specs.UnsafeCharacters.{is_unsafe}
 use Rattle.prodash_tui.specs.Frames.{is_certain}
 use Rattle.prodash_tui.specs.OtherWidths.{AreWidths}
-use Rattle.prodash_tui.proofs.PrintableChars.{column_of_printable, one_column, printable_as_drawn}
+use Rattle.prodash_tui.proofs.PrintableChars.{one_column}
 
 -- do so many characters have one column, from this one on?
 abbrev all_one : ℕ → ℕ → Bool
@@ -62,6 +62,6 @@ certain_safe c is = grind (arith, nat_tests)
 pub certain_as_drawn : (c : ℕ) → is_certain c ≡ true → c ≡ safe_char c
 certain_as_drawn c is = sym (ap (λ (b : Bool). cond b 0xFFFD c) (certain_safe c is))
 
--- printable ASCII
-pub column_as_drawn : (c : ℕ) → 32 ≤ c → c ≤ 126 → 1 ≡ min (char_columns (safe_char c)) 2
-column_as_drawn c low high = column_of_printable c low high ∙ ap (λ (d : ℕ). min (char_columns d) 2) (printable_as_drawn c low high)
+-- and one column as it is drawn
+pub column_as_drawn : (c : ℕ) → is_certain c ≡ true → 1 ≡ min (char_columns (safe_char c)) 2
+column_as_drawn c is = column_of_certain c is ∙ ap (λ (d : ℕ). min (char_columns d) 2) (certain_as_drawn c is)

@@ -27,6 +27,9 @@ pub mod MeasuredTexts
 pub mod PrintableTexts
 pub mod FittingTexts
 pub mod PaneRows
+pub mod BranchColumns
+pub mod OverdrawnLines
+pub mod SpinnerLines
 pub mod WorkedBars
 pub mod WorkedProgress
 pub mod WorkedRates

@@ -5,7 +5,7 @@ use Rattle.std.specs.Prelude.{min}
 use Rattle.std.proofs.lemmas.Bool.{and_parts, cases_lt}
 use Rattle.std.proofs.lemmas.Bool.Decides.{nat_tests}
 use Rattle.std.proofs.lemmas.List.{drop-drop, drop_at, drop_more, get_or_past, length-map, length-take-le, map_more, set_at, take-map, take_all, take_at}
-use Rattle.prodash_line.specs.CellRows.{char_columns, joined, joined_with}
+use Rattle.prodash_line.specs.CellRows.{char_columns, joined, joined_with, text_columns}
 use Rattle.prodash_line.specs.DrawnLines.{safe_char}
 use Rattle.prodash_line.specs.plumbing.Writing.{is_printable}
 use Rattle.prodash_line.proofs.Columns.{chars-printable}
@@ -14,7 +14,7 @@ use Rattle.prodash_tui.specs.declared.cell.Cell.TheVariants.{Holds}
 use Rattle.prodash_tui.specs.declared.style.Style.{Style}
 use Rattle.prodash_tui.specs.Cells.{blank_cell, cell_at, cell_of, held, is_half}
 use Rattle.prodash_tui.specs.Rows.{front, healed, splice}
-use Rattle.prodash_tui.specs.Texts.{cells_with, cut, text_cells, text_cut}
+use Rattle.prodash_tui.specs.Texts.{cells_with, cut, drawn_text, text_cells, text_cut}
 use Rattle.prodash_tui.proofs.PrintableChars.{one_column, printable_as_drawn}
 use Rattle.prodash_tui.proofs.SplicedRows.{length-front}
 
@@ -51,6 +51,19 @@ no_half : (style : Style) (text : List ℕ) (k : ℕ) → is_half (cell_at (map 
 no_half style [] k = ap is_half (get_or_past [] k blank_cell (omega arith))
 no_half style (c ∷ text) zero = refl
 no_half style (c ∷ text) (suc k) = no_half style text k
+
+-- each character is a column
+columns_each : (text : List ℕ) → is_printable text ≡ true → text_columns char_columns text ≡ length text
+columns_each [] h = refl
+columns_each (c ∷ text) h =
+    let parts = and_parts (is_in_range 0x20 0x7E c) (is_printable text) h in
+    omega (arith, single c parts.0, columns_each text parts.1)
+
+pub columns_of_printable : (text : List ℕ) → is_printable text ≡ true → text_columns char_columns (drawn_text text) ≡ length text
+columns_of_printable text h =
+    ap (λ (t : List ℕ). text_columns char_columns (map safe_char t)) (chars-printable text h)
+    ∙ ap (text_columns char_columns) (as_drawn text h)
+    ∙ columns_each text h
 
 -- those that have room
 pub printable_cut : (style : Style) (n : ℕ) (text : List ℕ) → is_printable text ≡ true → map (cell_of style) (take n text) ≡ text_cut style n text

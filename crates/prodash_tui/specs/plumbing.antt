@@ -5,5 +5,6 @@ pub mod Writing
 pub mod GridInside
 pub mod BoardParts
 pub mod PaneParts
+pub mod Spinners
 pub mod Observed
 pub mod BlankParts

@@ -123,7 +123,8 @@ impl Grid {
 
     /// Returns how many columns the grid has.
     pub fn width(&self) -> u16
-        ensures { result ≡ self.now.width }
+        ensures value { result ≡ self.now.width }
+        ensures sheet { IsSheet self.now }
     {
         self.width
     }

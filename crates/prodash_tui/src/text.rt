@@ -53,13 +53,13 @@ fn drawn_columns(c: char) -> usize
     ensures value { result ≡ min (char_columns (safe_char c)) 2 }
     ensures few { result ≤ 2 }
 {
-    if ' ' <= c && c <= '~' {
+    if is_certain(c) {
         return 1;
     }
     other_columns(c)
 }
 
-/// Does what `drawn_columns` does for a character other than printable ASCII ones.
+/// Does what `drawn_columns` does for a character that isn't certain.
 #[inline(never)]
 fn other_columns(c: char) -> usize
     ensures value { result ≡ min (char_columns (safe_char c)) 2 }
@@ -84,6 +84,9 @@ pub(crate) fn is_all_printable(text: &[u8]) -> bool
 pub(crate) fn text_columns(text: &str) -> u32
     ensures { result ≡ min (text_columns char_columns (drawn_text text.now)) 65536 }
 {
+    if is_all_printable(text.as_bytes()) {
+        return text.len().min(65536) as u32;
+    }
     let mut columns = 0;
     for c in text.chars() {
         let more = drawn_columns(c) as u32;

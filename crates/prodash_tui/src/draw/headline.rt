@@ -1,8 +1,8 @@
 //! The headline.
-ghost use Rattle.std.specs.Prelude.{◌≡◌, ◌++◌, IsOkUnless, OnErr, OnOk};
+ghost use Rattle.std.specs.Prelude.{◌≡◌, ◌++◌, Some, IsOkUnless, OnErr, OnOk};
 ghost use Rattle.std.specs.Fmt.{decimal};
 ghost use Rattle.prodash_base.specs.Appending.{Appends};
-ghost use Rattle.prodash_base.specs.Rows.{row_of, rows_of};
+ghost use Rattle.prodash_base.specs.Rows.{progress_of, rows_of};
 ghost use Rattle.prodash_tui.specs.Headlines.{DrawsHeadline, count_words, counts_text, how_many, in_three, interrupt_text, interval_text, is_group, runs, waits};
 ghost use Rattle.prodash_tui.specs.plumbing.PaneParts.{IsHeadline};
 
@@ -13,7 +13,7 @@ use crate::rect::snap_to_right;
 use crate::text::block_width;
 use itoa::Buffer;
 use prodash_base::Refusal;
-use prodash_base::progress::{Row, State};
+use prodash_base::progress::{Row, State, Value};
 use prodash_core::render::tui::{InterruptMode, Rect};
 use std::alloc::AllocError;
 
@@ -145,50 +145,28 @@ fn count_tasks(rows: &[Row]) -> Counts
     ensures waiting { result.waiting ≡ how_many waits (rows_of rows.now) }
     ensures groups { result.groups ≡ how_many is_group (rows_of rows.now) }
 {
-    let (mut running, mut waiting, mut groups) = (0, 0, 0);
+    let (mut running, mut groups) = (0, 0);
     let mut left = rows;
     while let Some((row, rest)) = left.split_first() {
-        running += usize::from(runs(row));
-        waiting += usize::from(waits(row));
-        groups += usize::from(is_group(row));
+        match &row.progress {
+            Some(value) => running += usize::from(runs(value)),
+            None => groups += 1,
+        }
         left = rest;
     }
     Counts {
         running,
-        waiting,
+        waiting: rows.len() - running - groups,
         groups,
     }
 }
 
-/// Returns whether a task runs.
-fn runs(row: &Row) -> bool
-    ensures { result ≡ runs (row_of row.now).1.progress }
+/// Returns whether a task with this progress runs.
+fn runs(value: &Value) -> bool
+    ensures { result ≡ runs (Some (progress_of value.now)) }
 {
-    match &row.progress {
-        Some(value) => match value.state {
-            State::Running => true,
-            State::Blocked(..) | State::Halted(..) => false,
-        },
-        None => false,
+    match value.state {
+        State::Running => true,
+        State::Blocked(..) | State::Halted(..) => false,
     }
-}
-
-/// Returns whether a task waits for something.
-fn waits(row: &Row) -> bool
-    ensures { result ≡ waits (row_of row.now).1.progress }
-{
-    match &row.progress {
-        Some(value) => match value.state {
-            State::Running => false,
-            State::Blocked(..) | State::Halted(..) => true,
-        },
-        None => false,
-    }
-}
-
-/// Returns whether a task has no progress of its own.
-fn is_group(row: &Row) -> bool
-    ensures { result ≡ is_group (row_of row.now).1.progress }
-{
-    row.progress.is_none()
 }

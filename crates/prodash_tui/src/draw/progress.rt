@@ -3,8 +3,9 @@ ghost use Rattle.std.specs.Prelude.{◌≡◌, OnOk, IfOk, IsOkUnless};
 ghost use Rattle.prodash_base.specs.Adjacency.{IsAscending, paths_of};
 ghost use Rattle.prodash_base.specs.Rows.{rows_of};
 ghost use Rattle.prodash_tui.specs.ProgressPanes as panes;
-ghost use Rattle.prodash_tui.specs.ProgressPanes.{DrawsPane, known_columns, lines_behind, scrolled, with_hidden};
+ghost use Rattle.prodash_tui.specs.ProgressPanes.{DrawsPane, known_columns, scrolled, with_hidden};
 ghost use Rattle.prodash_tui.specs.plumbing.PaneParts.{DrawsTreeOn};
+ghost use Rattle.prodash_tui.specs.plumbing.Spinners.{lines_for};
 
 mod bar;
 mod hidden;
@@ -25,7 +26,7 @@ use prodash_base::Refusal;
 use prodash_base::progress::Row;
 use prodash_base::time::Moment;
 use prodash_core::render::tui::Rect;
-use row::{draw_rows, widest_amount};
+use row::{columns_before_spinners, draw_rows};
 use std::alloc::Global;
 pub use tasks::Tasks;
 use tree::draw_tree;
@@ -102,11 +103,11 @@ fn lines_behind(
     at: Moment,
 ) -> Result<Lines, Refusal>
     ensures ok { IfOk result (λ lines.
-        lines ≡ lines_behind columns (rows_of rows.now) area offset at) }
+        lines ≡ lines_for columns (rows_of rows.now) area offset at) }
     ensures reason { IsOkUnless result Refusal.Memory }
 {
     let behind = offset_x(area, columns);
-    let amount_columns = widest_amount(alloc, text, rows, behind, offset)?;
+    let amount_columns = columns_before_spinners(alloc, text, rows, behind, offset)?;
     Ok(Lines {
         area: behind,
         offset,

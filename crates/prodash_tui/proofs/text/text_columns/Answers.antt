@@ -1,12 +1,20 @@
-use Rattle.std.proofs.Common.{◌≡◌, ℕ, ◌+◌, List, [], ◌∷◌, ◌++◌, chars, map, sym, ap, ◌∙◌, map-id, arith}
+use Rattle.std.proofs.Common.{◌≡◌, ℕ, ◌+◌, List, [], ◌∷◌, ◌++◌, chars, length, map, rules, sym, ap, ◌∙◌, map-id, arith}
 use Rattle.std.specs.Prelude.{min}
 use Rattle.std.proofs.lemmas.List.{map-append}
 use Rattle.std.proofs.lemmas.Iterator.{YieldsList-from_chars}
 use Rattle.std.proofs.lemmas.Iterator.Consumers.{YieldsList-end}
 use Rattle.prodash_line.specs.CellRows.{char_columns, text_columns}
 use Rattle.prodash_line.specs.DrawnLines.{safe_char}
+use Rattle.prodash_tui.specs.Texts.{drawn_text}
+use Rattle.prodash_tui.proofs.PrintableTexts.{columns_of_printable}
 use Rattle.prodash_tui.proofs.WrittenTexts.{text_columns-last}
 use Rattle.prodash_tui.proofs.text.text_columns.Goals as goal
+
+pub returns-then-is_all_printable : goal.returns-then-is_all_printable
+returns-then-is_all_printable c =
+    let text = c.args.text.now in
+    let each : text_columns char_columns (drawn_text text) ≡ length text = columns_of_printable text (search rules) in
+    omega arith
 
 pub loop-c-preserved : goal.loop-c-preserved
 loop-c-preserved c =

@@ -11,6 +11,9 @@ use crate::style::{Color, Style};
 use prodash_base::progress::{State, Step, Value};
 use prodash_core::render::tui::Rect;
 
+/// The greatest bound that times any number of cells is a `u64`.
+const NARROW_BOUND: Step = u64::MAX / 65536;
+
 /// How many columns a spinner has.
 const SPINNER: u16 = 5;
 
@@ -47,6 +50,9 @@ pub(crate) fn filled_cells(cells: u64, step: Step, bound: Step) -> u64
     if bound == 0 {
         return cells;
     }
+    if step == 0 {
+        return 0;
+    }
     let done = step.min(bound);
     match cells.checked_mul(done) {
         Some(product) => product / bound,
@@ -62,8 +68,13 @@ fn eighths(cells: u16, step: Step, bound: Step) -> u8
     if bound == 0 {
         return 0;
     }
+    let done = step.min(bound);
+    if bound <= NARROW_BOUND {
+        let rest = u64::from(cells) * done % bound;
+        return ((16 * rest + bound) / (2 * bound)) as u8;
+    }
     let bound = u128::from(bound);
-    let rest = u128::from(cells) * u128::from(step).min(bound) % bound;
+    let rest = u128::from(cells) * u128::from(done) % bound;
     ((16 * rest + bound) / (2 * bound)) as u8
 }
 

@@ -3,11 +3,16 @@ ghost use Rattle.std.specs.Prelude.{◌≡◌, ◌+◌, ◌<◌, length, OnOk, I
 ghost use Rattle.std.specs.Option.{option_map};
 ghost use Rattle.prodash_base.specs.Adjacency.{IsAscending, paths_of};
 ghost use Rattle.prodash_base.specs.Rows.{progress_of, rows_of};
+ghost use Rattle.prodash_tui.specs.Cells.{plain};
+ghost use Rattle.prodash_tui.specs.Grids.{with_shortened};
+ghost use Rattle.prodash_tui.specs.Panes.{vertical_line};
 ghost use Rattle.prodash_tui.specs.ProgressPanes as panes;
 ghost use Rattle.prodash_tui.specs.ProgressPanes.{behind_branches, widest_amount, with_bounded, with_branches, with_group, with_rows};
 ghost use Rattle.prodash_tui.specs.Rates.{rate_at};
 ghost use Rattle.prodash_tui.specs.RowTexts.{amount_columns};
+ghost use Rattle.prodash_tui.specs.Texts.{block_width};
 ghost use Rattle.prodash_tui.specs.plumbing.PaneParts.{DrawsRow, DrawsValue};
+ghost use Rattle.prodash_tui.specs.plumbing.Spinners.{columns_before_spinners, is_boundless, shows_spinner};
 
 use crate::draw::parts::bold;
 use crate::draw::progress::bar::{
@@ -18,16 +23,29 @@ use crate::draw::progress::lines::Lines;
 use crate::draw::progress::texts::{
     has_child, write_amount, write_branches, write_label, write_title,
 };
-use crate::draw::progress::tree::shown_count;
+use crate::draw::progress::tree::{draw_measured, shown_count};
 use crate::grid::Grid;
 use crate::rect::{line_bound, offset_x};
 use crate::style::Style;
-use crate::text::block_width;
 use prodash_base::Refusal;
 use prodash_base::progress::{Row, Step, Value};
 use prodash_base::unit::display::Throughput;
 use prodash_core::render::tui::{Rect, VERTICAL_LINE};
 use std::alloc::Global;
+
+/// Draws branches of so many columns over a vertical line, which only shows if there are none.
+fn draw_on_line(grid: &mut Grid, line: Rect, branches: &str, columns: u16)
+    requires { columns ≡ block_width branches.now }
+    ensures { grid.new ≡ with_shortened line plain branches.now
+        (with_shortened line plain vertical_line grid.old) }
+{
+    if columns > 0 {
+        draw_measured(grid, line, branches, columns, Style::new());
+        return;
+    }
+    grid.draw_text_with_ellipsis(line, VERTICAL_LINE, Style::new());
+    grid.draw_text_with_ellipsis(line, branches, Style::new());
+}
 
 /// Draws the branches that lead to a row on a line, and returns what is behind them. Writes over
 /// the text.
@@ -45,11 +63,9 @@ fn draw_branches(
     ensures behind { IfOk result (λ r. r ≡ behind_branches (rows_of rows.now) index line) }
     ensures reason { IsOkUnless result Refusal.Memory }
 {
-    write_branches(text, rows, index)?;
-    let branches = text.as_str();
-    grid.draw_text_with_ellipsis(line, VERTICAL_LINE, Style::new());
-    grid.draw_text_with_ellipsis(line, branches, Style::new());
-    Ok(offset_x(line, block_width(branches)))
+    let columns = write_branches(text, rows, index)?;
+    draw_on_line(grid, line, text.as_str(), columns);
+    Ok(offset_x(line, columns))
 }
 
 /// Returns how many columns the line of a group has.
@@ -180,9 +196,50 @@ fn columns_of_amount(alloc: Global, text: &mut String, row: &Row) -> Result<u16,
     }
 }
 
+/// Returns whether a row has a progress without a bound.
+fn is_boundless(row: &Row) -> bool
+    ensures { result ≡ is_boundless (option_map progress_of row.now.progress) }
+{
+    match &row.progress {
+        Some(value) => value.done_at.is_none(),
+        None => false,
+    }
+}
+
+/// Returns whether a row that is shown has a progress without a bound, which is drawn as a spinner.
+fn shows_spinner(rows: &[Row], area: Rect, offset: u16) -> bool
+    ensures { result ≡ shows_spinner (rows_of rows.now) area offset }
+{
+    let mut found = false;
+    for line in 0..shown_count(rows, area, offset) {
+        let index = usize::from(offset) + usize::from(line);
+        found = found || is_boundless(&rows[index]);
+    }
+    found
+}
+
+/// Returns how many columns are left free before spinners: as many as the widest amount has, or
+/// none if there is no spinner. Writes over the text.
+pub(crate) fn columns_before_spinners(
+    alloc: Global,
+    text: &mut String,
+    rows: &[Row],
+    area: Rect,
+    offset: u16,
+) -> Result<u16, Refusal>
+    ensures ok { IfOk result (λ n.
+        n ≡ columns_before_spinners (rows_of rows.now) area offset) }
+    ensures reason { IsOkUnless result Refusal.Memory }
+{
+    if !shows_spinner(rows, area, offset) {
+        return Ok(0);
+    }
+    widest_amount(alloc, text, rows, area, offset)
+}
+
 /// Returns how many columns the widest amount of the rows from an offset on has. Writes over the
 /// text.
-pub(crate) fn widest_amount(
+fn widest_amount(
     alloc: Global,
     text: &mut String,
     rows: &[Row],

@@ -1,9 +1,10 @@
 //! The texts of a progress pane.
 //!
 //! A call named `push_..` that is refused may have appended a part of its text.
-ghost use Rattle.std.specs.Prelude.{◌≡◌, ◌++◌, ◌<◌, length, codes, None, OnOk, IfOk, IsOkUnless, string_bytes};
+ghost use Rattle.std.specs.Prelude.{◌≡◌, ◌-◌, ◌*◌, ◌++◌, ◌<◌, ◌≤◌, length, codes, None, OnOk, IfOk, IsOkUnless, string_bytes};
 ghost use Rattle.prodash_base.specs.Adjacency.{IsAscending, paths_of};
 ghost use Rattle.prodash_base.specs.Appending.{Appends};
+ghost use Rattle.prodash_base.specs.Path.{max_level};
 ghost use Rattle.prodash_base.specs.Rows.{progress_of, rows_of};
 ghost use Rattle.prodash_line.specs.ProgressRows.{fraction_of};
 ghost use Rattle.prodash_tui.specs.RowTexts as texts;
@@ -34,16 +35,27 @@ fn push_branches(text: &mut String, rows: &[Row], index: usize) -> Result<(), Al
     push_level_prefix(text, rows, index)
 }
 
-/// Writes the branches that lead to a row over the text.
-pub(crate) fn write_branches(text: &mut String, rows: &[Row], index: usize) -> Result<(), Refusal>
+/// Returns how many columns the branches that lead to a row have: one for each of its levels, and
+/// one between any two.
+fn branch_columns(row: &Row) -> u16
+    ensures value { result ≡ 2 * length row.now.key - 1 }
+    ensures levels { length row.now.key ≤ max_level }
+{
+    (2 * u16::from(row.key.level())).saturating_sub(1)
+}
+
+/// Writes the branches that lead to a row over the text, and returns how many columns they have.
+pub(crate) fn write_branches(text: &mut String, rows: &[Row], index: usize) -> Result<u16, Refusal>
     requires sorted { IsAscending (paths_of rows.now) }
     requires inside { index < length rows.now }
     ensures ok { OnOk result (string_bytes text.new ≡ branches_of (rows_of rows.now) index) }
+    ensures columns { IfOk result (λ n.
+        n ≡ block_width (branches_of (rows_of rows.now) index)) }
     ensures reason { IsOkUnless result Refusal.Memory }
 {
     text.clear();
     push_branches(text, rows, index)?;
-    Ok(())
+    Ok(branch_columns(&rows[index]))
 }
 
 /// Returns whether a row has a child with progress.
@@ -58,18 +70,21 @@ pub(crate) fn has_child(rows: &[Row], index: usize) -> bool
     next.progress.is_some() && key.shares_parent_with(&next.key, key.level())
 }
 
-/// Writes a row of the tree over the text.
-pub(crate) fn write_tree_text(text: &mut String, rows: &[Row], index: usize) -> Result<(), Refusal>
+/// Writes a row of the tree over the text, and returns how many columns it has.
+pub(crate) fn write_tree_text(text: &mut String, rows: &[Row], index: usize) -> Result<u16, Refusal>
     requires sorted { IsAscending (paths_of rows.now) }
     requires inside { index < length rows.now }
     ensures ok { OnOk result (string_bytes text.new ≡ tree_text (rows_of rows.now) index) }
+    ensures columns { IfOk result (λ n. n ≡ block_width (tree_text (rows_of rows.now) index)) }
     ensures reason { IsOkUnless result Refusal.Memory }
 {
     text.clear();
     push_branches(text, rows, index)?;
     text.push_str(" ")?;
-    text.push_str(rows[index].name.as_str())?;
-    Ok(())
+    let row = &rows[index];
+    let name = row.name.as_str();
+    text.push_str(name)?;
+    Ok(block_width(name).saturating_add(branch_columns(row) + 1))
 }
 
 /// Appends a step and its bound, if there is one.

@@ -3,7 +3,7 @@ ghost use Rattle.std.specs.Prelude.{◌≡◌, ◌+◌, ◌<◌, length, OnOk, I
 ghost use Rattle.std.specs.Option.{option_map};
 ghost use Rattle.prodash_base.specs.Adjacency.{IsAscending, paths_of};
 ghost use Rattle.prodash_base.specs.Rows.{progress_of, rows_of};
-ghost use Rattle.prodash_tui.specs.Grids.{with_shortened};
+ghost use Rattle.prodash_tui.specs.Grids.{IsSheet, with_shortened};
 ghost use Rattle.prodash_tui.specs.ProgressPanes as panes;
 ghost use Rattle.prodash_tui.specs.ProgressPanes.{tree_columns, with_tree, with_tree_row};
 ghost use Rattle.prodash_tui.specs.RowTexts.{tree_row_columns};
@@ -14,7 +14,6 @@ use crate::draw::progress::texts::write_tree_text;
 use crate::grid::Grid;
 use crate::rect::line_bound;
 use crate::style::Style;
-use crate::text::block_width;
 use prodash_base::Refusal;
 use prodash_base::progress::{Row, Value};
 use prodash_core::render::tui::Rect;
@@ -51,9 +50,10 @@ fn tree_line(area: Rect, line: u16) -> Rect
 
 /// Draws a text of so many columns as `Grid::draw_text_with_ellipsis` does. One that has room is not
 /// measured again.
-fn draw_measured(grid: &mut Grid, area: Rect, text: &str, columns: u16, style: Style)
+pub(crate) fn draw_measured(grid: &mut Grid, area: Rect, text: &str, columns: u16, style: Style)
     requires { columns ≡ block_width text.now }
-    ensures { grid.new ≡ with_shortened area style text.now grid.old }
+    ensures drawn { grid.new ≡ with_shortened area style text.now grid.old }
+    ensures sheet { IsSheet grid.old }
 {
     let room = area.width.min(grid.width().saturating_sub(area.x));
     if columns < u16::MAX && columns <= room {
@@ -78,9 +78,8 @@ fn draw_tree_row(
     ensures columns { IfOk result (λ n. n ≡ tree_row_columns (rows_of rows.now) index) }
     ensures reason { IsOkUnless result Refusal.Memory }
 {
-    write_tree_text(text, rows, index)?;
+    let columns = write_tree_text(text, rows, index)?;
     let style = tree_style(&rows[index].progress);
-    let columns = block_width(text.as_str());
     draw_measured(grid, line, text.as_str(), columns, style);
     Ok(columns.saturating_add(1))
 }
