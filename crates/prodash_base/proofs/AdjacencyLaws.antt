@@ -1,21 +1,21 @@
 -- Adjacency: the paths that the tests of `specs/Adjacency.antt` find, as indices of the list.
 use Rattle.std.proofs.Common.{◌≡◌, ℕ, suc, ◌+◌, ◌-◌, ◌<◌, ◌≤◌, List, [], ◌∷◌, length, take, Bool, true, false, IsTrue, ◌&&◌, ◌↔◌, get_or, inl, inr, refl, sym, ap, subst, ◌∙◌, arith}
 use Rattle.std.specs.List.{AllWithin, list_any}
-use Rattle.std.specs.Ordering.{is_lt, is_gt, is_le, is_ge}
+use Rattle.std.specs.Ordering.{is_lt, is_gt, is_le, is_ge, ordering_reverse}
 use Rattle.std.specs.declared.cmp.Ordering.{Ordering}
 use Rattle.std.specs.declared.cmp.Ordering.TheVariants.{Less, Equal, Greater}
-use Rattle.std.specs.Cmp.{unsigned_Decides}
+use Rattle.std.specs.Cmp.{IsTotalOrder, unsigned_Decides}
 use Rattle.std.specs.Cmp.Lexicographic.{bytes_decides}
 use Rattle.std.proofs.lemmas.Cmp.{tied_itself, nat_list_cmp_total}
 use Rattle.std.proofs.lemmas.Bool.{cases_lt, or_cases, and_parts}
-use Rattle.std.proofs.lemmas.List.{take_all, length-map, length-take-le}
+use Rattle.std.proofs.lemmas.List.{get_or_default, take_all, length-map, length-take-le}
 use Rattle.std.proofs.lemmas.List.Folds.{list_any_at}
 use Rattle.prodash_base.specs.declared.progress.Row.{Row}
 use Rattle.prodash_base.specs.Path.{Path, path_cmp}
 use Rattle.prodash_base.specs.Numbers.{same_numbers}
 use Rattle.prodash_base.specs.Adjacency.{IsAscending, paths_of, is_beside, has_sibling_before, has_parent, has_below}
-use Rattle.prodash_base.specs.plumbing.Branches.{path_at, cmp_prefix, HasLevel, StartsBranch, EndsBranch}
-use Rattle.prodash_base.proofs.BranchLaws.{in_order, turned, equal_if_both, same_prefix, prefix_ties, prefix_le, prefix_up, path_of_row, row_inside}
+use Rattle.prodash_base.specs.plumbing.Branches.{path_at, cmp_prefix, HasLevel, IsSharedAbove, IsSharedBelow, StartsBranch, EndsBranch}
+use Rattle.prodash_base.proofs.BranchLaws.{in_order, turned, equal_if_both, ge_if_not_lt, gt_if_not_le, le_if_not_gt, parted_le, parted_lt, same_prefix, prefix_ties, prefix_le, prefix_up, path_of_row, row_inside}
 
 both : (a b : Bool) → a ≡ true → b ≡ true → (a && b) ≡ true
 both a b x y i = x i && y i
@@ -178,6 +178,107 @@ module _ (S : List Path) (up : IsAscending S) (x : ℕ) (inside : x < length S) 
               absurd (cc)
           | inr ge ↦ let e : k ≡ first = omega arith in ap (λ j. length (path_at S j)) (sym e) ∙ level
         ]
+
+-- ---- the paths beside one
+
+turned_ge : (o : Ordering) → is_gt o ≡ false → is_ge (ordering_reverse o) ≡ true
+turned_ge Less h = refl
+turned_ge Equal h = refl
+turned_ge Greater h = cc
+
+le_false : (o : Ordering) → is_gt o ≡ true → is_le o ≡ false
+le_false Less h = cc
+le_false Equal h = cc
+le_false Greater h = refl
+
+module _ (S : List Path) (up : IsAscending S) (x : ℕ) (inside : x < length S) (n : ℕ) where
+  not_less : AllWithin (λ q. IsTrue (is_ge (cmp_prefix n q (path_at S x)))) S x (length S)
+  not_less k d low high =
+      let total : IsTotalOrder path_cmp = nat_list_cmp_total in
+      let p = path_at S x in
+      let q = get_or S k d in
+      let gt : is_gt (cmp_prefix n p q) ≡ false = subst (λ r. is_gt (cmp_prefix n r q) ≡ false) (get_or_default S x d [] inside) (prefix_up S up n x k d low high) in
+      ap is_ge (total.antisymm (take n q) (take n p)) ∙ turned_ge (cmp_prefix n p q) gt
+
+  pub starts_first : x ≡ 0 → StartsBranch S (path_at S x) n x
+  starts_first e = (λ k d low high. absurd (omega arith), not_less)
+
+  pub starts_behind : 0 < x → is_lt (cmp_prefix n (path_at S (x - 1)) (path_at S x)) ≡ true → StartsBranch S (path_at S x) n x
+  starts_behind some lt = (
+    λ k d low high. parted_lt S up n (path_at S x) k (x - 1) d (omega arith) (omega arith)
+        (subst (λ q. is_lt (cmp_prefix n q (path_at S x)) ≡ true) (get_or_default S (x - 1) [] d (omega arith)) lt),
+    not_less,
+  )
+
+  pub shared_behind : 0 < x → is_lt (cmp_prefix n (path_at S (x - 1)) (path_at S x)) ≡ false → cmp_prefix n (path_at S (x - 1)) (path_at S x) ≡ Equal
+  shared_behind some not_lt = equal_if_both _ (ge_if_not_lt _ not_lt) (prefix_up S up n (x - 1) x [] (omega arith) inside)
+
+  not_greater_before : AllWithin (λ q. IsTrue (is_le (cmp_prefix n q (path_at S x)))) S 0 (x + 1)
+  not_greater_before k d low high =
+      le_if_not_gt _ (subst (λ r. is_gt (cmp_prefix n (get_or S k d) r) ≡ false) (get_or_default S x d [] inside) (prefix_up S up n k x d (omega arith) inside))
+
+  pub ends_last : length S ≤ x + 1 → EndsBranch S (path_at S x) n (x + 1)
+  ends_last last = (not_greater_before, λ k d low high. absurd (omega arith))
+
+  pub ends_before : x + 1 < length S → is_gt (cmp_prefix n (path_at S (x + 1)) (path_at S x)) ≡ true → EndsBranch S (path_at S x) n (x + 1)
+  ends_before more gt = (not_greater_before, λ k d low high. gt_if_not_le _ (by k d low high (is_le (cmp_prefix n (get_or S k d) (path_at S x))) refl))
+    where
+      by : (k : ℕ) (d : Path) → x + 1 ≤ k → k < length S → (b : Bool) → is_le (cmp_prefix n (get_or S k d) (path_at S x)) ≡ b → b ≡ false
+      by k d low high true le =
+          let there : is_le (cmp_prefix n (get_or S (x + 1) d) (path_at S x)) ≡ true = parted_le S up n (path_at S x) (x + 1) k d low high le in
+          let here : is_le (cmp_prefix n (path_at S (x + 1)) (path_at S x)) ≡ true =
+          subst (λ q. is_le (cmp_prefix n q (path_at S x)) ≡ true) (get_or_default S (x + 1) d [] more) there in
+          let other : is_le (cmp_prefix n (path_at S (x + 1)) (path_at S x)) ≡ false = le_false _ gt in
+          absurd (cc)
+      by k d low high false le = refl
+
+  pub shared_before : x + 1 < length S → is_gt (cmp_prefix n (path_at S (x + 1)) (path_at S x)) ≡ false → cmp_prefix n (path_at S (x + 1)) (path_at S x) ≡ Equal
+  shared_before more not_gt = equal_between n (path_at S (x + 1)) (path_at S x) (le_if_not_gt _ not_gt) (prefix_up S up n x (x + 1) [] (omega arith) more)
+
+-- the tests, where the path beside one decides
+module _ (S : List Path) (up : IsAscending S) (x : ℕ) (inside : x < length S) (l : ℕ) where
+  refuted : (b : Bool) → (b ≡ true → ⊥) → false ≡ b
+  refuted true h = absurd (h refl)
+  refuted false h = refl
+
+  pub none_above : StartsBranch S (path_at S x) (l - 1) x → false ≡ has_sibling_before S (path_at S x) l
+  none_above branch = refuted (has_sibling_before S (path_at S x) l) (λ h. let at = before_found S up x inside l x branch.0 h in let low : x ≤ at.0 = at.1 in let high : at.0 < x = at.2 in omega arith)
+
+  pub none_below : EndsBranch S (path_at S x) (l - 1) (x + 1) → false ≡ has_below S (path_at S x) l
+  none_below branch = refuted (has_below S (path_at S x) l) (λ h. let at = after_found S up x inside l (x + 1) branch.1 h in let low : x + 1 ≤ at.0 = at.1 in let high : at.0 < x + 1 = at.2 in omega arith)
+
+  pub no_parent : 0 < l → l ≤ length (path_at S x) → StartsBranch S (path_at S x) (l - 1) x → false ≡ has_parent S (path_at S x) l
+  no_parent some short branch =
+      refuted (has_parent S (path_at S x) l) (λ h. let level : length (path_at S x) ≡ l - 1 = parent_is_first S up x inside l x branch.0 branch.1 short h in omega arith)
+
+  pub sibling_above : (q : Path) → IsSharedAbove S (l - 1) x q → length q ≡ l → true ≡ has_sibling_before S (path_at S x) l
+  sibling_above q shared level =
+      let p = path_at S x in
+      let k = x - 1 in
+      let some : 0 < x = shared.0 in
+      let lt : path_cmp (path_at S k) p ≡ Less = in_order S up k x [] (omega arith) inside in
+      let less : path_cmp q p ≡ Less = ap (λ (r : Path). path_cmp r p) shared.1 ∙ lt in
+      sym (list_any_at (λ r. is_lt (path_cmp r p) && is_beside p l r) S k [] (omega arith)
+      (subst (λ r. (is_lt (path_cmp r p) && is_beside p l r) ≡ true) shared.1 (both _ _ (ap is_lt less) (sibling l p q level shared.2))))
+
+  pub sibling_below : (q : Path) → IsSharedBelow S (l - 1) x q → length q ≡ l → true ≡ has_below S (path_at S x) l
+  sibling_below q shared level =
+      let p = path_at S x in
+      let k = x + 1 in
+      let more : x + 1 < length S = shared.0 in
+      let gt : path_cmp (path_at S k) p ≡ Greater = turned p (path_at S k) (in_order S up x k [] (omega arith) more) in
+      let greater : path_cmp q p ≡ Greater = ap (λ (r : Path). path_cmp r p) shared.1 ∙ gt in
+      sym (list_any_at (λ r. is_gt (path_cmp r p) && is_beside p l r) S k [] more
+      (subst (λ r. (is_gt (path_cmp r p) && is_beside p l r) ≡ true) shared.1 (both _ _ (ap is_gt greater) (sibling l p q level shared.2))))
+
+  pub parent_above : (q : Path) → IsSharedAbove S (l - 1) x q → length q ≡ l - 1 → true ≡ has_parent S (path_at S x) l
+  parent_above q shared level =
+      let p = path_at S x in
+      let some : 0 < x = shared.0 in
+      let whole : take (l - 1) q ≡ q = take_all (l - 1) q (omega arith) in
+      let same : take (l - 1) p ≡ q = sym (same_prefix (l - 1) q p shared.2) ∙ whole in
+      sym (list_any_at (same_numbers (take (l - 1) p)) S (x - 1) [] (omega arith)
+      (subst (λ r. same_numbers (take (l - 1) p) r ≡ true) shared.1 ((bytes_decides (take (l - 1) p) q).1 same)))
 
 -- the same, of rows: `first` and `end` are the bounds of the branch of the row at index x
 module _ (rows : List Row) (up : IsAscending (paths_of rows)) (x : ℕ) (d : Row) (inside : x < length rows) (l : ℕ) where

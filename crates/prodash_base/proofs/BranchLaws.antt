@@ -32,7 +32,7 @@ ge_if_not_lt Less h = cc
 ge_if_not_lt Equal h = refl
 ge_if_not_lt Greater h = refl
 
-le_if_not_gt : (o : Ordering) → is_gt o ≡ false → is_le o ≡ true
+pub le_if_not_gt : (o : Ordering) → is_gt o ≡ false → is_le o ≡ true
 le_if_not_gt Less h = refl
 le_if_not_gt Equal h = refl
 le_if_not_gt Greater h = cc

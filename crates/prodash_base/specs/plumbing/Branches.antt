@@ -1,9 +1,10 @@
 -- Branches of an ascending list: the neighbouring paths that share their first numbers.
-use Rattle.std.specs.Prelude.{◌≡◌, ℕ, ◌<◌, ◌≤◌, List, [], length, take, IsTrue}
+use Rattle.std.specs.Prelude.{◌≡◌, ℕ, ◌+◌, ◌-◌, ◌<◌, ◌≤◌, List, [], length, take, IsTrue}
 use Rattle.std.specs.List.{slice_index_or}
 use Rattle.std.specs.List.Sorted.{IsPartitionPoint}
 use Rattle.std.specs.Ordering.{is_lt, is_le, is_ge, is_gt}
 use Rattle.std.specs.declared.cmp.Ordering.{Ordering}
+use Rattle.std.specs.declared.cmp.Ordering.TheVariants.{Equal}
 use Rattle.prodash_base.specs.Path.{Path, path_cmp}
 use Rattle.prodash_base.specs.Adjacency.{paths_of}
 use Rattle.prodash_base.specs.declared.progress.Row.{Row}
@@ -35,3 +36,12 @@ EndsBranch paths p n =
 -- a path with n numbers at an index from i up to j
 abbrev pub HasLevel : List Path → ℕ → ℕ → ℕ → Type 0
 HasLevel paths n i j = (k : ℕ) × (i ≤ k) × (k < j) × (length (path_at paths k) ≡ n)
+
+-- a path is the one before an index, and shares its first n numbers with the one there
+abbrev pub IsSharedAbove : List Path → ℕ → ℕ → Path → Type 0
+IsSharedAbove paths n i q = (0 < i) × (q ≡ path_at paths (i - 1)) × (cmp_prefix n q (path_at paths i) ≡ Equal)
+
+-- a path is the one behind an index, and shares its first n numbers with the one there
+abbrev pub IsSharedBelow : List Path → ℕ → ℕ → Path → Type 0
+IsSharedBelow paths n i q =
+    (i + 1 < length paths) × (q ≡ path_at paths (i + 1)) × (cmp_prefix n q (path_at paths i) ≡ Equal)

@@ -1,7 +1,7 @@
-ghost use Rattle.std.specs.Prelude.{◌≡◌, ℕ, ◌<◌, ◌≤◌, ◌-◌, ◌↔◌, IsTrue, Some, length};
+ghost use Rattle.std.specs.Prelude.{◌≡◌, ℕ, ◌<◌, ◌≤◌, ◌-◌, ◌+◌, ◌↔◌, IsTrue, MatchOption, Some, length};
 ghost use Rattle.prodash_base.specs.Adjacency as spec;
 ghost use Rattle.prodash_base.specs.Adjacency.{AncestorsOnBothSidesAt, IsAscending, adjacency_at, paths_of};
-ghost use Rattle.prodash_base.specs.plumbing.Branches.{path_at, at_row, HasLevel, StartsBranch, EndsBranch};
+ghost use Rattle.prodash_base.specs.plumbing.Branches.{path_at, at_row, HasLevel, IsSharedAbove, IsSharedBelow, StartsBranch, EndsBranch};
 
 use crate::progress::Row;
 use crate::progress::key::{Adjacency, Key, Level, SiblingLocation};
@@ -86,6 +86,12 @@ fn has_sibling_above(sorted: &[Row], index: usize, level: Level) -> bool
     requires level { 0 < level }
     ensures { result ≡ at_row spec.has_sibling_before sorted.now index level }
 {
+    let Some(above) = shared_above(sorted, index, level - 1) else {
+        return false;
+    };
+    if above.level() == level {
+        return true;
+    }
     let first = first_of_branch(sorted, &sorted[index].key, level - 1);
     has_level(sorted, first, index, level)
 }
@@ -98,6 +104,12 @@ fn has_parent(sorted: &[Row], index: usize, level: Level) -> bool
     requires own { level ≤ length (path_at (paths_of sorted.now) index) }
     ensures { result ≡ at_row spec.has_parent sorted.now index level }
 {
+    let Some(above) = shared_above(sorted, index, level - 1) else {
+        return false;
+    };
+    if above.level() == level - 1 {
+        return true;
+    }
     let first = first_of_branch(sorted, &sorted[index].key, level - 1);
     sorted[first].key.level() == level - 1
 }
@@ -109,8 +121,57 @@ fn has_below(sorted: &[Row], index: usize, level: Level) -> bool
     requires level { 0 < level }
     ensures { result ≡ at_row spec.has_below sorted.now index level }
 {
+    let Some(below) = shared_below(sorted, index, level - 1) else {
+        return false;
+    };
+    if below.level() == level {
+        return true;
+    }
     let end = end_of_branch(sorted, &sorted[index].key, level - 1);
     has_level(sorted, index + 1, end, level)
+}
+
+/// Returns the key of the row above one if both share their first `level` numbers. If they don't,
+/// no row above shares them.
+fn shared_above(sorted: &[Row], index: usize, level: Level) -> Option<&Key>
+    requires sorted { IsAscending (paths_of sorted.now) }
+    requires inside { index < length sorted.now }
+    ensures { MatchOption result
+        (StartsBranch (paths_of sorted.now) (path_at (paths_of sorted.now) index) level index)
+        (λ key. IsSharedAbove (paths_of sorted.now) level index key.now) }
+{
+    if index == 0 {
+        return None;
+    }
+    let above = &sorted[index - 1].key;
+    if above.cmp_prefix(&sorted[index].key, level).is_lt() {
+        return None;
+    }
+    Some(above)
+}
+
+/// Returns the key of the row below one if both share their first `level` numbers. If they don't,
+/// no row below shares them.
+fn shared_below(sorted: &[Row], index: usize, level: Level) -> Option<&Key>
+    requires sorted { IsAscending (paths_of sorted.now) }
+    requires inside { index < length sorted.now }
+    ensures { MatchOption result
+        (EndsBranch (paths_of sorted.now) (path_at (paths_of sorted.now) index) level (index + 1))
+        (λ key. IsSharedBelow (paths_of sorted.now) level index key.now) }
+{
+    let next = index + 1;
+    let count = sorted.len();
+    if next == count {
+        return None;
+    }
+    let below = &sorted[next].key;
+    if level == 0 {
+        return Some(below);
+    }
+    if below.cmp_prefix(&sorted[index].key, level).is_gt() {
+        return None;
+    }
+    Some(below)
 }
 
 /// Returns whether a row from `start` up to `end` has `level` numbers. Of the rows that share

@@ -1,6 +1,21 @@
+use Rattle.std.proofs.Common.{◌≡◌, length, arith}
 use Rattle.std.specs.Cmp.{both_ways}
-use Rattle.prodash_base.proofs.AdjacencyLaws.{below_rows}
+use Rattle.prodash_base.specs.declared.progress.Row.{Row}
+use Rattle.prodash_base.specs.Adjacency.{paths_of}
+use Rattle.prodash_base.proofs.AdjacencyLaws.{below_rows, none_below, sibling_below}
+use Rattle.prodash_base.proofs.BranchLaws.{row_inside}
 use Rattle.prodash_base.proofs.progress.key.neighbours.has_below.Goals as goal
+
+pub returns-in_default : goal.returns-in_default
+returns-in_default c =
+    none_below (paths_of c.args.sorted.now) c.requires.sorted c.args.index (row_inside (λ (r : Row). r.key) c.args.sorted.now c.args.index c.requires.inside) c.args.level
+    c.in_default.ensures
+
+pub returns-then-level : goal.returns-then-level
+returns-then-level c =
+    let level : length c.in-Some.below.now ≡ c.args.level = omega (arith, c.level.ensures.value) in
+    sibling_below (paths_of c.args.sorted.now) c.requires.sorted c.args.index (row_inside (λ (r : Row). r.key) c.args.sorted.now c.args.index c.requires.inside) c.args.level
+    c.in-Some.below.now c.in-Some.ensures level
 
 pub returns : goal.returns
 returns c =
