@@ -13,4 +13,5 @@ pub mod KeptLines
 pub mod Observing
 pub mod Choosing
 pub mod FrameWriting
+pub mod WrittenRows
 pub mod RenderedInputs

@@ -256,12 +256,6 @@ IsSizeIn scene drawn size = IsSizeOf scene.options scene.past.now.midpoint drawn
 abbrev pub DrawsRows : Scene → Option FrameTracker → List Row → Drawn → Drawn → Type 0
 DrawsRows scene tracker rows old new = AddsRows scene.options scene.past.now.midpoint (times_in scene) (ahead_of tracker) rows old new
 
--- their lines, over lines on screen of these widths, follow the bytes of old
-abbrev pub WritesRows : Scene → Option FrameTracker → List ℕ → List Row → LineWriter → LineWriter → Type 0
-WritesRows scene tracker widths rows old new =
-    let lines = shown_lines scene.options scene.past.now.midpoint (times_in scene) (ahead_of tracker) rows in
-    AppendsOver (layout_of scene.options) old widths lines new
-
 -- the rows of these that fit
 abbrev pub fitting_shown : Options → Option Tracker → List Row → List DrawnRow
 fitting_shown options tracker rows = fitting options (shown_rows options tracker rows)

@@ -4,9 +4,10 @@ ghost use Rattle.prodash_line.specs.declared.render.line.draw.action.Action.TheV
 ghost use Rattle.prodash_line.specs.Frames.{first_width, redraw, cursor_up};
 ghost use Rattle.prodash_line.specs.DrawnLines.{prefers_running};
 ghost use Rattle.prodash_line.specs.Renderer.{ending_of, latest_rows, resized};
-ghost use Rattle.prodash_line.specs.plumbing.FrameWriting.{closing_signs, closing_bytes, Composes, AppendsSigns, AppendsBody, AppendsRedraw, BeginsFrame, FinishesRedraw, LeftBy, LeftByTick, LeftByAction, AddsOrigins, DrawsRows, DrawsFitting, WritesMessages, WritesRows, WritesRow, WritesChosen, WritesFitting, SplitsScene, DrawsFirst, DrawsRowOf, DrawsChosen, HasEarlier, WritesLine, IsSizeIn, KeepsOf, KeepsLinesOf, KeepsLines, RowsStay, Extends, resize_to, tick_seeing};
+ghost use Rattle.prodash_line.specs.plumbing.FrameWriting.{closing_signs, closing_bytes, Composes, AppendsSigns, AppendsBody, AppendsRedraw, BeginsFrame, FinishesRedraw, LeftBy, LeftByTick, LeftByAction, AddsOrigins, DrawsFitting, WritesMessages, WritesRow, WritesChosen, WritesFitting, SplitsScene, DrawsFirst, DrawsRowOf, DrawsChosen, HasEarlier, WritesLine, IsSizeIn, KeepsOf, KeepsLinesOf, KeepsLines, RowsStay, Extends, resize_to, tick_seeing};
+ghost use Rattle.prodash_line.specs.plumbing.WrittenRows.{WritesRows};
 ghost use Rattle.prodash_line.specs.Tracking.{kept_of};
-ghost use Rattle.prodash_line.specs.plumbing.Observing.{ObservesDrawn, ObservesScene};
+ghost use Rattle.prodash_line.specs.plumbing.Observing.{ObservesScene};
 ghost use Rattle.prodash_line.specs.plumbing.OverwriteBytes.{blank_bytes};
 ghost use Rattle.prodash_base.specs.Rows.{row_of};
 
@@ -495,11 +496,8 @@ fn write_rows(
     widths: &[u16],
     rows: &[Row],
 ) -> Result<(), Refusal>
-    ensures bytes { OnOk result
-        (WritesRows scene.now tracker.old widths.now rows.now out.old out.new) }
-    ensures drawn { OnOk result (DrawsRows scene.now tracker.old rows.now drawn.old drawn.new) }
-    ensures observed { OnOk result
-        (ObservesDrawn scene.now.options rows.now tracker.old tracker.new) }
+    ensures written { OnOk result (WritesRows scene.now widths.now rows.now out.old tracker.old
+        drawn.old out.new tracker.new drawn.new) }
     ensures kept { kept_of tracker.new ≡ kept_of tracker.old }
     ensures reason { IsOkUnless result Refusal.Memory }
 {
@@ -548,11 +546,8 @@ fn write_shown(
     widths: &[u16],
     rows: &[Row],
 ) -> Result<Vec<RowLine>, Refusal>
-    ensures bytes { OnOk result
-        (WritesRows scene.now tracker.old widths.now rows.now out.old out.new) }
-    ensures drawn { OnOk result (DrawsRows scene.now tracker.old rows.now drawn.old drawn.new) }
-    ensures observed { OnOk result
-        (ObservesDrawn scene.now.options rows.now tracker.old tracker.new) }
+    ensures written { OnOk result (WritesRows scene.now widths.now rows.now out.old tracker.old
+        drawn.old out.new tracker.new drawn.new) }
     ensures lines { IfOk result (KeepsOf scene.now rows.now out.new) }
     ensures kept { kept_of tracker.new ≡ kept_of tracker.old }
     ensures reason { IsOkUnless result Refusal.Memory }
@@ -577,11 +572,8 @@ fn write_again(
     rows: &[Row],
 ) -> Result<Vec<RowLine>, Refusal>
     requires { scene.now.timer.now ≡ None }
-    ensures bytes { OnOk result
-        (WritesRows scene.now tracker.old widths.now rows.now out.old out.new) }
-    ensures drawn { OnOk result (DrawsRows scene.now tracker.old rows.now drawn.old drawn.new) }
-    ensures observed { OnOk result
-        (ObservesDrawn scene.now.options rows.now tracker.old tracker.new) }
+    ensures written { OnOk result (WritesRows scene.now widths.now rows.now out.old tracker.old
+        drawn.old out.new tracker.new drawn.new) }
     ensures lines { IfOk result (KeepsOf scene.now rows.now out.new) }
     ensures kept { kept_of tracker.new ≡ kept_of tracker.old }
     ensures reason { IsOkUnless result Refusal.Memory }

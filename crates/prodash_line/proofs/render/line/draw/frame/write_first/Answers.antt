@@ -35,7 +35,7 @@ returns-clause-bytes c =
     let shown = shown_lines options c.args.scene.now.past.now.midpoint (times_in c.args.scene.now) (ahead_of c.args.tracker.now) c.args.parts.0.now in
     let before = c.args.out.now.bytes in
     both_written layout options options.level_filter c.args.widths.now c.args.scene.now.rows.now c.args.parts.0.now c.args.parts.1.now shown before _ _ c.requires.split
-    (c.in_ok-lines.ensures.bytes ∙ ap (λ (ws : List ℕ). before ++ lines_bytes layout ws shown)
+    (c.in_ok-lines.ensures.written.bytes ∙ ap (λ (ws : List ℕ). before ++ lines_bytes layout ws shown)
     (c.covered_widths-covered.ensures ∙ ap (λ (l : Layout). covered l c.args.widths.now) c.layout-layout.ensures))
     c.in_ok-write_more.ensures.bytes
     ∙ ap (λ (ls : List Line). before ++ lines_bytes layout (covered layout c.args.widths.now) ls) (sym (lines c))
@@ -48,20 +48,20 @@ returns-clause-drawn c =
     let more = more_of options c.args.parts.1.now in
     record {
       widths = c.in_ok-write_more.ensures.drawn.widths
-          ∙ ap (λ (ws : List ℕ). ws ++ widths_of more) c.in_ok-lines.ensures.drawn.widths
+          ∙ ap (λ (ws : List ℕ). ws ++ widths_of more) c.in_ok-lines.ensures.written.drawn.widths
           ∙ append_assoc old.widths.items (widths_of shown) (widths_of more)
           ∙ ap (λ (ws : List ℕ). old.widths.items ++ ws) (sym (map-append columns_of shown more) ∙ ap widths_of (sym (lines c)));
-      midpoint = c.in_ok-write_more.ensures.drawn.midpoint ∙ c.in_ok-lines.ensures.drawn.midpoint
+      midpoint = c.in_ok-write_more.ensures.drawn.midpoint ∙ c.in_ok-lines.ensures.written.drawn.midpoint
           ∙ ap (λ (rs : List DrawnRow). max old.midpoint (greatest_midpoint options.defensive rs)) (sym (fit c));
-      rows_erased = c.in_ok-write_more.ensures.drawn.rows_erased ∙ c.in_ok-lines.ensures.drawn.rows_erased;
-      action = c.in_ok-write_more.ensures.drawn.action ∙ c.in_ok-lines.ensures.drawn.action;
+      rows_erased = c.in_ok-write_more.ensures.drawn.rows_erased ∙ c.in_ok-lines.ensures.written.drawn.rows_erased;
+      action = c.in_ok-write_more.ensures.drawn.action ∙ c.in_ok-lines.ensures.written.drawn.action;
     }
 
 pub returns-clause-observed : goal.returns-clause-observed
 returns-clause-observed c =
     let levels = c.args.scene.now.options.level_filter in
     c.in_ok-write_more.ensures.observed
-    ∙ ap (λ t. observe_all t (filtered levels (rows_of c.args.parts.1.now))) c.in_ok-lines.ensures.observed
+    ∙ ap (λ t. observe_all t (filtered levels (rows_of c.args.parts.1.now))) c.in_ok-lines.ensures.written.observed
     ∙ observes_both levels (ahead_of c.args.tracker.now) c.args.scene.now.rows.now c.args.parts.0.now c.args.parts.1.now c.requires.split.whole
 
 pub returns-clause-lines : goal.returns-clause-lines
