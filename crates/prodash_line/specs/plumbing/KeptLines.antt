@@ -1,8 +1,12 @@
 -- Lines of rows that are kept from one frame to the next.
 use Rattle.std.specs.Prelude.{◌≡◌, ℕ, Bool, List, ◌++◌, length, Option, Some, None, IfSome, slice_get}
 use Rattle.std.specs.List.{All}
-use Rattle.prodash_base.specs.Rows.{PathRow, rows_of}
+use Rattle.std.specs.Option.{option_eq, option_map}
+use Rattle.prodash_base.specs.Rows.{PathRow, progress_of, rows_of, same_progress}
+use Rattle.prodash_base.specs.Units.{measure_of, same_measure}
+use Rattle.prodash_base.specs.declared.progress.Value.{Value}
 use Rattle.prodash_base.specs.declared.unit.display.Throughput.{Throughput}
+use Rattle.prodash_base.specs.declared.unit.units.Unit.{Unit as TaskUnit}
 use Rattle.prodash_line.specs.declared.render.line.draw.input.Options.{Options}
 use Rattle.prodash_line.specs.declared.render.line.draw.latest_rows.CopiedLine.{CopiedLine}
 use Rattle.prodash_line.specs.declared.render.line.draw.latest_rows.EarlierLines.{EarlierLines}
@@ -73,6 +77,14 @@ pub record ShowsNone (row : PathRow) (throughput : Option Throughput) : Type 0 w
 abbrev pub AddsLine : PathRow → Option Throughput → RowLine → List RowLine → List RowLine → Type 0
 AddsLine row throughput line old new = (options : Options) (midpoint : ℕ) (rows : List PathRow) (bytes : List ℕ) → AreAmong options midpoint rows bytes old
     → (ShowsNone row throughput → IsAmong options midpoint rows bytes line) → AreAmong options midpoint rows bytes new
+
+-- whether two units are the same, or there is none
+abbrev pub are_same_units : Option TaskUnit → Option TaskUnit → Bool
+are_same_units own other = option_eq same_measure (option_map measure_of own) (option_map measure_of other)
+
+-- whether the progress of rows is the same
+abbrev pub are_same_values : Option Value → Option Value → Bool
+are_same_values own other = option_eq same_progress (option_map progress_of own) (option_map progress_of other)
 
 -- rows whose lines are the same
 pub record AreAlike (row other : PathRow) : Type 0 where

@@ -1,15 +1,15 @@
 //! Rows that are remembered, and the lines that they were drawn in, for the next frame to copy.
 ghost use Rattle.std.specs.Prelude.{◌≡◌, Option, true, None, Some, OnOk};
-ghost use Rattle.prodash_base.specs.Rows.{row_of, rows_of};
+ghost use Rattle.prodash_base.specs.Rows.{phase_of, progress_of, row_of, rows_of, same_phase, same_progress};
 ghost use Rattle.prodash_base.specs.Units.{measure_of};
 ghost use Rattle.prodash_base.specs.declared.unit.display.Throughput.{Throughput};
 ghost use Rattle.prodash_line.specs.Renderer.{latest_rows};
-ghost use Rattle.prodash_line.specs.plumbing.KeptLines.{AddsLine, AreAlike, AreAmong, AreEarlier, DrawAlike, FindsLine, FindsLineIn, ShowsNone};
+ghost use Rattle.prodash_line.specs.plumbing.KeptLines.{AddsLine, AreAlike, AreAmong, AreEarlier, DrawAlike, FindsLine, FindsLineIn, ShowsNone, are_same_units, are_same_values};
 
 use crate::render::line::byte_buffer::ByteBuffer;
 use crate::render::line::draw::input::Options;
 use crate::render::line::draw::line_writer::LineWriter;
-use prodash_base::progress::{Row, Rows};
+use prodash_base::progress::{Row, Rows, State, Value};
 use prodash_base::unit::Unit;
 use prodash_base::unit::display::Throughput;
 use std::alloc::{AllocError, Global};
@@ -240,13 +240,64 @@ impl<'a> EarlierLines<'a> {
 fn are_alike(row: &Row, earlier: &Row) -> bool
     ensures { result ≡ true → AreAlike (row_of row.now) (row_of earlier.now) }
 {
-    if row.progress != earlier.progress {
+    if !is_same_progress(&row.progress, &earlier.progress) {
         return false;
     }
     if row.key.level() != earlier.key.level() {
         return false;
     }
     row.name == earlier.name
+}
+
+/// Returns whether the progress of rows is the same. What most tasks have is compared without a call.
+#[inline(always)]
+fn is_same_progress(own: &Option<Value>, other: &Option<Value>) -> bool
+    ensures { result ≡ are_same_values own.now other.now }
+{
+    match own {
+        None => other.is_none(),
+        Some(own) => match other {
+            None => false,
+            Some(other) => is_same_value(own, other),
+        },
+    }
+}
+
+/// Returns whether two values are the same.
+#[inline(always)]
+fn is_same_value(own: &Value, other: &Value) -> bool
+    ensures { result ≡ same_progress (progress_of own.now) (progress_of other.now) }
+{
+    own.step == other.step
+        && own.done_at == other.done_at
+        && is_same_unit(&own.unit, &other.unit)
+        && is_same_state(&own.state, &other.state)
+}
+
+/// Returns whether two units are the same, or there is none.
+#[tactic(auto, using(prodash_base::proofs::SameKinds::same_as_unit))]
+#[inline(always)]
+fn is_same_unit(own: &Option<Unit>, other: &Option<Unit>) -> bool
+    ensures { result ≡ are_same_units own.now other.now }
+{
+    match own {
+        None => other.is_none(),
+        Some(own) => match other {
+            None => false,
+            Some(other) => *own == *other,
+        },
+    }
+}
+
+/// Returns whether two states are the same.
+#[inline(always)]
+fn is_same_state(own: &State, other: &State) -> bool
+    ensures { result ≡ same_phase (phase_of own.now) (phase_of other.now) }
+{
+    match own {
+        State::Running => matches!(other, State::Running),
+        State::Blocked(..) | State::Halted(..) => *own == *other,
+    }
 }
 
 /// Adds the line of a row to those that the next frame may copy, if it shows no throughput. Fails if
