@@ -1,8 +1,8 @@
 -- Lines of rows that are kept from one frame to the next.
-use Rattle.std.proofs.Common.{◌≡◌, ℕ, zero, suc, ◌+◌, ◌-◌, Bool, true, false, List, [], ◌∷◌, ◌++◌, length, take, drop, get_or, drop-cons, ◌<◌, refl, sym, ap, subst, ◌∙◌, append_assoc, length-append, arith, cond, not, Option, Some, None}
+use Rattle.std.proofs.Common.{◌≡◌, ℕ, zero, suc, ◌+◌, ◌-◌, Bool, true, false, List, [], ◌∷◌, ◌++◌, length, take, drop, get_or, drop-cons, ◌<◌, ◌≤◌, length-drop, refl, sym, ap, subst, ◌∙◌, append_assoc, length-append, arith, cond, not, Option, Some, None}
 use Rattle.std.specs.Prelude.{◌&&◌, ◌||◌, IfSome, slice_get}
 use Rattle.std.specs.Option.{option_map}
-use Rattle.std.proofs.lemmas.List.{map-append, take_at, drop_at}
+use Rattle.std.proofs.lemmas.List.{map-append, take_at, drop_at, drop-append-le, length-take-le}
 use Rattle.std.proofs.lemmas.List.Elements.{All-weaker}
 use Rattle.std.proofs.lemmas.Option.{slice_get-map}
 use Rattle.prodash_base.specs.Rows.{PathRow, RowProgress, row_of, rows_of, same_rows}
@@ -24,7 +24,8 @@ use Rattle.prodash_line.specs.ProgressRows.{DrawnRow, bar, bar_columns, filtered
 use Rattle.prodash_line.specs.Renderer.{Renderer, closes_at, draws_again, idle_action, is_drawn, rows_changed, tick_action, times_go_on}
 use Rattle.prodash_line.specs.Signs.{spelling}
 use Rattle.prodash_line.specs.TextStyles.{name_style, row_style}
-use Rattle.prodash_line.specs.plumbing.KeptLines.{AreAlike, AreAmong, IsAmong, IsAt, IsLineOf, IsSizeOf, ShowsNone, own_bytes, untimed_line}
+use Rattle.prodash_line.specs.plumbing.KeptLines.{AreAlike, AreAmong, IsAmong, IsAt, IsLineOf, IsPlaced, IsSizeOf, IsWritten, ShowsNone, own_bytes, untimed_line}
+use Rattle.prodash_line.specs.plumbing.OverwriteBytes.{row_end}
 use Rattle.prodash_line.specs.plumbing.Writing.{line_bytes}
 
 -- ---- rows that are alike
@@ -150,14 +151,17 @@ own_joined start own end rest before new e =
     ∙ ap (λ (t : List ℕ). before ++ t) (append_assoc (start ++ own) end rest ∙ append_assoc start own (end ++ rest)
     ∙ ap (λ (t : List ℕ). start ++ t) (sym (append_assoc own end rest)))
 
--- the rows that are drawn from one on that is drawn
+-- the rows from one on
+pub dropped_from : (rows : List Row) (i : ℕ) (row : Row) → i < length rows → row ≡ get_or rows i row → drop i rows ≡ row ∷ drop (i + 1) rows
+dropped_from rows i row l e =
+    drop-cons rows i row l ∙ ap (λ (x : Row). x ∷ drop (suc i) rows) (sym e) ∙ ap (λ (k : ℕ). row ∷ drop k rows) (let next : suc i ≡ i + 1 = omega arith in next)
+
+-- those that are drawn, if that is
 pub filtered_from : (levels : Option (ℕ × ℕ)) (rows : List Row) (i : ℕ) (row : Row) → i < length rows → row ≡ get_or rows i row → is_row_drawn levels (row_of row) ≡ true
     → filtered levels (rows_of (drop i rows)) ≡ row_of row ∷ filtered levels (rows_of (drop (i + 1) rows))
 filtered_from levels rows i row l e drawn =
     let rest = filtered levels (rows_of (drop (i + 1) rows)) in
-    let from : drop i rows ≡ row ∷ drop (i + 1) rows =
-    drop-cons rows i row l ∙ ap (λ (x : Row). x ∷ drop (suc i) rows) (sym e) ∙ ap (λ (k : ℕ). row ∷ drop k rows) (let next : suc i ≡ i + 1 = omega arith in next) in
-    ap (λ (rs : List Row). filtered levels (rows_of rs)) from ∙ ap (λ (b : Bool). cond b (row_of row ∷ rest) rest) drawn
+    ap (λ (rs : List Row). filtered levels (rows_of rs)) (dropped_from rows i row l e) ∙ ap (λ (b : Bool). cond b (row_of row ∷ rest) rest) drawn
 
 -- ---- a line that is found
 
@@ -173,21 +177,87 @@ at_place : (start n : ℕ) (part whole : List ℕ) → IsAt start part whole →
 at_place start n part whole a e =
     ap (λ (t : List ℕ). take n (drop start t)) a.joined ∙ ap (take n) (drop_at a.before (part ++ a.after) start a.begins) ∙ take_at part a.after n (sym e)
 
--- the bytes of an earlier line are those of the line of a row that is alike
-pub line_found : (options : Options) (midpoint : ℕ) (rows : List Row) (bytes : List ℕ) (line : RowLine) (row earlier : Row) (copied : CopiedLine)
-    → IsAmong options midpoint (rows_of rows) bytes line → slice_get rows line.row ≡ Some earlier → AreAlike (row_of row) (row_of earlier)
-    → copied.size ≡ line.size → copied.bytes.now ≡ take line.size.length (drop line.start bytes) → IsLineOf options midpoint (row_of row, None) copied
-line_found options midpoint rows bytes line row earlier copied a f alike s b =
+-- an earlier line is that of a row that is alike
+pub placed_also : (options : Options) (midpoint : ℕ) (rows : List Row) (bytes : List ℕ) (line : RowLine) (row earlier : Row) → IsAmong options midpoint (rows_of rows) bytes line
+    → slice_get rows line.row ≡ Some earlier → AreAlike (row_of row) (row_of earlier) → IsPlaced options midpoint (row_of row) bytes line
+placed_also options midpoint rows bytes line row earlier a f alike =
     let same : a.row ≡ row_of earlier = same_some a.row (row_of earlier) (sym a.found ∙ slice_get-map row_of rows line.row ∙ ap (option_map row_of) f) in
     let drawn : untimed_line options midpoint (a.row, None) ≡ untimed_line options midpoint (row_of row, None) =
     ap (λ (r : PathRow). untimed_line options midpoint (r, None)) same ∙ sym (alike_line options midpoint None (row_of row) (row_of earlier) alike) in
     let own : midpoint_of options.defensive (a.row, None) ≡ midpoint_of options.defensive (row_of row, None) =
     ap (λ (r : PathRow). midpoint_of options.defensive (r, None)) same ∙ sym (alike_midpoint options.defensive None (row_of row) (row_of earlier) alike) in
     record {
-      size = subst (IsSizeOf options midpoint (row_of row, None)) (sym s) (same_size options midpoint (a.row, None) (row_of row, None) line.size drawn own a.size);
-      bytes = b ∙ at_place line.start line.size.length (own_bytes options (untimed_line options midpoint (a.row, None))) bytes a.place a.size.bytes
-          ∙ ap (own_bytes options) drawn;
+      size = same_size options midpoint (a.row, None) (row_of row, None) line.size drawn own a.size;
+      place = subst (λ (l : Line). IsAt line.start (own_bytes options l) bytes) drawn a.place;
     }
+
+-- the bytes of a line where it is
+pub line_found : (options : Options) (midpoint : ℕ) (row : PathRow) (bytes : List ℕ) (line : RowLine) (copied : CopiedLine) → IsPlaced options midpoint row bytes line
+    → copied.size ≡ line.size → copied.bytes.now ≡ take line.size.length (drop line.start bytes) → IsLineOf options midpoint (row, None) copied
+line_found options midpoint row bytes line copied p s b = record {
+  size = subst (IsSizeOf options midpoint (row, None)) (sym s) p.size;
+  bytes = b ∙ at_place line.start line.size.length (own_bytes options (untimed_line options midpoint (row, None))) bytes p.place p.size.bytes;
+}
+
+-- ---- lines that stand one behind the other
+
+at_first : (part after : List ℕ) (x : ℕ) → slice_get (part ++ after) (length part) ≡ Some x → after ≡ x ∷ drop 1 after
+at_first [] [] x h = cc
+at_first [] (y ∷ after) x h = cc
+at_first (z ∷ part) after x h = at_first part after x h
+
+-- what is among bytes, with the byte behind it
+with_next : (start end x : ℕ) (part whole : List ℕ) → IsAt start part whole → end ≡ start + length part → slice_get whole end ≡ Some x → IsAt start (part ++ x ∷ []) whole
+with_next start end x part whole a e h =
+    let joined : whole ≡ (a.before ++ part) ++ a.after = a.joined ∙ sym (append_assoc a.before part a.after) in
+    let ends : end ≡ length (a.before ++ part) = e ∙ ap (λ (n : ℕ). n + length part) (sym a.begins) ∙ sym (length-append a.before part) in
+    let next : a.after ≡ x ∷ drop 1 a.after = at_first (a.before ++ part) a.after x
+    (sym (ap (slice_get ((a.before ++ part) ++ a.after)) ends) ∙ sym (ap (λ (t : List ℕ). slice_get t end) joined) ∙ h) in
+    record {
+      before = a.before;
+      after = drop 1 a.after;
+      joined = a.joined ∙ ap (λ (t : List ℕ). a.before ++ (part ++ t)) next ∙ ap (λ (t : List ℕ). a.before ++ t) (sym (append_assoc part (x ∷ []) (drop 1 a.after)));
+      begins = a.begins;
+    }
+
+-- a line at least as wide as the one on screen, and a line feed behind it
+pub written_over : (options : Options) (midpoint : ℕ) (row : PathRow) (old_width : ℕ) (bytes : List ℕ) (line : RowLine) (start end : ℕ) → IsPlaced options midpoint row bytes line
+    → line.start ≡ start → end ≡ start + line.size.length → slice_get bytes end ≡ Some 10 → old_width ≤ line.size.width → IsWritten options midpoint row old_width bytes start line.size
+written_over options midpoint row old_width bytes line start end p s e h w =
+    let drawn = untimed_line options midpoint (row, None) in
+    let nothing : 0 ≡ old_width - columns_of drawn = let width = p.size.width in omega (arith, width) in
+    let own = own_bytes options drawn in
+    let ended : line.size.length + 1 ≡ length (own ++ row_end 0) = ap (λ (n : ℕ). n + 1) p.size.bytes ∙ sym (length-append own (10 ∷ [])) in
+    record {
+      own = p.size;
+      long = subst (λ (n : ℕ). line.size.length + 1 ≡ length (own ++ row_end n)) nothing ended;
+      place = subst (λ (n : ℕ). IsAt start (own_bytes options drawn ++ row_end n) bytes) nothing
+          (with_next start end 10 (own_bytes options drawn) bytes (subst (λ (n : ℕ). IsAt n (own_bytes options drawn) bytes) s p.place) (e ∙ ap (λ (n : ℕ). start + n) p.size.bytes) h);
+    }
+
+-- the bytes from the beginning of a run up to its end
+abbrev pub run_bytes : List ℕ → ℕ → ℕ → List ℕ
+run_bytes bytes start end = take (end - start) (drop start bytes)
+
+-- what stands at its end belongs to a longer run
+pub run_more : (bytes part : List ℕ) (start end next : ℕ) → start ≤ end → IsAt end part bytes → next ≡ end + length part
+    → run_bytes bytes start next ≡ run_bytes bytes start end ++ part
+run_more bytes part start end next l a n =
+    let first = drop start a.before in
+    let begins = a.begins in
+    let long : length first ≡ end - start = length-drop start a.before ∙ ap (λ (k : ℕ). k - start) begins in
+    let dropped : drop start bytes ≡ first ++ (part ++ a.after) = ap (drop start) a.joined ∙ drop-append-le start a.before (part ++ a.after) (let le : start ≤ length a.before = omega arith in le) in
+    let whole : length (first ++ part) ≡ next - start = length-append first part ∙ (let sum : length first + length part ≡ next - start = omega (arith, long, n) in sum) in
+    ap (take (next - start)) (dropped ∙ sym (append_assoc first part a.after)) ∙ take_at (first ++ part) a.after (next - start) whole
+    ∙ sym (ap (λ (t : List ℕ). t ++ part) (ap (take (end - start)) dropped ∙ take_at first (part ++ a.after) (end - start) long))
+
+-- nothing belongs to a run that has just begun
+pub run_nothing : (bytes : List ℕ) (start : ℕ) → run_bytes bytes start start ≡ []
+run_nothing bytes start = ap (λ (n : ℕ). take n (drop start bytes)) (let zero : start - start ≡ 0 = omega arith in zero)
+
+-- how long it is
+pub length-run : (bytes : List ℕ) (start end : ℕ) → start ≤ end → end ≤ length bytes → length (run_bytes bytes start end) ≡ end - start
+length-run bytes start end l e = length-take-le (end - start) (drop start bytes) (let d = length-drop start bytes in let le : end - start ≤ length (drop start bytes) = omega (arith, d) in le)
 
 -- and with a throughput that isn't shown
 line_with : (options : Options) (midpoint : ℕ) (row : PathRow) (throughput : Option Throughput) (line : CopiedLine) → ShowsNone row throughput

@@ -1,5 +1,5 @@
 -- Lines of rows that are kept from one frame to the next.
-use Rattle.std.specs.Prelude.{◌≡◌, ℕ, Bool, List, ◌++◌, length, Option, Some, None, IfSome, slice_get}
+use Rattle.std.specs.Prelude.{◌≡◌, ◌≤◌, ◌+◌, ◌-◌, ℕ, Bool, List, ◌++◌, length, Option, Some, None, IfSome, slice_get}
 use Rattle.std.specs.List.{All}
 use Rattle.std.specs.Option.{option_eq, option_map}
 use Rattle.prodash_base.specs.Rows.{PathRow, progress_of, rows_of, same_progress}
@@ -17,6 +17,7 @@ use Rattle.prodash_line.specs.Frames.{row_start}
 use Rattle.prodash_line.specs.Lines.{Line, columns_of}
 use Rattle.prodash_line.specs.ProgressRows.{DrawnRow, drawn_row_line, midpoint_of, times_at}
 use Rattle.prodash_line.specs.Signs.{spelling}
+use Rattle.prodash_line.specs.plumbing.OverwriteBytes.{row_end}
 use Rattle.prodash_line.specs.plumbing.Writing.{line_bytes}
 
 -- the line of a row that doesn't show its time
@@ -54,6 +55,30 @@ AreAmong options midpoint rows bytes lines = All (IsAmong options midpoint rows 
 -- the lines of an earlier frame are those of its rows
 abbrev pub AreEarlier : Options → ℕ → EarlierLines → Type 0
 AreEarlier options midpoint e = AreAmong options midpoint (rows_of e.rows.now) e.bytes.now e.lines.now
+
+-- it is the line of this row without a throughput, among these bytes
+pub record IsPlaced (options : Options) (aligned : ℕ) (row : PathRow) (bytes : List ℕ) (line : RowLine) : Type 0 where
+  pub size : IsSizeOf options aligned (row, None) line.size
+  pub place : IsAt line.start (own_bytes options (untimed_line options aligned (row, None))) bytes
+
+-- a line of an earlier frame is that of this row too, with whichever options and midpoint it is that of its row
+abbrev pub IsAlso : EarlierLines → RowLine → PathRow → Type 0
+IsAlso e line row = (options : Options) (midpoint : ℕ) → IsAmong options midpoint (rows_of e.rows.now) e.bytes.now line → IsPlaced options midpoint row e.bytes.now line
+
+-- the bytes of a line with what follows it over a line of this width
+abbrev pub bytes_over : Options → ℕ → Line → List ℕ
+bytes_over options width line = own_bytes options line ++ row_end (width - columns_of line)
+
+-- the line of a row over one of this width is among these bytes, from this index on
+pub record IsWritten (options : Options) (aligned : ℕ) (row : PathRow) (old_width : ℕ) (bytes : List ℕ) (start : ℕ) (size : LineSize) : Type 0 where
+  pub own : IsSizeOf options aligned (row, None) size
+  pub long : size.length + 1 ≡ length (bytes_over options old_width (untimed_line options aligned (row, None)))
+  pub place : IsAt start (bytes_over options old_width (untimed_line options aligned (row, None))) bytes
+
+-- it is among those of an earlier frame, with whichever options and midpoint its lines are those of its rows
+pub record IsWrittenIn (e : EarlierLines) (start : ℕ) (row : PathRow) (old_width : ℕ) (size : LineSize) : Type 0 where
+  pub fits : start + size.length + 1 ≤ length e.bytes.now
+  pub written : (options : Options) (midpoint : ℕ) → AreEarlier options midpoint e → IsWritten options midpoint row old_width e.bytes.now start size
 
 -- it is the line of this row
 pub record IsLineOf (options : Options) (midpoint : ℕ) (drawn : DrawnRow) (line : CopiedLine) : Type 0 where

@@ -1,17 +1,22 @@
 -- Rows that are written over the lines on screen, one after another.
-use Rattle.std.specs.Prelude.{◌≡◌, ℕ, List, ◌++◌, Option, max}
+use Rattle.std.specs.Prelude.{◌≡◌, ◌<◌, ℕ, List, ◌++◌, drop, slice_get, Option, None, Some, max}
 use Rattle.prodash_base.specs.FrameTrackers.{FrameTracker}
-use Rattle.prodash_base.specs.Rows.{rows_of}
+use Rattle.prodash_base.specs.Rows.{row_of, rows_of}
 use Rattle.prodash_base.specs.declared.progress.Row.{Row}
 use Rattle.prodash_line.specs.declared.render.line.draw.action.Drawn.{Drawn}
 use Rattle.prodash_line.specs.declared.render.line.draw.frame.Scene.{Scene}
+use Rattle.prodash_line.specs.declared.render.line.draw.latest_rows.LineSize.{LineSize}
+use Rattle.prodash_line.specs.declared.render.line.draw.latest_rows.RowLine.{RowLine}
+use Rattle.prodash_line.specs.declared.render.line.draw.line_copier.LineCopier.{LineCopier}
+use Rattle.prodash_line.specs.declared.render.line.draw.line_copier.NextRow.{NextRow}
 use Rattle.prodash_line.specs.declared.render.line.draw.line_writer.LineWriter.{LineWriter}
 use Rattle.prodash_line.specs.DrawnLines.{layout_of}
-use Rattle.prodash_line.specs.Frames.{widths_of}
+use Rattle.prodash_line.specs.Frames.{first_width, widths_of}
 use Rattle.prodash_line.specs.Lines.{Line}
 use Rattle.prodash_line.specs.ProgressRows.{DrawnRow, filtered, greatest_midpoint}
 use Rattle.prodash_line.specs.Tracking.{kept_of}
 use Rattle.prodash_line.specs.plumbing.FrameWriting.{AppendsOver, DrawsRows, shown_lines, shown_rows, times_in}
+use Rattle.prodash_line.specs.plumbing.KeptLines.{AreAmong, AreEarlier, IsWrittenIn}
 use Rattle.prodash_line.specs.plumbing.Observing.{ObservesDrawn, ahead_of, observe_all}
 use Rattle.prodash_line.specs.plumbing.OverwriteBytes.{lines_bytes}
 
@@ -59,3 +64,31 @@ pub record ComesTo (scene : Scene) (first now : RowsLeft) : Type 0 where
   pub kept : kept_of now.tracker ≡ kept_of first.tracker
   pub rows_erased : now.drawn.rows_erased ≡ first.drawn.rows_erased
   pub action : now.drawn.action ≡ first.drawn.action
+
+-- the rows from an index on are left
+abbrev pub left_at : List Row → Option FrameTracker → ℕ × List ℕ → List ℕ → Drawn → RowsLeft
+left_at rows tracker at bytes drawn = record { rows = drop at.0 rows; widths = at.1; bytes = bytes; tracker = tracker; drawn = drawn }
+
+-- rows of a scene have been written, and the lines that are kept are among the bytes
+pub record KeepsRun (scene : Scene) (rows : List Row) (first now : RowsLeft) (old new : List RowLine) : Type 0 where
+  pub written : ComesTo scene first now
+  pub lines : AreAmong scene.options scene.past.now.midpoint (rows_of rows) first.bytes old → AreAmong scene.options scene.past.now.midpoint (rows_of rows) now.bytes new
+
+-- the same in each scene without times that has these levels and the earlier lines of a copier
+abbrev pub KeepsRunIn : Option FrameTracker → Option (ℕ × ℕ) → List Row → LineCopier → RowsLeft → RowsLeft → List RowLine → Type 0
+KeepsRunIn tracker levels rows copier first now lines =
+    (scene : Scene) → scene.timer.now ≡ None → scene.options.level_filter ≡ levels → AreEarlier scene.options scene.past.now.midpoint copier.earlier
+    → KeepsRun scene rows first now copier.lines.items lines
+
+-- the rows from one index up to another have been copied
+abbrev pub CopiesRun : Option FrameTracker → Option (ℕ × ℕ) → List Row → NextRow → LineCopier → LineWriter → Drawn → LineCopier → LineWriter → Drawn → NextRow → Type 0
+CopiesRun tracker levels rows at copier old old_drawn new_copier new new_drawn next =
+    KeepsRunIn tracker levels rows copier (left_at rows tracker (at.index, at.widths.now) old.bytes old_drawn) (left_at rows tracker (next.index, next.widths.now) new.bytes new_drawn) new_copier.lines.items
+
+-- the line of this row follows those that are copied
+pub record FollowsRun (copier : LineCopier) (rows : List Row) (n : ℕ) (widths : List ℕ) (start : ℕ) (size : LineSize) : Type 0 where
+  pub row : Row
+  pub found : slice_get rows n ≡ Some row
+  pub line : IsWrittenIn copier.earlier start (row_of row) (first_width widths) size
+  pub next : copier.next < 18446744073709551615
+  pub index : n < 18446744073709551615

@@ -15,6 +15,7 @@ mod frame;
 mod input;
 mod latest_rows;
 mod layout;
+mod line_copier;
 mod line_writer;
 mod measured_names;
 mod memory_screen;

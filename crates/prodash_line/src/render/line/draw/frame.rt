@@ -19,6 +19,7 @@ use crate::render::line::draw::erasing::{
 use crate::render::line::draw::input::Options;
 use crate::render::line::draw::latest_rows::{CopiedLine, LineSize, RowLine, keep_line};
 use crate::render::line::draw::layout::Layout;
+use crate::render::line::draw::line_copier::{LineCopier, NextRow};
 use crate::render::line::draw::line_writer::LineWriter;
 use crate::render::line::draw::message::{greatest_width, push_message};
 use crate::render::line::draw::more::{count_drawn, split_fitting, write_hidden, write_more};
@@ -560,7 +561,8 @@ fn write_shown(
 }
 
 /// Does what `write_rows` does where no times are shown, and returns the lines that the next frame
-/// may copy. The line of a row that was drawn alike is copied.
+/// may copy. The line of a row that was drawn alike is copied, and those of rows that follow one
+/// another are copied at once.
 #[inline(never)]
 fn write_again(
     alloc: Global,
@@ -580,19 +582,30 @@ fn write_again(
 {
     let options = &scene.options;
     let earlier = scene.past.earlier_lines(options);
-    let mut next = 0;
-    let mut lines = Vec::with_capacity(alloc, rows.len())?;
+    let mut copier = LineCopier {
+        earlier,
+        next: 0,
+        lines: Vec::with_capacity(alloc, rows.len())?,
+    };
     let mut texts = RowTexts::new(alloc);
-    let mut left = widths;
-    for (n, row) in rows.iter().enumerate() {
+    let mut at = NextRow { index: 0, widths };
+    'rows: loop {
+        let next = copier.copy_run(out, tracker, drawn, options.level_filter, rows, at)?;
+        let n = next.index;
+        let Some(row) = rows.get(n) else {
+            return Ok(copier.lines);
+        };
+        at = next;
+        at.index += 1;
         if !is_row_drawn(options.level_filter, row) {
             continue;
         }
-        let (old_width, others) = split_first_width(left);
+        let (old_width, others) = split_first_width(at.widths);
+        at.widths = others;
         let throughput = observe_row(alloc, tracker, row)?;
         let source = LineSource {
             throughput,
-            earlier: earlier.find(&mut next, row, &throughput),
+            earlier: earlier.find(&mut copier.next, row, &throughput),
             old_width,
         };
         let start = out.len();
@@ -604,10 +617,8 @@ fn write_again(
             start,
             size,
         };
-        keep_line(&mut lines, row, &throughput, line)?;
-        left = others;
+        keep_line(&mut copier.lines, row, &throughput, line)?;
     }
-    Ok(lines)
 }
 
 /// Writes the line of a row where no times are shown. Returns how large it is.
@@ -721,7 +732,7 @@ pub(super) fn push_up(out: &mut LineWriter, rows: usize) -> Result<(), AllocErro
 }
 
 /// Returns the width of the first line on screen, 0 if there is none, and those of the others.
-fn split_first_width(widths: &[u16]) -> (u16, &[u16])
+pub(super) fn split_first_width(widths: &[u16]) -> (u16, &[u16])
     ensures first { result.0 ≡ first_width widths.now }
     ensures others { result.1.now ≡ drop 1 widths.now }
 {

@@ -1,10 +1,10 @@
 //! Rows that are remembered, and the lines that they were drawn in, for the next frame to copy.
-ghost use Rattle.std.specs.Prelude.{◌≡◌, Option, true, None, Some, OnOk};
+ghost use Rattle.std.specs.Prelude.{◌≡◌, ◌≤◌, ◌<◌, length, Option, true, None, Some, IfSome, OnOk};
 ghost use Rattle.prodash_base.specs.Rows.{phase_of, progress_of, row_of, rows_of, same_phase, same_progress};
 ghost use Rattle.prodash_base.specs.Units.{measure_of};
 ghost use Rattle.prodash_base.specs.declared.unit.display.Throughput.{Throughput};
 ghost use Rattle.prodash_line.specs.Renderer.{latest_rows};
-ghost use Rattle.prodash_line.specs.plumbing.KeptLines.{AddsLine, AreAlike, AreAmong, AreEarlier, DrawAlike, FindsLine, FindsLineIn, ShowsNone, are_same_units, are_same_values};
+ghost use Rattle.prodash_line.specs.plumbing.KeptLines.{AddsLine, AreAlike, AreAmong, AreEarlier, DrawAlike, FindsLine, FindsLineIn, IsAlso, IsWrittenIn, ShowsNone, are_same_units, are_same_values};
 
 use crate::render::line::byte_buffer::ByteBuffer;
 use crate::render::line::draw::input::Options;
@@ -216,14 +216,69 @@ impl<'a> EarlierLines<'a> {
     fn line_of(&self, row: &Row, line: &RowLine) -> Option<CopiedLine<'a>>
         ensures { FindsLineIn self.now line.now (row_of row.now, None) result }
     {
-        let earlier = self.rows.get(line.row)?;
-        if !are_alike(row, earlier) {
+        if !self.is_line_of(line, row) {
             return None;
         }
         let (start, size) = (line.start, line.size);
         let end = start.checked_add(size.length)?;
         let bytes = self.bytes.get(start..end)?;
         Some(CopiedLine { bytes, size })
+    }
+
+    /// Returns whether a line is that of this row too.
+    #[inline(always)]
+    fn is_line_of(&self, line: &RowLine, row: &Row) -> bool
+        ensures { result ≡ true → IsAlso self.now line.now (row_of row.now) }
+    {
+        match self.rows.get(line.row) {
+            Some(earlier) => are_alike(row, earlier),
+            None => false,
+        }
+    }
+
+    /// Returns the bytes of the frame.
+    pub(crate) fn bytes(&self) -> &'a [u8]
+        ensures { result.now ≡ self.now.bytes.now }
+    {
+        self.bytes
+    }
+
+    /// Returns where the line at an index begins, 0 if there is none.
+    pub(crate) fn start_of(&self, index: usize) -> usize
+        ensures { result ≤ length self.now.bytes.now }
+    {
+        match self.lines.get(index) {
+            Some(line) => line.start.min(self.bytes.len()),
+            None => 0,
+        }
+    }
+
+    /// Returns the size of the line at an index, if it begins at this byte, is that of this row
+    /// too, and nothing but a line feed follows it, also over a line of this width.
+    #[inline(always)]
+    pub(crate) fn size_at(
+        &self,
+        index: usize,
+        start: usize,
+        row: &Row,
+        old_width: u16,
+    ) -> Option<LineSize>
+        ensures line { IfSome result (IsWrittenIn self.now start (row_of row.now) old_width) }
+        ensures index { IfSome result (λ size. index < 18446744073709551615) }
+    {
+        let line = self.lines.get(index)?;
+        if line.start != start || line.size.width < old_width {
+            return None;
+        }
+        if !self.is_line_of(line, row) {
+            return None;
+        }
+        let end = start.checked_add(line.size.length)?;
+        let after = self.bytes.get(end)?;
+        if *after != b'\n' {
+            return None;
+        }
+        Some(line.size)
     }
 
     /// Returns whether the row of a line is above this one in the tree's order.
@@ -249,7 +304,8 @@ fn are_alike(row: &Row, earlier: &Row) -> bool
     row.name == earlier.name
 }
 
-/// Returns whether the progress of rows is the same. What most tasks have is compared without a call.
+/// Returns whether the progress of rows is the same. What most tasks have is compared without a
+/// call.
 #[inline(always)]
 fn is_same_progress(own: &Option<Value>, other: &Option<Value>) -> bool
     ensures { result ≡ are_same_values own.now other.now }

@@ -23,6 +23,10 @@ use prodash_base::progress::Level;
 use std::alloc::{AllocError, Global};
 use std::mem;
 
+/// How many bytes of lines are copied at once. For more, the C library takes an instruction that is
+/// slow to begin, and that is counted once for each byte.
+const PART: usize = 1024;
+
 /// Writes lines into one buffer, one after another, and measures the current line.
 #[derive(Drop)]
 pub(crate) struct LineWriter {
@@ -485,6 +489,19 @@ impl LineWriter {
         self.bytes.push_copies(b' ', spaces)?;
         self.bytes.push(b'\n')?;
         Ok(())
+    }
+
+    /// Appends the bytes of whole lines, with what follows each. Fails if out of memory.
+    pub(crate) fn push_lines(&mut self, lines: &[u8]) -> Result<(), AllocError>
+        ensures { OnOk result (self.new.bytes ≡ self.old.bytes ++ lines.now) }
+    {
+        let mut left = lines;
+        'parts: while PART < left.len() {
+            let (part, others) = left.split_at(PART);
+            self.bytes.extend_from_slice(part)?;
+            left = others;
+        }
+        self.bytes.extend_from_slice(left)
     }
 
     /// Swaps the bytes written since the buffer was last cleared with others.

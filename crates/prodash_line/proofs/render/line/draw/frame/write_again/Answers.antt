@@ -6,54 +6,75 @@ use Rattle.prodash_base.specs.Rows.{row_of, rows_of}
 use Rattle.prodash_line.specs.Frames.{first_width}
 use Rattle.prodash_line.specs.Lines.{Line, columns_of}
 use Rattle.prodash_line.specs.ProgressRows.{DrawnRow, drawn_row_line, filtered, times_at}
-use Rattle.prodash_line.specs.plumbing.KeptLines.{IsAmong, own_bytes, untimed_line}
+use Rattle.prodash_line.specs.declared.render.line.draw.latest_rows.EarlierLines.{EarlierLines}
+use Rattle.prodash_line.specs.plumbing.KeptLines.{AreEarlier, IsAmong, own_bytes, untimed_line}
 use Rattle.prodash_line.specs.plumbing.OverwriteBytes.{row_end}
-use Rattle.prodash_line.specs.plumbing.WrittenRows.{RowsLeft}
+use Rattle.prodash_line.specs.plumbing.WrittenRows.{RowsLeft, left_at}
 use Rattle.prodash_line.proofs.KeptLines.{among_last, among_more, filtered_from, same_size}
-use Rattle.prodash_line.proofs.WrittenRows.{comes_on, line_in, row_written}
+use Rattle.prodash_line.proofs.WrittenRows.{comes_on, line_in, row_left_out, row_written}
 use Rattle.prodash_line.proofs.render.line.draw.frame.write_again.Goals as goal
 
-pub loop-n-preserved : goal.loop-n-preserved
-loop-n-preserved c =
+pub rows-preserved : goal.rows-preserved
+rows-preserved c =
     let scene = c.args.scene.now in
     let o = scene.options in
     let aligned = scene.past.now.midpoint in
     let rows = c.args.rows.now in
-    let out = c.loop-n.out.bytes in
+    let n = c.in_ok-next.next.index in
+    let left = c.in_ok-next.next.widths.now in
+    let out = c.copy_run.new.out.bytes in
     let new = c.write_line.new.out.bytes in
-    let row = c.index-rows-n.result in
+    let row = c.in-Some.row.now in
+    let known = c.in-Some.ensures.lookup in
     let drawn : DrawnRow = (row_of row, c.in_ok-throughput.throughput) in
     let line = line_in scene drawn in
     let same : untimed_line o aligned drawn ≡ line = ap (λ timer. drawn_row_line o aligned (times_at timer scene.at) drawn) (sym c.requires) in
     let size = c.in_ok-size.ensures.size in
     let bytes = c.in_ok-size.ensures.bytes in
     let width = c.split_first_width-old_width.result.0 in
-    let written : new ≡ out ++ (own_bytes o line ++ row_end (first_width c.loop-n.left.now - columns_of line)) =
+    let written : new ≡ out ++ (own_bytes o line ++ row_end (first_width left - columns_of line)) =
     bytes ∙ ap (λ (l : Line). out ++ (own_bytes o l ++ row_end (width - columns_of l))) same
-    ∙ ap (λ (n : ℕ). out ++ (own_bytes o line ++ row_end (n - columns_of line))) c.split_first_width-old_width.ensures.first in
-    let first : filtered o.level_filter (rows_of (drop c.loop-n.n rows)) ≡ row_of row ∷ filtered o.level_filter (rows_of (drop (c.loop-n.n + 1) rows)) =
-    filtered_from o.level_filter rows c.loop-n.n row c.loop-n-test.true c.index-rows-n.is (sym c.is_row_drawn.ensures ∙ c.if-not-is_row_drawn.false) in
-    let found : slice_get rows c.loop-n.n ≡ Some row = slice_get_read rows _ c.loop-n.n row refl c.loop-n-test.true c.index-rows-n.is in
-    let now : RowsLeft = record { rows = drop c.loop-n.n rows; widths = c.loop-n.left.now; bytes = out; tracker = c.loop-n.tracker; drawn = c.loop-n.drawn } in
-    let next : RowsLeft = record {
-      rows = drop (c.loop-n.n + 1) rows;
-      widths = c.split_first_width-old_width.result.1.now;
-      bytes = new;
-      tracker = c.observe_row.new.tracker;
-      drawn = record c.loop-n.drawn { widths = c.push.new.self; midpoint = c.max-drawn.result };
-    } in
+    ∙ ap (λ (k : ℕ). out ++ (own_bytes o line ++ row_end (k - columns_of line))) c.split_first_width-old_width.ensures.first in
+    let first : filtered o.level_filter (rows_of (drop n rows)) ≡ row_of row ∷ filtered o.level_filter (rows_of (drop (n + 1) rows)) =
+    filtered_from o.level_filter rows n row known.3.0 known.1 (sym c.is_row_drawn.ensures ∙ c.if-not-is_row_drawn.false) in
+    let found : slice_get rows n ≡ Some row = slice_get_read rows _ n row refl known.3.0 known.1 in
+    let run = c.in_ok-next.ensures.run scene c.requires refl c.rows.invariant.earlier in
+    let begun : RowsLeft = left_at rows c.rows.tracker (c.rows.at.index, c.rows.at.widths.now) c.rows.out.bytes c.rows.drawn in
+    let now : RowsLeft = left_at rows c.rows.tracker (n, left) out c.copy_run.new.drawn in
+    let next : RowsLeft = left_at rows c.observe_row.new.tracker (n + 1, c.split_first_width-old_width.result.1.now) new
+    (record c.copy_run.new.drawn { widths = c.push.new.self; midpoint = c.max-drawn.result }) in
     record {
-      written = comes_on scene _ now next c.loop-n.invariant.written
+      written = comes_on scene _ now next (comes_on scene _ begun now c.rows.invariant.written run.written)
           (row_written scene now next row c.in_ok-throughput.throughput first c.in_ok-throughput.ensures.value c.in_ok-throughput.ensures.observed c.observe_row.ensures.kept
           c.split_first_width-old_width.ensures.others written
-          (c.in_ok-push.ensures.items ∙ ap (λ (n : ℕ). c.loop-n.drawn.widths.items ++ n ∷ []) (size.width ∙ ap columns_of same))
+          (c.in_ok-push.ensures.items ∙ ap (λ (k : ℕ). c.copy_run.new.drawn.widths.items ++ k ∷ []) (size.width ∙ ap columns_of same))
           (let own = size.midpoint in search (rules, own)) (search rules) (search rules));
       lines = c.in_ok-keep_line.ensures o aligned (rows_of rows) new
-          (among_more o aligned (rows_of rows) out _ new c.loop-n.lines.items bytes c.loop-n.invariant.lines)
-          (λ shows. subst (λ (start : ℕ). IsAmong o aligned (rows_of rows) new (record { row = c.loop-n.n; start = start; size = c.in_ok-size.size })) (sym c.len-start.ensures)
-          (among_last o aligned rows out new (row_end (width - columns_of (untimed_line o aligned drawn))) row c.loop-n.n c.in_ok-size.size found
+          (among_more o aligned (rows_of rows) out _ new c.copy_run.new.self.lines.items bytes (run.lines c.rows.invariant.lines))
+          (λ shows. subst (λ (start : ℕ). IsAmong o aligned (rows_of rows) new (record { row = n; start = start; size = c.in_ok-size.size })) (sym c.len-start.ensures)
+          (among_last o aligned rows out new (row_end (width - columns_of (untimed_line o aligned drawn))) row n c.in_ok-size.size found
           (same_size o aligned drawn (row_of row, None) c.in_ok-size.size (shows.line o aligned) (shows.midpoint o.defensive) size)
           (bytes ∙ ap (λ (l : Line). out ++ (own_bytes o l ++ row_end (width - columns_of (untimed_line o aligned drawn)))) (shows.line o aligned))));
+      earlier = subst (λ (e : EarlierLines). AreEarlier o aligned e) (sym c.in_ok-next.ensures.earlier) c.rows.invariant.earlier;
+    }
+
+pub rows-preserved-then-not-is_row_drawn : goal.rows-preserved-then-not-is_row_drawn
+rows-preserved-then-not-is_row_drawn c =
+    let scene = c.args.scene.now in
+    let rows = c.args.rows.now in
+    let n = c.in_ok-next.next.index in
+    let left = c.in_ok-next.next.widths.now in
+    let row = c.in-Some.row.now in
+    let known = c.in-Some.ensures.lookup in
+    let found : slice_get rows n ≡ Some row = slice_get_read rows _ n row refl known.3.0 known.1 in
+    let run = c.in_ok-next.ensures.run scene c.requires refl c.rows.invariant.earlier in
+    let begun : RowsLeft = left_at rows c.rows.tracker (c.rows.at.index, c.rows.at.widths.now) c.rows.out.bytes c.rows.drawn in
+    let now : RowsLeft = left_at rows c.rows.tracker (n, left) c.copy_run.new.out.bytes c.copy_run.new.drawn in
+    record {
+      written = row_left_out scene rows _ n left c.copy_run.new.out.bytes c.rows.tracker c.copy_run.new.drawn row found
+          (sym c.is_row_drawn.ensures ∙ c.if-not-is_row_drawn.true) (comes_on scene _ begun now c.rows.invariant.written run.written);
+      lines = run.lines c.rows.invariant.lines;
+      earlier = subst (λ (e : EarlierLines). AreEarlier scene.options scene.past.now.midpoint e) (sym c.in_ok-next.ensures.earlier) c.rows.invariant.earlier;
     }
 
 pub write_line-requires : goal.write_line-requires

@@ -1,0 +1,27 @@
+-- proofs/render/line/draw/latest_rows/EarlierLines/size_at/Answers.antt
+use Rattle.std.proofs.Common.{◌≡◌, arith, refl, ap, subst, sym, ◌∙◌}
+use Rattle.std.specs.Prelude.{Some, slice_get}
+use Rattle.std.proofs.lemmas.List.Elements.{All-get_or}
+use Rattle.std.proofs.lemmas.Option.{slice_get_read}
+use Rattle.prodash_base.specs.Rows.{row_of, rows_of}
+use Rattle.prodash_line.specs.plumbing.KeptLines.{IsAmong}
+use Rattle.prodash_line.proofs.KeptLines.{written_over}
+use Rattle.prodash_line.proofs.render.line.draw.latest_rows.EarlierLines.size_at.Goals as goal
+
+pub returns-clause-line : goal.returns-clause-line
+returns-clause-line c =
+    let e = c.args.self.now in
+    let line = c.in_ok-line.line.now in
+    let found = c.in_ok-line.ensures.lookup in
+    let after = c.in_ok-after.ensures.lookup in
+    let ends = c.in_ok-end.ensures.1 in
+    let within = after.3.0 in
+    let feed : slice_get e.bytes.now c.in_ok-end.end ≡ Some 10 =
+    slice_get_read e.bytes.now _ c.in_ok-end.end c.in_ok-after.after.now refl after.3.0 after.1 ∙ ap Some c.if-after-ne10.false in
+    record {
+      fits = omega (arith, ends, within);
+      written = λ options midpoint earlier.
+          let among = subst (IsAmong options midpoint (rows_of e.rows.now) e.bytes.now) (sym found.1) (All-get_or (IsAmong options midpoint (rows_of e.rows.now) e.bytes.now) e.lines.now c.args.index line found.3.0 earlier) in
+          written_over options midpoint (row_of c.args.row.now) c.args.old_width e.bytes.now line c.args.start c.in_ok-end.end
+          (c.is_line_of.ensures c.if-not-is_line_of.false options midpoint among) c.if-line-start.false ends feed c.if-line-old_width.false;
+    }
