@@ -23,6 +23,7 @@ pub mod PackedCells
 pub mod PrintableChars
 pub mod CertainChars
 pub mod BlankParts
+pub mod DrawnRows
 pub mod MeasuredTexts
 pub mod PrintableTexts
 pub mod FittingTexts

@@ -8,3 +8,5 @@ pub mod PaneParts
 pub mod Spinners
 pub mod Observed
 pub mod BlankParts
+pub mod Calls
+pub mod DrawnRows

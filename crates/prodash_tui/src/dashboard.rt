@@ -312,8 +312,7 @@ impl Dashboard {
     }
 
     /// Draws the next frame on a grid of its own, so that a refused one leaves the screen as it
-    /// was. Returns how many columns the tree has in it. After the first frame the grid takes no
-    /// memory.
+    /// was. Returns how many columns the tree has in it. After the first frame no grid is made.
     ///
     /// `Memory`: out of memory. The buffer is then as it was, and so is the dashboard but for its
     /// offsets.

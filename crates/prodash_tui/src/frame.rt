@@ -12,6 +12,7 @@ ghost use Rattle.prodash_tui.specs.plumbing.Appended.{AreCounted, Spells, all_ov
 
 use crate::cell::Cell;
 use crate::cursor::Cursor;
+use crate::drawn_row::DrawnRow;
 use crate::grid::Grid;
 use crate::grid_row::{GridRow, Span};
 use crate::packed::{PackedCell, blank_cell, is_half};
@@ -282,19 +283,26 @@ fn push_row(
 }
 
 /// Appends the characters of rows that aren't those of the rows before.
-fn push_rows(out: &mut Vec<u8>, old: &[GridRow], new: &[GridRow]) -> Result<(), AllocError>
-    requires { AreCounted new.now }
-    ensures ok { Spells result out.old.items (rows_signs 0 old.now new.now None) out.new.items }
+fn push_rows(
+    out: &mut Vec<u8>,
+    old: &mut [DrawnRow],
+    new: &mut [DrawnRow],
+) -> Result<(), AllocError>
+    requires { AreCounted new.old }
+    ensures ok { Spells result out.old.items (rows_signs 0 old.old new.old None) out.new.items }
+    ensures before { old.new ≡ old.old }
+    ensures after { new.new ≡ new.old }
     ensures kept { IsPrefix out.old.items out.new.items }
 {
     let mut cursor = None;
     for y in 0..old.len().min(new.len()) {
-        let same = shared_blank(&old[y], &new[y]);
+        let (before, after) = (old[y].cells(), new[y].cells());
+        let same = shared_blank(before, after);
         push_row(
             out,
             y as u16,
-            old[y].as_slice(),
-            new[y].as_slice(),
+            before.as_slice(),
+            after.as_slice(),
             same,
             &mut cursor,
         )?;
@@ -323,22 +331,25 @@ fn push_row_over_blank(
 }
 
 /// Appends the characters of rows that aren't blank cells.
-fn push_rows_over_blank(out: &mut Vec<u8>, new: &[GridRow]) -> Result<(), AllocError>
-    requires { AreCounted new.now }
-    ensures ok { Spells result out.old.items (all_over_blank new.now) out.new.items }
+fn push_rows_over_blank(out: &mut Vec<u8>, new: &mut [DrawnRow]) -> Result<(), AllocError>
+    requires { AreCounted new.old }
+    ensures ok { Spells result out.old.items (all_over_blank new.old) out.new.items }
+    ensures after { new.new ≡ new.old }
     ensures kept { IsPrefix out.old.items out.new.items }
 {
     let mut cursor = None;
     for y in 0..new.len() {
-        push_row_over_blank(out, y as u16, new[y].as_slice(), &mut cursor)?;
+        let row = new[y].cells();
+        push_row_over_blank(out, y as u16, row.as_slice(), &mut cursor)?;
     }
     Ok(())
 }
 
 /// Appends what erases a display, and then the characters of rows that aren't blank cells.
-fn push_first_rows(out: &mut Vec<u8>, new: &[GridRow]) -> Result<(), AllocError>
-    requires { AreCounted new.now }
-    ensures ok { Spells result out.old.items (first_signs new.now) out.new.items }
+fn push_first_rows(out: &mut Vec<u8>, new: &mut [DrawnRow]) -> Result<(), AllocError>
+    requires { AreCounted new.old }
+    ensures ok { Spells result out.old.items (first_signs new.old) out.new.items }
+    ensures after { new.new ≡ new.old }
     ensures kept { IsPrefix out.old.items out.new.items }
 {
     push_sign(out, Sign::SetStyle(Style::new()))?;
@@ -364,30 +375,39 @@ pub(crate) fn undo_if_refused(
 }
 
 /// Appends the bytes that turn a display that shows the grid `before` into one that shows `after`,
-/// wherever its cursor is. Only characters that differ are written. Both grids have one size.
+/// wherever its cursor is. Only characters that differ are written. Both grids have one size, and
+/// stay as they are.
 ///
 /// `Memory`: out of memory. The buffer is then as it was.
-pub fn push_difference(before: &Grid, after: &Grid, out: &mut Vec<u8>) -> Result<(), Refusal>
-    ensures ok { Spells result out.old.items (difference before.now after.now) out.new.items }
+pub fn push_difference(
+    before: &mut Grid,
+    after: &mut Grid,
+    out: &mut Vec<u8>,
+) -> Result<(), Refusal>
+    ensures ok { Spells result out.old.items (difference before.old after.old) out.new.items }
+    ensures before { before.new ≡ before.old }
+    ensures after { after.new ≡ after.old }
     ensures err { OnErr result (out.new.items ≡ out.old.items) }
     ensures reason { IsOkUnless result Refusal.Memory }
 {
     let length = out.len();
-    let appended = push_rows(out, before.rows(), after.rows());
+    let appended = push_rows(out, &mut before.rows, &mut after.rows);
     undo_if_refused(out, length, appended)?;
     Ok(())
 }
 
-/// Appends the bytes that erase a display of the grid's size, whatever it shows, and draw the grid.
+/// Appends the bytes that erase a display of the grid's size, whatever it shows, and draw the grid,
+/// which stays as it is.
 ///
 /// `Memory`: out of memory. The buffer is then as it was.
-pub fn push_first(after: &Grid, out: &mut Vec<u8>) -> Result<(), Refusal>
-    ensures ok { Spells result out.old.items (first_frame after.now) out.new.items }
+pub fn push_first(after: &mut Grid, out: &mut Vec<u8>) -> Result<(), Refusal>
+    ensures ok { Spells result out.old.items (first_frame after.old) out.new.items }
+    ensures after { after.new ≡ after.old }
     ensures err { OnErr result (out.new.items ≡ out.old.items) }
     ensures reason { IsOkUnless result Refusal.Memory }
 {
     let length = out.len();
-    let appended = push_first_rows(out, after.rows());
+    let appended = push_first_rows(out, &mut after.rows);
     undo_if_refused(out, length, appended)?;
     Ok(())
 }

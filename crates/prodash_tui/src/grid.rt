@@ -1,12 +1,13 @@
 //! A grid of cells, and the words that draw on it.
 ghost use Rattle.std.specs.Prelude.{◌≡◌, ◌+◌, ◌-◌, ◌<◌, ◌≤◌, ◌^◌, length, replicate, IfOk, IsOkUnless, MatchOption};
+ghost use Rattle.std.specs.Borrow.{sem};
 ghost use Rattle.std.specs.List.{All};
 ghost use Rattle.prodash_tui.specs.Cells.{blank_cells};
 ghost use Rattle.prodash_tui.specs.Grids.{IsRow, IsSheet, blank_sheet, left_of, room_of, with_background, with_border, with_filling, with_shortened, with_text};
-ghost use Rattle.prodash_tui.specs.plumbing.Appended.{AreCounted};
+ghost use Rattle.prodash_tui.specs.Lends.{KeepsGrid};
 ghost use Rattle.prodash_tui.specs.plumbing.GridInside.{colored_rows, filled_rows};
 
-use crate::grid_row::GridRow;
+use crate::drawn_row::DrawnRow;
 use crate::packed::PackedCell;
 use crate::rect::{bottom_of, left_side_of, right_side_of, top_of};
 use crate::style::{Color, Style};
@@ -21,6 +22,9 @@ use std::marker::Model;
 /// A character of two columns has two cells. If one of them is drawn over, what is left of the
 /// character is blank.
 ///
+/// Its rows remember the calls that drew them. After `clear` nothing is drawn on a row while the
+/// calls are the same, so a grid that is drawn much as before costs little.
+///
 /// ```rust
 /// // 40 columns and 4 rows, with a title in the border.
 /// let mut grid = Grid::new(alloc, 40, 4)?;
@@ -32,9 +36,7 @@ use std::marker::Model;
 pub struct Grid {
     width: u16,
     height: u16,
-    rows: Vec<GridRow>,
-    /// Whether nothing was drawn on it since it was blank.
-    is_blank: bool,
+    pub(crate) rows: Vec<DrawnRow>,
 }
 
 impl Model for Grid {
@@ -50,7 +52,7 @@ impl Model for Grid {
 }
 
 /// Blanks all cells of the rows.
-fn clear_rows(rows: &mut Vec<GridRow>, width: u16)
+fn clear_rows(rows: &mut Vec<DrawnRow>, width: u16)
     requires { All (λ row. length row ≡ width) rows.old.items }
     ensures { rows.new.items ≡ replicate (length rows.old.items) (blank_cells width) }
 {
@@ -61,7 +63,7 @@ fn clear_rows(rows: &mut Vec<GridRow>, width: u16)
 
 /// Fills the columns from `x` up to `end` with a character, in rows `first` up to `last`.
 fn fill_rows(
-    rows: &mut Vec<GridRow>,
+    rows: &mut Vec<DrawnRow>,
     first: usize,
     last: usize,
     x: usize,
@@ -82,7 +84,7 @@ fn fill_rows(
 
 /// Changes the background of the columns from `x` up to `end`, in rows `first` up to `last`.
 fn color_rows(
-    rows: &mut Vec<GridRow>,
+    rows: &mut Vec<DrawnRow>,
     first: usize,
     last: usize,
     x: usize,
@@ -110,14 +112,13 @@ impl Grid {
     {
         let mut rows = Vec::new(alloc);
         for _ in 0..height {
-            let row = GridRow::blank(alloc, width)?;
+            let row = DrawnRow::blank(alloc, width)?;
             rows.push(row)?;
         }
         Ok(Grid {
             width,
             height,
             rows,
-            is_blank: true,
         })
     }
 
@@ -137,30 +138,18 @@ impl Grid {
     }
 
     /// Returns the cells of row `y`, or `None` if there are fewer rows.
-    pub fn row(&self, y: u16) -> Option<&[PackedCell]>
-        ensures { MatchOption result (self.now.height ≤ y) (λ row. IsRow self.now y row.now) }
+    pub fn row(&mut self, y: u16) -> Option<&[PackedCell]>
+        ensures* stays { sem 𝓛 (KeepsGrid self.entry) }
+        ensures cells { MatchOption result (self.old.height ≤ y) (λ row. IsRow self.old y row.now) }
     {
-        let row = self.rows.get(usize::from(y))?;
-        Some(row.as_slice())
+        let row = self.rows.get_mut(usize::from(y))?;
+        Some(row.cells().as_slice())
     }
 
-    /// Returns the rows.
-    pub(crate) fn rows(&self) -> &[GridRow]
-        ensures rows { result.now ≡ self.now.rows }
-        ensures counted { AreCounted result.now }
-        ensures sheet { IsSheet self.now }
-    {
-        self.rows.as_slice()
-    }
-
-    /// Blanks all cells. It does nothing if nothing was drawn since they were blank.
+    /// Blanks all cells.
     pub fn clear(&mut self)
         ensures { self.new ≡ blank_sheet self.old.width self.old.height }
     {
-        if self.is_blank {
-            return;
-        }
-        self.is_blank = true;
         clear_rows(&mut self.rows, self.width);
     }
 
@@ -175,7 +164,6 @@ impl Grid {
         }
         let x = area.x.min(self.width);
         let end = x + area.width.min(self.width - x);
-        self.is_blank = false;
         let row = &mut self.rows[usize::from(area.y)];
         row.draw_text(usize::from(x), usize::from(end), text, style);
     }
@@ -190,7 +178,6 @@ impl Grid {
         }
         let x = area.x.min(self.width);
         let end = x + area.width.min(self.width - x);
-        self.is_blank = false;
         let row = &mut self.rows[usize::from(area.y)];
         row.draw_shortened(usize::from(x), usize::from(end), text, style);
     }
@@ -203,7 +190,6 @@ impl Grid {
         let end = x + area.width.min(self.width - x);
         let y = area.y.min(self.height);
         let last = y + area.height.min(self.height - y);
-        self.is_blank = false;
         fill_rows(
             &mut self.rows,
             usize::from(y),
@@ -223,7 +209,6 @@ impl Grid {
         let end = x + area.width.min(self.width - x);
         let y = area.y.min(self.height);
         let last = y + area.height.min(self.height - y);
-        self.is_blank = false;
         color_rows(
             &mut self.rows,
             usize::from(y),

@@ -4,10 +4,12 @@ ghost use Rattle.prodash_tui.specs.Cells.{blank_cells, on_background};
 ghost use Rattle.prodash_tui.specs.Rows.{in_part, splice};
 ghost use Rattle.prodash_tui.specs.Texts.{filling, text_cut, text_shortened};
 ghost use Rattle.prodash_tui.specs.plumbing.BlankParts.{IsBlankPart, IsApart};
+ghost use Rattle.prodash_tui.specs.plumbing.Calls.{with_word};
 
 use crate::packed::PackedCell;
 use crate::row::Row;
 use crate::style::{Color, Style};
+use crate::word::Word;
 use std::alloc::{AllocError, Global};
 use std::marker::Model;
 
@@ -91,8 +93,25 @@ impl GridRow {
         self.blank
     }
 
+    /// Draws a word with its text.
+    pub(crate) fn draw(&mut self, word: Word, columns: Span, text: &str)
+        requires order { columns.first ≤ columns.last }
+        requires end { columns.last ≤ length self.old }
+        requires narrow { columns.last < 2 ^ 16 }
+        ensures cells { self.new ≡ with_word word columns text.now self.old }
+        ensures width { length self.new ≡ length self.old }
+    {
+        let (x, end) = (columns.first, columns.last);
+        match word {
+            Word::Text(style) => self.draw_text(x, end, text, style),
+            Word::Shortened(style) => self.draw_shortened(x, end, text, style),
+            Word::Filling(c, style) => self.fill(x, end, c, style),
+            Word::Background(color) => self.fill_background(x, end, color),
+        }
+    }
+
     /// Draws a text in the columns from `x` up to `end`.
-    pub(crate) fn draw_text(&mut self, x: usize, end: usize, text: &str, style: Style)
+    fn draw_text(&mut self, x: usize, end: usize, text: &str, style: Style)
         requires order { x ≤ end }
         requires end { end ≤ length self.old }
         ensures cells { self.new ≡ splice x (text_cut style (end - x) text.now) self.old }
@@ -103,7 +122,7 @@ impl GridRow {
     }
 
     /// Draws a text in the columns from `x` up to `end`, with an ellipsis if it has more.
-    pub(crate) fn draw_shortened(&mut self, x: usize, end: usize, text: &str, style: Style)
+    fn draw_shortened(&mut self, x: usize, end: usize, text: &str, style: Style)
         requires order { x ≤ end }
         requires end { end ≤ length self.old }
         requires narrow { end < 2 ^ 16 }
@@ -115,7 +134,7 @@ impl GridRow {
     }
 
     /// Fills the columns from `x` up to `end` with a character.
-    pub(crate) fn fill(&mut self, x: usize, end: usize, c: char, style: Style)
+    fn fill(&mut self, x: usize, end: usize, c: char, style: Style)
         requires order { x ≤ end }
         requires end { end ≤ length self.old }
         ensures cells { self.new ≡ splice x (filling style (end - x) c) self.old }
@@ -126,7 +145,7 @@ impl GridRow {
     }
 
     /// Changes the background of the columns from `x` up to `end`.
-    pub(crate) fn fill_background(&mut self, x: usize, end: usize, color: Color)
+    fn fill_background(&mut self, x: usize, end: usize, color: Color)
         requires order { x ≤ end }
         requires end { end ≤ length self.old }
         ensures { self.new ≡ in_part x (end - x) (on_background color) self.old }

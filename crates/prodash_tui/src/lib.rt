@@ -1,10 +1,12 @@
 //! A grid of cells for a dashboard, and the words that draw on it.
 #![tactic(auto)]
 
+mod calls;
 mod cell;
 mod cursor;
 mod dashboard;
 pub mod draw;
+mod drawn_row;
 mod frame;
 mod grid;
 mod grid_row;
@@ -17,6 +19,7 @@ mod screen;
 mod sign;
 mod style;
 mod text;
+mod word;
 
 pub use cell::{Cell, Joined};
 pub use dashboard::{Contents, Dashboard};

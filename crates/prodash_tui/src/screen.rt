@@ -133,9 +133,9 @@ impl Screen {
         ensures reason { IsOkUnless result Refusal.Memory }
     {
         if self.is_shown && have_one_size(&self.front, &self.back) {
-            push_difference(&self.front, &self.back, out)?;
+            push_difference(&mut self.front, &mut self.back, out)?;
         } else {
-            push_first(&self.back, out)?;
+            push_first(&mut self.back, out)?;
         }
         mem::swap(&mut self.front, &mut self.back);
         self.back.clear();

@@ -51,7 +51,6 @@ invariant_of-self c =
       each = All-same (λ (row : List Cell). length row ≡ width) c.fill_rows.new.rows.items (in_rows first count (splice x new) rows) (all_filled c)
           (All-in_rows (λ (row : List Cell). length row ≡ width) first count (splice x new) rows
           (λ (row : List Cell) (e : length row ≡ width). length-splice x new row (omega arith) ∙ e) c.self.invariant.each);
-      blank = λ h. cc;
     }
 
 pub returns : goal.returns

@@ -46,7 +46,6 @@ invariant_of-self c =
       each = All-same (λ (row : List Cell). length row ≡ width) c.color_rows.new.rows.items (in_part first count f rows) (all_colored c)
           (All-in_rows (λ (row : List Cell). length row ≡ width) first count f rows
           (λ (row : List Cell) (e : length row ≡ width). length-in_rows_any x room (on_background c.args.color) row ∙ e) c.self.invariant.each);
-      blank = λ h. cc;
     }
 
 pub returns : goal.returns
