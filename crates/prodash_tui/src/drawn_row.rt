@@ -158,7 +158,11 @@ impl DrawnRow {
         ensures cells { self.new ≡ with_word word columns text.now self.old }
         ensures width { length self.new ≡ length self.old }
     {
-        if self.is_remembered && is_next(self.calls.as_slice(), self.same, word, columns, text) {
+        if !self.is_remembered {
+            self.cells.draw(word, columns, text);
+            return;
+        }
+        if is_next(self.calls.as_slice(), self.same, word, columns, text) {
             self.same += 1;
             return;
         }

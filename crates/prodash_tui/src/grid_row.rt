@@ -94,6 +94,7 @@ impl GridRow {
     }
 
     /// Draws a word with its text.
+    #[inline(always)]
     pub(crate) fn draw(&mut self, word: Word, columns: Span, text: &str)
         requires order { columns.first ≤ columns.last }
         requires end { columns.last ≤ length self.old }

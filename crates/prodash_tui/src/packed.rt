@@ -213,6 +213,7 @@ pub(crate) fn color_cell(cell: &mut PackedCell, color: Color)
 
 impl PackedCell {
     /// Returns the cell.
+    #[inline(always)]
     pub fn get(&self) -> Cell
         ensures { result ≡ self.now }
     {

@@ -1,5 +1,5 @@
 -- The fields of a row that remembers the calls that drew it.
-use Rattle.std.specs.Prelude.{◌≡◌, ℕ, ◌^◌, ◌<◌, ◌≤◌, Bool, true, List, length, take, if◌then◌else◌}
+use Rattle.std.specs.Prelude.{◌≡◌, ℕ, ◌^◌, ◌<◌, ◌≤◌, true, List, length, take, if◌then◌else◌}
 use Rattle.prodash_tui.specs.declared.cell.Cell.{Cell}
 use Rattle.prodash_tui.specs.declared.drawn_row.DrawnRow.TheInside.{Inside}
 use Rattle.prodash_tui.specs.Cells.{blank_cells}

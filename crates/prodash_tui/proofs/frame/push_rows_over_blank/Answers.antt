@@ -1,4 +1,4 @@
-use Rattle.std.proofs.Common.{rules, ◌≡◌, ℕ, ◌<◌, ◌++◌, List, [], length, set, get_or, sym, ap, ◌∙◌, append-nil}
+use Rattle.std.proofs.Common.{rules, ◌≡◌, ◌<◌, ◌++◌, List, [], length, set, get_or, sym, ap, ◌∙◌, append-nil}
 use Rattle.std.proofs.lemmas.List.{get_or_read, set-get_or}
 use Rattle.prodash_base.proofs.Prefixes.{IsPrefix-trans}
 use Rattle.prodash_tui.specs.declared.cell.Cell.{Cell}

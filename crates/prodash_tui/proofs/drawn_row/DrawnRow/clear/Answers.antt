@@ -1,6 +1,5 @@
-use Rattle.std.proofs.Common.{◌≡◌, true, length, sym, ap, ◌∙◌}
+use Rattle.std.proofs.Common.{length, sym, ap, ◌∙◌}
 use Rattle.prodash_tui.specs.Cells.{blank_cells}
-use Rattle.prodash_tui.specs.plumbing.DrawnRows.{shown}
 use Rattle.prodash_tui.proofs.DrawnRows.{drawn_none, length-shown, shown_calls}
 use Rattle.prodash_tui.proofs.drawn_row.DrawnRow.clear.Goals as goal
 
