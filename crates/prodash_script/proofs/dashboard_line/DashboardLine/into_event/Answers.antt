@@ -4,10 +4,11 @@ use Rattle.prodash_script.specs.declared.dashboard_line.DashboardLine.{Dashboard
 use Rattle.prodash_script.specs.DashboardLines.{IsEventOf, plain_lines}
 use Rattle.prodash_script.proofs.dashboard_line.DashboardLine.into_event.Goals as goal
 
-pub returns-in-SetTitle-clause-event : goal.returns-in-SetTitle-clause-event
-returns-in-SetTitle-clause-event c =
-    subst (λ (line : DashboardLine). IsEventOf line (plain_lines c.args.information.now.items) (events.SetTitle c.into_string.result)) (sym c.in-SetTitle.is)
-    (c.into_string.result, refl, c.into_string.ensures)
+pub returns-in_ok-into_string-in-SetTitle-clause-event : goal.returns-in_ok-into_string-in-SetTitle-clause-event
+returns-in_ok-into_string-in-SetTitle-clause-event c =
+    let made = c.in_ok-into_string-in-SetTitle in
+    subst (λ (line : DashboardLine). IsEventOf line (plain_lines c.args.information.now.items) (events.SetTitle made.field-0)) (sym c.in-SetTitle.is)
+    (made.field-0, refl, made.ensures)
 
 pub returns-in-ClearInformation-clause-event : goal.returns-in-ClearInformation-clause-event
 returns-in-ClearInformation-clause-event c =
