@@ -16,6 +16,17 @@ use std::sync::ledger::Ledger;
 /// How many calls are made.
 const CALLS: u64 = 70;
 
+// The texts take memory of their own.
+
+/// The name of each task.
+const NAME: &str = "a task that compresses all of the files";
+
+/// The name that a task gets later.
+const OTHER_NAME: &str = "a task that compresses all of the other files";
+
+/// The text of each message.
+const TEXT: &str = "begins with the first of all the files";
+
 /// How calls ended.
 #[derive(Clone, Copy)]
 struct Counts {
@@ -138,17 +149,17 @@ fn event_of_kind(alloc: Global, kind: u64, item: Handle) -> Result<Event, Refusa
 }
 
 fn add_child(alloc: Global) -> Result<Event, Refusal> {
-    let (parent, name, id) = (0, Text::from_str(alloc, "task")?, UNKNOWN);
+    let (parent, name, id) = (0, Text::from_str(alloc, NAME)?, UNKNOWN);
     Ok(Event::AddChild { parent, name, id })
 }
 
 fn set_name(alloc: Global, item: Handle) -> Result<Event, Refusal> {
-    let name = Text::from_str(alloc, "job")?;
+    let name = Text::from_str(alloc, OTHER_NAME)?;
     Ok(Event::SetName { item, name })
 }
 
 fn message(alloc: Global, item: Handle) -> Result<Event, Refusal> {
-    let (at, level, text) = (5, MessageLevel::Info, Text::from_str(alloc, "begins")?);
+    let (at, level, text) = (5, MessageLevel::Info, Text::from_str(alloc, TEXT)?);
     Ok(Event::Message {
         item,
         at,

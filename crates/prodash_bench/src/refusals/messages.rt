@@ -8,8 +8,17 @@ use std::alloc::Global;
 /// The greatest number of messages that the ring keeps.
 const CAPACITY: usize = 3;
 
-/// The texts that are pushed. The last replace the first.
-const TEXTS: &[&str] = &["begins", "is at a third", "is at a half", "is done", "ends"];
+/// The origin of the messages, which takes memory of its own.
+const ORIGIN: &str = "a task that compresses all of the files";
+
+/// The texts that are pushed, of which the last replace the first. They take memory of their own.
+const TEXTS: &[&str] = &[
+    "begins with the first of all the files",
+    "is at a third of what there is to be done",
+    "is at a half of what there is to be done",
+    "is done with the last of all the files",
+    "ends now that nothing is left to be done",
+];
 
 /// Makes each call on a ring.
 pub(crate) fn run(alloc: Global, calls: &mut Calls) -> Result<(), Fault> {
@@ -57,7 +66,7 @@ fn push(
 }
 
 fn push_info(alloc: Global, ring: &mut MessageRingBuffer, text: &str) -> Result<(), Refusal> {
-    ring.push_overwrite(alloc, 5, MessageLevel::Info, "task", text)
+    ring.push_overwrite(alloc, 5, MessageLevel::Info, ORIGIN, text)
 }
 
 /// Returns copies of all messages of a ring.

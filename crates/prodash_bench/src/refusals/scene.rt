@@ -22,9 +22,9 @@ impl Scene {
         ensures { IsOkUnless result Refusal.Memory }
     {
         let name = if self.turn < 3 {
-            "task"
+            "a task that compresses all of the files"
         } else {
-            "another task"
+            "another task, which compresses all of the other files"
         };
         Ok(Row {
             key: Key::default().add_child(0),
@@ -52,8 +52,8 @@ impl Scene {
             messages.push(Message {
                 time: 0,
                 level: MessageLevel::Info,
-                origin: Text::from_str(alloc, "task")?,
-                message: Text::from_str(alloc, "is on its way")?,
+                origin: Text::from_str(alloc, "a task that compresses all of the files")?,
+                message: Text::from_str(alloc, "is on its way to the last of all the files")?,
             })?;
         }
         Ok(messages)

@@ -181,7 +181,7 @@ fn change_at(alloc: Global, place: u64, at: Moment) -> Result<Event, Refusal> {
     Ok(match place {
         0 | 4 => Event::AddChild {
             parent: place / 4,
-            name: Text::from_str(alloc, "task")?,
+            name: Text::from_str(alloc, "a task that compresses all of the files")?,
             id: UNKNOWN,
         },
         1 => Event::Init {
@@ -193,11 +193,14 @@ fn change_at(alloc: Global, place: u64, at: Moment) -> Result<Event, Refusal> {
             item: 1,
             at,
             level: MessageLevel::Success,
-            text: Text::from_str(alloc, "is on its way")?,
+            text: Text::from_str(alloc, "is on its way to the last of all the files")?,
         },
         7 => Event::SetName {
             item: 2,
-            name: Text::from_str(alloc, "a part with a longer name")?,
+            name: Text::from_str(
+                alloc,
+                "a part with a name that is longer than that of its task",
+            )?,
         },
         18 => Event::Drop { item: 2 },
         _ => Event::Set {

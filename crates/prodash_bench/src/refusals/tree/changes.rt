@@ -10,6 +10,9 @@ use prodash_programs::Fault;
 use std::alloc::Global;
 use std::sync::Wait;
 
+/// The name that the item gets, which takes memory of its own.
+const NAME: &str = "a job that compresses all of the files";
+
 /// The calls that rename an item or send a message, each with the severity of what it sends.
 const CHANGES: &[(&'static str, Option<MessageLevel>)] = &[
     ("Item::set_name", None),
@@ -71,7 +74,7 @@ fn change<R: Wait + Clone + Drop>(
     call: &str,
 ) -> Result<(), Refusal> {
     match call {
-        "Item::set_name" => item.set_name(alloc, "job"),
+        "Item::set_name" => item.set_name(alloc, NAME),
         "Item::info" => item.info(alloc, 5, call),
         "Item::fail" => item.fail(alloc, 5, call),
         "Item::done" => item.done(alloc, 5, call),
@@ -89,7 +92,7 @@ fn is_sent<R: Wait + Clone + Drop>(
     let sent = shown_by(root, alloc)?.messages;
     Ok(
         sent.last().is_some_and(|it| {
-            it.level == level && it.origin.as_str() == "job" && it.message.as_str() == call
+            it.level == level && it.origin.as_str() == NAME && it.message.as_str() == call
         }),
     )
 }
@@ -109,7 +112,7 @@ fn name<R: Wait + Clone + Drop>(
             again?
         }
     };
-    calls.expect(name.is_some_and(|it| it.as_str() == "job"));
+    calls.expect(name.is_some_and(|it| it.as_str() == NAME));
     Ok(())
 }
 

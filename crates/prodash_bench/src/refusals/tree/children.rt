@@ -20,11 +20,13 @@ struct Added {
     id: Id,
 }
 
+// The names take memory of their own.
+
 /// The first item.
 const FIRST: Added = Added {
     call: "Root::add_child",
     numbers: &[0],
-    name: "task",
+    name: "a task that compresses all of the files",
     id: UNKNOWN,
 };
 
@@ -33,19 +35,19 @@ const OTHERS: &[Added] = &[
     Added {
         call: "Root::add_child_with_id",
         numbers: &[1],
-        name: "other",
+        name: "another task, which has an identifier",
         id: ID,
     },
     Added {
         call: "Item::add_child",
         numbers: &[0, 0],
-        name: "part",
+        name: "a part of what the first task is to do",
         id: UNKNOWN,
     },
     Added {
         call: "Item::add_child_with_id",
         numbers: &[0, 1],
-        name: "part",
+        name: "a part of what the first task is to do",
         id: ID,
     },
 ];
