@@ -2,9 +2,13 @@
 ghost use Rattle.std.specs.Prelude.{◌≡◌, true, ◌≤◌, [], ◌∷◌, ◌++◌, length, take, IfOk, OnErr, OnOk};
 
 use crate::grid_row::Span;
+use crate::style::Style;
 use crate::word::{Word, same_word};
 use std::alloc::{AllocError, Global};
 use std::marker::Model;
+
+/// For how many calls a row has memory from the beginning. More are seldom made.
+const ROOM: usize = 16;
 
 /// A call: what it drew, in which columns, and its text. Contracts see these three.
 #[derive(Drop)]
@@ -37,6 +41,16 @@ impl Call {
             word,
             columns,
             text: String::from_str(alloc, text)?,
+        })
+    }
+
+    /// Returns a call that drew nothing, with memory for a text of that many bytes. Fails if out of
+    /// memory.
+    fn blank(alloc: Global, length: usize) -> Result<Call, AllocError> {
+        Ok(Call {
+            word: Word::Text(Style::new()),
+            columns: Span { first: 0, last: 0 },
+            text: String::with_capacity(alloc, length)?,
         })
     }
 
@@ -108,15 +122,20 @@ impl Model for Calls {
 }
 
 impl Calls {
-    /// Returns no calls.
-    pub(crate) fn new(alloc: Global) -> Calls
-        ensures { result ≡ [] }
+    /// Returns no calls, with memory for some whose texts have up to that many bytes. Fails if out
+    /// of memory.
+    pub(crate) fn with_room(alloc: Global, length: usize) -> Result<Calls, AllocError>
+        ensures { IfOk result (λ calls. calls ≡ []) }
     {
-        Calls {
-            alloc,
-            slots: Vec::new(alloc),
-            count: 0,
+        let mut slots = Vec::with_capacity(alloc, ROOM)?;
+        for _ in 0..ROOM {
+            slots.push(Call::blank(alloc, length)?)?;
         }
+        Ok(Calls {
+            alloc,
+            slots,
+            count: 0,
+        })
     }
 
     /// Returns the calls.

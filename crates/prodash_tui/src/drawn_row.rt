@@ -124,13 +124,14 @@ fn remember(
 }
 
 impl DrawnRow {
-    /// Returns a blank row. Fails if out of memory.
+    /// Returns a blank row, with memory for calls whose texts have as many bytes as it has columns.
+    /// Fails if out of memory.
     pub(crate) fn blank(alloc: Global, width: u16) -> Result<DrawnRow, AllocError>
         ensures { IfOk result (λ row. row ≡ blank_cells width) }
     {
         Ok(DrawnRow {
             cells: GridRow::blank(alloc, width)?,
-            calls: Calls::new(alloc),
+            calls: Calls::with_room(alloc, usize::from(width))?,
             same: 0,
             is_remembered: true,
             changes: 0,
