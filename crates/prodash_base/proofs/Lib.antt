@@ -32,3 +32,5 @@ pub mod WorkedTimers
 pub mod TimedTables
 pub mod Marks
 pub mod ShortTexts
+pub mod SteppedRows
+pub mod WorkedSteps

@@ -6,6 +6,7 @@ pub mod Rows
 pub mod Adjacency
 pub mod Lends
 pub mod Messages
+pub mod Steps
 pub mod Refusals
 pub mod Rings
 pub mod Appending

@@ -1,6 +1,8 @@
 //! The contents of the tree: keys, states, values and rows.
-ghost use Rattle.std.specs.Prelude.{◌≡◌};
+ghost use Rattle.std.specs.Prelude.{◌≡◌, ◌↔◌, IsTrue};
 ghost use Rattle.std.specs.Option.{option_map};
+ghost use Rattle.prodash_base.specs.Rows.{row_of};
+ghost use Rattle.prodash_base.specs.Steps.{with_step};
 
 pub mod key;
 mod rows;
@@ -93,6 +95,18 @@ pub struct Row {
     pub id: Id,
     /// The progress of the item, if it has any.
     pub progress: Option<Value>,
+}
+
+impl Row {
+    /// Returns whether the row has this step, or no progress.
+    pub fn has_step(&self, step: Step) -> bool
+        ensures { IsTrue result ↔ (with_step step (row_of self.now) ≡ row_of self.now) }
+    {
+        match &self.progress {
+            None => true,
+            Some(value) => value.step == step,
+        }
+    }
 }
 
 impl fmt::Debug for Row {

@@ -21,7 +21,7 @@ phase_itself (Blocked reason eta) = itself reasons (reason, eta)
 phase_itself (Halted reason eta) = itself reasons (reason, eta)
 phase_itself Running = refl
 
-phases : IsEqualityTest same_phase
+pub phases : IsEqualityTest same_phase
 phases = by_cases phase_sound phase_itself
 
 progresses : IsEqualityTest same_progress
