@@ -2,6 +2,7 @@ pub mod TableChanges
 pub mod AscendingRows
 pub mod TableRows
 pub mod RowsOfTasks
+pub mod StepsOfTasks
 pub mod MissingNames
 pub mod Handles
 pub mod FrameSteps

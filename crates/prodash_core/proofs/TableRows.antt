@@ -67,3 +67,8 @@ rows_in_order shows es rows h s =
         each = λ q. subst (λ ks. IsSome (get (table_of es) q) ↔ Contains ks q) paths (lists_each es q);
       },
     )
+
+-- rows that show the table show the tasks of the map
+pub shown_in_order : {C : Type 0} (shows : C → ℕ → Type 0) (es : List (Path × BoxedTask C)) (rows : List PathRow) → RowsShow shows (table_of es) rows
+    → IsStrictlySortedBy path_cmp (keys_of es) → AllZip (RowShows shows) (map pair_of es) rows
+shown_in_order shows es rows h s = subst (λ fs. AllZip (RowShows shows) fs rows) (entries-table_of es s) h

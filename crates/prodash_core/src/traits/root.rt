@@ -1,12 +1,13 @@
-ghost use Rattle.std.specs.Prelude.{◌≡◌, ℕ, List, None, IfOk, IfErr, OnOk, OnErr, IsOkUnless};
+ghost use Rattle.std.specs.Prelude.{◌≡◌, ℕ, List, None, IfOk, IfSome, IfErr, OnOk, OnErr, IsOkUnless};
 ghost use Rattle.std.specs.Map.{keys_of};
 ghost use Rattle.prodash_base.specs.Refusals.{RefusesHandle};
 ghost use Rattle.prodash_base.specs.Adjacency.{IsAscending, paths_of};
 ghost use Rattle.prodash_base.specs.Rows.{PathRow, rows_of};
+ghost use Rattle.prodash_base.specs.Steps.{OfSeenSteps, StepsAscend};
 
 use prodash_base::Refusal;
 use prodash_base::messages::{Message, MessageCopyState, Messages};
-use prodash_base::progress::{Row, Rows};
+use prodash_base::progress::{Row, Rows, Step};
 use std::alloc::Global;
 
 /// The root of a tree of tasks, as a renderer sees it.
@@ -103,6 +104,27 @@ pub trait Root {
         ensures ok { IfOk result (λ seen. looks self.now previous seen.0 seen.1 seen.2) }
         ensures ascending { IfOk result (λ seen. IsAscending (keys_of seen.0)) }
         ensures reason { IsOkUnless result Refusal.Memory };
+
+    /// Returns what `look` returns, with the steps of the rows in place of the rows, if the rows are
+    /// these but for their steps: the first step is that of the first row. Returns `None` if they
+    /// aren't, or if the root doesn't compare rows. The contents of `spare` don't matter: its memory
+    /// may hold the steps and the messages.
+    ///
+    /// # Errors
+    ///
+    /// `Memory`, if there is no memory for the steps or the copies.
+    fn look_at_steps(
+        &self,
+        rows: &Rows,
+        spare: (Vec<Step>, Messages),
+        previous: Option<MessageCopyState>,
+    ) -> Result<Option<(Vec<Step>, Messages, MessageCopyState)>, Refusal>
+        ensures ok { IfOk result (OfSeenSteps (looks self.now previous) rows.now) }
+        ensures ascending { IfOk result (StepsAscend rows.now) }
+        ensures reason { IsOkUnless result Refusal.Memory }
+    {
+        Ok(None)
+    }
 
     /// Does what `sorted_snapshot` and `copy_new_messages` do, in one look.
     ///

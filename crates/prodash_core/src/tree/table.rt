@@ -1,12 +1,14 @@
-ghost use Rattle.std.specs.Prelude.{◌≡◌, ◌≢◌, ◌≤◌, ℕ, length, vec_capacity, OnOk, OnErr, IfOk, Some, None, nat_eq, is_some, IsOkUnless};
+ghost use Rattle.std.specs.Prelude.{◌↔◌, map, IsTrue, ◌≡◌, ◌≢◌, ◌≤◌, ℕ, length, vec_capacity, OnOk, OnErr, IfOk, IfSome, Ok, Some, None, List, nat_eq, is_some, IsOkUnless};
 ghost use Rattle.std.specs.FinMap as finite;
+ghost use Rattle.std.specs.List.{AllZip};
 ghost use Rattle.std.specs.Option.{option_map};
 ghost use Rattle.std.specs.BTreeMap.{IsOrdered};
 ghost use Rattle.prodash_base.specs.Path.{Path, path_cmp};
-ghost use Rattle.prodash_base.specs.Rows.{phase_of, rows_of};
+ghost use Rattle.prodash_base.specs.Rows.{phase_of, row_of, rows_of};
+ghost use Rattle.prodash_base.specs.Steps.{OfNoSteps, OfSteps};
 ghost use Rattle.prodash_core.specs.plumbing.MissingNames.{missing_names, TakesName};
-ghost use Rattle.prodash_core.specs.Tables.{new_entry, change_at, with_name, with_progress, with_bound, with_phase, name_at, id_of, bound_of, unit_of, counted_of, RowsShow, ListsEachOnce, entry_of, entry_in};
-ghost use Rattle.prodash_core.specs.plumbing.TaskRows.{ValueShows, RowShowsTask, RowsShowTasks};
+ghost use Rattle.prodash_core.specs.Tables.{new_entry, change_at, with_name, with_progress, with_bound, with_phase, name_at, id_of, bound_of, unit_of, counted_of, RowShows, RowsShow, ListsEachOnce, pair_of, entry_of, entry_in};
+ghost use Rattle.prodash_core.specs.plumbing.TaskRows.{IsSameButStep, NoStepsShowTasks, StepShows, StepsShowTasks, ValueShows, RowShowsTask, RowsShowTasks};
 
 use prodash_base::progress::{Id, Key, Row, Rows, State, Step, UNKNOWN, Value};
 use prodash_base::unit::Unit;
@@ -377,6 +379,30 @@ impl<C: Copy> TreeCore<C> {
         Ok(Rows::new(rows))
     }
 
+    /// Returns the steps of the rows that `rows` would return, if these are the same but for their
+    /// steps. Returns `None` if they aren't. The memory of `spare` is reused, whatever it contains.
+    ///
+    /// # Errors
+    ///
+    /// `Memory`, if there is no memory for the steps.
+    pub fn steps_over<N: Counters<C>>(
+        &self,
+        counters: &N,
+        rows: &Rows,
+        spare: Vec<Step>,
+    ) -> Result<Option<Vec<Step>>, Refusal>
+        ensures shows { IfOk result (OfSteps (RowsShow (N.shows counters.now) self.now) rows.now) }
+        ensures each { IfOk result (OfSteps (ListsEachOnce self.now) rows.now) }
+
+        // Without steps, there are none with which these rows show the table.
+        ensures none { result ≡ Ok None
+            → OfNoSteps (RowsShow (N.shows counters.now) self.now) rows.now }
+        ensures reason { IsOkUnless result Refusal.Memory }
+    {
+        let steps = steps_of_tasks(&self.tasks, counters, rows.as_slice(), spare)?;
+        Ok(steps)
+    }
+
     /// Replaces the contents of `out` with the rows that `rows` returns. A name is copied only if it
     /// differs from the one that `out` has in its place.
     ///
@@ -515,6 +541,66 @@ fn rows_of_tasks<C: Copy, N: Counters<C>>(
     }
     rows.truncate(updated);
     Ok(rows)
+}
+
+/// Returns whether a value is that of a progress, apart from its step.
+#[inline(always)]
+fn is_same_but_step<C>(counted: &Counted<C>, value: &Value) -> bool
+    ensures { IsTrue result ↔ IsSameButStep counted.now value.now }
+{
+    counted.done_at == value.done_at && counted.unit == value.unit && counted.state == value.state
+}
+
+/// Returns the step of a task, 0 without progress, if its row is this one but for the step.
+#[inline(always)]
+fn step_over<C: Copy, N: Counters<C>>(
+    key: Key,
+    task: &Task<C>,
+    counters: &N,
+    row: &Row,
+) -> Option<Step>
+    ensures some { IfSome result (StepShows (N.shows counters.now) key task.now row.now) }
+    ensures none { result ≡ None
+        → (step : ℕ) → StepShows (N.shows counters.now) key task.now row.now step → ⊥ }
+{
+    if row.key != key || row.id != task.id || row.name != task.name {
+        return None;
+    }
+    match (&task.progress, &row.progress) {
+        (None, None) => Some(0),
+        (Some(counted), Some(value)) if is_same_but_step(counted, value) => {
+            Some(counters.number(counted.counter))
+        }
+        _ => None,
+    }
+}
+
+/// Returns the steps of the tasks, in the order of the map, if their rows are these but for the
+/// steps. The memory of `steps` is reused.
+fn steps_of_tasks<C: Copy, N: Counters<C>>(
+    tasks: &BTreeMap<Key, Box<Task<C>>>,
+    counters: &N,
+    rows: &[Row],
+    mut steps: Vec<Step>,
+) -> Result<Option<Vec<Step>>, AllocError>
+    ensures some { IfOk result
+        (StepsShowTasks (N.shows counters.now) tasks.now.entries rows.now) }
+    ensures none { result ≡ Ok None
+        → NoStepsShowTasks (N.shows counters.now) tasks.now.entries rows.now }
+    ensures ordered { IsOrdered path_cmp tasks.now }
+{
+    if rows.len() != tasks.len() {
+        return Ok(None);
+    }
+    steps.clear();
+    steps.reserve(rows.len())?;
+    for (key, task) in tasks.iter() {
+        match step_over(*key, task.as_ref(), counters, &rows[steps.len()]) {
+            Some(step) => steps.push_reserved(step),
+            None => return Ok(None),
+        }
+    }
+    Ok(Some(steps))
 }
 
 /// Replaces rows with those of the tasks, in the order of the map. If out of memory, they stay as

@@ -1,4 +1,4 @@
-use Rattle.std.proofs.Common.{arith, [], refl}
+use Rattle.std.proofs.Common.{rules, arith, [], refl}
 use Rattle.std.proofs.lemmas.Grind.{common_steps}
 use Rattle.prodash_core.proofs.RunLaws.{completes_more, completes_all, pushed_is, run_renders, steps_at, run_with_memory, after_with_memory}
 use Rattle.prodash_core.proofs.AcceptedMessages.{rings_of_prefixes}
@@ -38,3 +38,6 @@ returns-clause-ok g c =
       safe = draws_safely_each _ _ _ _ renders;
       flushed = stays_flushed _ _ _ _ renders;
     }
+
+pub returns-in_err-replies-clause-reason : goal.returns-in_err-replies-clause-reason
+returns-in_err-replies-clause-reason g c = let is = c.from_residual-in_err-replies.ensures in search (rules, is)
