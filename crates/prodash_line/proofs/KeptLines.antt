@@ -178,16 +178,16 @@ at_place start n part whole a e =
     ap (λ (t : List ℕ). take n (drop start t)) a.joined ∙ ap (take n) (drop_at a.before (part ++ a.after) start a.begins) ∙ take_at part a.after n (sym e)
 
 -- an earlier line is that of a row that is alike
-pub placed_also : (options : Options) (midpoint : ℕ) (rows : List Row) (bytes : List ℕ) (line : RowLine) (row earlier : Row) → IsAmong options midpoint (rows_of rows) bytes line
-    → slice_get rows line.row ≡ Some earlier → AreAlike (row_of row) (row_of earlier) → IsPlaced options midpoint (row_of row) bytes line
+pub placed_also : (options : Options) (midpoint : ℕ) (rows : List PathRow) (bytes : List ℕ) (line : RowLine) (row earlier : PathRow) → IsAmong options midpoint rows bytes line
+    → slice_get rows line.row ≡ Some earlier → AreAlike row earlier → IsPlaced options midpoint row bytes line
 placed_also options midpoint rows bytes line row earlier a f alike =
-    let same : a.row ≡ row_of earlier = same_some a.row (row_of earlier) (sym a.found ∙ slice_get-map row_of rows line.row ∙ ap (option_map row_of) f) in
-    let drawn : untimed_line options midpoint (a.row, None) ≡ untimed_line options midpoint (row_of row, None) =
-    ap (λ (r : PathRow). untimed_line options midpoint (r, None)) same ∙ sym (alike_line options midpoint None (row_of row) (row_of earlier) alike) in
-    let own : midpoint_of options.defensive (a.row, None) ≡ midpoint_of options.defensive (row_of row, None) =
-    ap (λ (r : PathRow). midpoint_of options.defensive (r, None)) same ∙ sym (alike_midpoint options.defensive None (row_of row) (row_of earlier) alike) in
+    let same : a.row ≡ earlier = same_some a.row earlier (sym a.found ∙ f) in
+    let drawn : untimed_line options midpoint (a.row, None) ≡ untimed_line options midpoint (row, None) =
+    ap (λ (r : PathRow). untimed_line options midpoint (r, None)) same ∙ sym (alike_line options midpoint None row earlier alike) in
+    let own : midpoint_of options.defensive (a.row, None) ≡ midpoint_of options.defensive (row, None) =
+    ap (λ (r : PathRow). midpoint_of options.defensive (r, None)) same ∙ sym (alike_midpoint options.defensive None row earlier alike) in
     record {
-      size = same_size options midpoint (a.row, None) (row_of row, None) line.size drawn own a.size;
+      size = same_size options midpoint (a.row, None) (row, None) line.size drawn own a.size;
       place = subst (λ (l : Line). IsAt line.start (own_bytes options l) bytes) drawn a.place;
     }
 

@@ -28,6 +28,7 @@ pub mod ErasedRows
 pub mod Choosing
 pub mod FittingRows
 pub mod KeptLines
+pub mod EarlierRows
 pub mod WrittenRows
 pub mod FramesOnPage
 pub mod ErasedPages

@@ -13,5 +13,6 @@ pub mod KeptLines
 pub mod Observing
 pub mod Choosing
 pub mod FrameWriting
+pub mod EarlierRows
 pub mod WrittenRows
 pub mod RenderedInputs

@@ -34,7 +34,7 @@ use Rattle.prodash_line.specs.MessageLines.{message_lines, widths_of_origins}
 use Rattle.prodash_base.specs.declared.refusal.Refusal.TheVariants as refusals
 use Rattle.prodash_line.specs.Renderer.{Renderer, Drawing, FrameState, drawing_of, body_of, opening_of, ending_of, state_after, state_at, action_at, remember, latest_rows, frame_bytes, ended_after, is_cursor_hidden}
 use Rattle.prodash_line.specs.plumbing.OverwriteBytes.{lines_bytes, row_end}
-use Rattle.prodash_line.specs.plumbing.KeptLines.{AreAmong, IsLineOf, IsSizeOf, untimed_line, own_bytes}
+use Rattle.prodash_line.specs.plumbing.KeptLines.{AreAmong, AreEarlier, IsLineOf, IsSizeOf, untimed_line, own_bytes}
 use Rattle.prodash_line.specs.plumbing.Choosing.{quotas_of, all_reserved, chosen}
 use Rattle.prodash_line.specs.plumbing.Observing.{shown_by, ahead_of, tracker_by}
 use Rattle.prodash_line.specs.Tracking.{kept_of, tracked}
@@ -156,7 +156,7 @@ pub record LeavesTick (r : Renderer) (input : Input) (frame : Composed) (tracker
 abbrev pub KeepsLines : Renderer → List PathRow → LineWriter → Drawn → Type 0
 KeepsLines r rows out drawn = AreAmong r.options r.midpoint rows out.bytes drawn.lines.items
 
--- a tick that leaves the lines on screen because the rows stay saw the rows that are remembered
+-- a tick that leaves the lines on screen because the rows stay saw the rows that were remembered
 abbrev pub RowsStay : Renderer → List PathRow → Composed → Type 0
 RowsStay r rows frame = frame.rows_stay ≡ true → r.last_rows ≡ Some rows
 
@@ -237,6 +237,10 @@ KeepsLinesOf scene out drawn = KeepsOf scene scene.rows.now out drawn.lines
 pub record Extends (old new : LineWriter) : Type 0 where
   pub more : List ℕ
   pub bytes : new.bytes ≡ old.bytes ++ more
+
+-- the earlier lines of a scene are those of its earlier rows
+abbrev pub HasEarlierLines : Scene → Type 0
+HasEarlierLines scene = AreEarlier scene.options scene.past.now.midpoint scene.earlier
 
 -- the earlier line, if there is one, is that of a row of a scene
 abbrev pub HasEarlier : Scene → Row → LineSource → Type 0

@@ -3,6 +3,7 @@ use Rattle.std.specs.Prelude.{◌≡◌, ◌≤◌, ◌+◌, ◌-◌, ℕ, Bool,
 use Rattle.std.specs.List.{All}
 use Rattle.std.specs.Option.{option_eq, option_map}
 use Rattle.prodash_base.specs.Rows.{PathRow, progress_of, rows_of, same_progress}
+use Rattle.prodash_base.specs.Steps.{with_steps}
 use Rattle.prodash_base.specs.Units.{measure_of, same_measure}
 use Rattle.prodash_base.specs.declared.progress.Value.{Value}
 use Rattle.prodash_base.specs.declared.unit.display.Throughput.{Throughput}
@@ -52,9 +53,17 @@ pub record IsAmong (options : Options) (aligned : ℕ) (rows : List PathRow) (by
 abbrev pub AreAmong : Options → ℕ → List PathRow → List ℕ → List RowLine → Type 0
 AreAmong options midpoint rows bytes lines = All (IsAmong options midpoint rows bytes) lines
 
+-- the rows of an earlier frame: these, with the steps that they had
+abbrev pub drawn_in : EarlierLines → List PathRow
+drawn_in e = with_steps e.steps.now (rows_of e.rows.now)
+
+-- if this row is at an index now, it was then
+abbrev pub WasThere : EarlierLines → ℕ → PathRow → Type 0
+WasThere e index row = slice_get (rows_of e.rows.now) index ≡ Some row → slice_get (drawn_in e) index ≡ Some row
+
 -- the lines of an earlier frame are those of its rows
 abbrev pub AreEarlier : Options → ℕ → EarlierLines → Type 0
-AreEarlier options midpoint e = AreAmong options midpoint (rows_of e.rows.now) e.bytes.now e.lines.now
+AreEarlier options midpoint e = AreAmong options midpoint (drawn_in e) e.bytes.now e.lines.now
 
 -- it is the line of this row without a throughput, among these bytes
 pub record IsPlaced (options : Options) (aligned : ℕ) (row : PathRow) (bytes : List ℕ) (line : RowLine) : Type 0 where
@@ -63,7 +72,7 @@ pub record IsPlaced (options : Options) (aligned : ℕ) (row : PathRow) (bytes :
 
 -- a line of an earlier frame is that of this row too, with whichever options and midpoint it is that of its row
 abbrev pub IsAlso : EarlierLines → RowLine → PathRow → Type 0
-IsAlso e line row = (options : Options) (midpoint : ℕ) → IsAmong options midpoint (rows_of e.rows.now) e.bytes.now line → IsPlaced options midpoint row e.bytes.now line
+IsAlso e line row = (options : Options) (midpoint : ℕ) → IsAmong options midpoint (drawn_in e) e.bytes.now line → IsPlaced options midpoint row e.bytes.now line
 
 -- the bytes of a line with what follows it over a line of this width
 abbrev pub bytes_over : Options → ℕ → Line → List ℕ
@@ -91,7 +100,7 @@ FindsLine e drawn found = (options : Options) (midpoint : ℕ) → AreEarlier op
 
 -- the same of one of these lines
 abbrev pub FindsLineIn : EarlierLines → RowLine → DrawnRow → Option CopiedLine → Type 0
-FindsLineIn e line drawn found = (options : Options) (midpoint : ℕ) → IsAmong options midpoint (rows_of e.rows.now) e.bytes.now line → IfSome found (IsLineOf options midpoint drawn)
+FindsLineIn e line drawn found = (options : Options) (midpoint : ℕ) → IsAmong options midpoint (drawn_in e) e.bytes.now line → IfSome found (IsLineOf options midpoint drawn)
 
 -- a row is drawn with this throughput as without one
 pub record ShowsNone (row : PathRow) (throughput : Option Throughput) : Type 0 where

@@ -1,7 +1,8 @@
 //! Frames: messages and rows, drawn over the lines on screen.
 ghost use Rattle.std.specs.Prelude.{◌≡◌, ℕ, Bool, None, IsOkUnless, OnOk, OnErr};
 ghost use Rattle.prodash_line.specs.Screens.{WritesFrame, BreaksDuring};
-ghost use Rattle.prodash_line.specs.Renderer.{RendersOn};
+ghost use Rattle.prodash_line.specs.Renderer.{RendersOn, latest_rows};
+ghost use Rattle.prodash_line.specs.plumbing.EarlierRows.{steps_tick, tick_over};
 ghost use Rattle.prodash_line.specs.plumbing.FrameWriting.{begun, broken, resize_to, tick_seeing};
 ghost use Rattle.prodash_line.specs.ErasedPages.{ErasesPagesOn};
 ghost use Rattle.prodash_line.specs.SafeFrames.{DrawsSafelyOn};
@@ -9,6 +10,7 @@ ghost use Rattle.prodash_line.specs.SafeFrames.{DrawsSafelyOn};
 mod action;
 mod bar;
 mod drawn_text;
+mod earlier_rows;
 mod erasing;
 mod fitting;
 mod frame;
@@ -34,13 +36,14 @@ mod text;
 mod tracker;
 
 pub use drawn_text::safe_char;
+use earlier_rows::SeenRows;
 use frame::{compose_closing, compose_resized, compose_tick};
 pub use input::{Answer, Input, Options};
 pub use memory_screen::MemoryScreen;
 pub use over_write::{OverWrite, TracedWrite};
 use prodash_base::Refusal;
 use prodash_base::messages::{MessageCopyState, Messages};
-use prodash_base::progress::Rows;
+use prodash_base::progress::Step;
 use prodash_base::time::Moment;
 pub use screen::{Screen, write_frame};
 use state::Past;
@@ -108,7 +111,10 @@ pub fn all<S: Screen>(
             at,
             show,
             seen: Some(seen),
-        } => draw_tick(alloc, screen, state, at, show, seen),
+        } => {
+            let seen = (SeenRows::All(seen.0), seen.1, seen.2);
+            draw_tick(alloc, screen, state, at, show, seen)
+        }
         Input::Tick { seen: None, .. } => draw_closing(screen, state),
         Input::Resize {
             at,
@@ -120,6 +126,36 @@ pub fn all<S: Screen>(
     }
 }
 
+/// Draws the frame of a tick with a root as `all` does, if the rows are those of the latest tick with
+/// other steps, the first of which is that of the first row. So a look at a tree in which tasks
+/// neither came nor went needs no copies of their rows. `seen` has the steps, the new messages and the
+/// state for the next look.
+///
+/// # Errors
+///
+/// As `all`.
+pub fn tick_with_steps<S: Screen>(
+    alloc: Global,
+    screen: &mut S,
+    state: &mut State,
+    at: Moment,
+    show: bool,
+    seen: (Vec<Step>, Messages, MessageCopyState),
+) -> Result<Answer, Refusal>
+    ensures frame { RendersOn S.state state.old (steps_tick at show state.old seen)
+        screen.old result state.new screen.new }
+    ensures page { ErasesPagesOn S.state state.old (steps_tick at show state.old seen)
+        screen.old result screen.new }
+    ensures safe { DrawsSafelyOn S.state state.old (steps_tick at show state.old seen)
+        screen.old result screen.new }
+{
+    if let Some(refusal) = state.ended() {
+        return Err(refusal);
+    }
+    let seen = (SeenRows::Steps(seen.0), seen.1, seen.2);
+    draw_tick(alloc, screen, state, at, show, seen)
+}
+
 /// Draws the frame of a tick with a root, and remembers what the tick saw. It closes the renderer
 /// if the tick saw no rows, unless the renderer is to keep running.
 fn draw_tick<S: Screen>(
@@ -128,27 +164,31 @@ fn draw_tick<S: Screen>(
     state: &mut State,
     at: Moment,
     show: bool,
-    seen: (Rows, Messages, MessageCopyState),
+    seen: (SeenRows, Messages, MessageCopyState),
 ) -> Result<Answer, Refusal>
     requires { state.old.ended ≡ None }
-    ensures { RendersOn S.state state.old (tick_seeing at show seen) screen.old result state.new
-        screen.new }
+    ensures { RendersOn S.state state.old (tick_over at show state.old seen) screen.old result
+        state.new screen.new }
 {
-    let tracker = &mut state.tracker;
-    let frame = compose_tick(
-        alloc,
-        &mut state.frame,
-        &state.past,
-        tracker,
-        at,
-        show,
-        &seen,
-    )?;
-    send_frame(screen, &mut state.past, state.frame.bytes())?;
     let (rows, messages, copy_state) = seen;
-    keep_observed(&mut state.tracker, frame.drawn.action, rows.as_slice());
+    let seen = (state.past.begin_tick(rows), messages, copy_state);
+    let (past, tracker) = (&state.past, &mut state.tracker);
+    let frame = match compose_tick(alloc, &mut state.frame, past, tracker, at, show, &seen) {
+        Ok(frame) => frame,
+        Err(refusal) => {
+            state.past.take_back(seen.0);
+            return Err(refusal);
+        }
+    };
+    if let Err(refusal) = send_frame(screen, &mut state.past, state.frame.bytes()) {
+        state.past.take_back(seen.0);
+        return Err(refusal);
+    }
+    let (action, rows) = (frame.drawn.action, state.past.latest_rows());
+    keep_observed(&mut state.tracker, action, rows);
+    let (earlier, messages, copy_state) = seen;
     let (past, bytes) = (&mut state.past, &mut state.frame);
-    Ok(past.remember_tick(frame, bytes, rows, messages, copy_state))
+    Ok(past.remember_tick(frame, bytes, earlier, messages, copy_state))
 }
 
 /// Draws the frame of a resize, and sets the size.

@@ -4,7 +4,8 @@ ghost use Rattle.prodash_line.specs.declared.render.line.draw.action.Action.TheV
 ghost use Rattle.prodash_line.specs.Frames.{first_width, redraw, cursor_up};
 ghost use Rattle.prodash_line.specs.DrawnLines.{prefers_running};
 ghost use Rattle.prodash_line.specs.Renderer.{ending_of, latest_rows, resized};
-ghost use Rattle.prodash_line.specs.plumbing.FrameWriting.{closing_signs, closing_bytes, Composes, AppendsSigns, AppendsBody, AppendsRedraw, BeginsFrame, FinishesRedraw, LeftBy, LeftByTick, LeftByAction, AddsOrigins, DrawsFitting, WritesMessages, WritesRow, WritesChosen, WritesFitting, SplitsScene, DrawsFirst, DrawsRowOf, DrawsChosen, HasEarlier, WritesLine, IsSizeIn, KeepsOf, KeepsLinesOf, KeepsLines, RowsStay, Extends, resize_to, tick_seeing};
+ghost use Rattle.prodash_line.specs.plumbing.FrameWriting.{HasEarlierLines, closing_signs, closing_bytes, Composes, AppendsSigns, AppendsBody, AppendsRedraw, BeginsFrame, FinishesRedraw, LeftBy, LeftByTick, LeftByAction, AddsOrigins, DrawsFitting, WritesMessages, WritesRow, WritesChosen, WritesFitting, SplitsScene, DrawsFirst, DrawsRowOf, DrawsChosen, HasEarlier, WritesLine, IsSizeIn, KeepsOf, KeepsLinesOf, KeepsLines, RowsStay, Extends, resize_to};
+ghost use Rattle.prodash_line.specs.plumbing.EarlierRows.{ComposesTick, KeepsEarlier, KeepsLatest, LatestStay, LeftAfter};
 ghost use Rattle.prodash_line.specs.plumbing.WrittenRows.{WritesRows};
 ghost use Rattle.prodash_line.specs.Tracking.{kept_of};
 ghost use Rattle.prodash_line.specs.plumbing.Observing.{ObservesScene};
@@ -13,11 +14,14 @@ ghost use Rattle.prodash_base.specs.Rows.{row_of};
 
 use crate::render::line::draw::action::{Action, Composed, Drawn};
 use crate::render::line::draw::drawn_text::drawn_text;
+use crate::render::line::draw::earlier_rows::Earlier;
 use crate::render::line::draw::erasing::{
     end_frame, finish_erasing, start_frame, start_lines, start_messages, start_row,
 };
 use crate::render::line::draw::input::Options;
-use crate::render::line::draw::latest_rows::{CopiedLine, LineSize, RowLine, keep_line};
+use crate::render::line::draw::latest_rows::{
+    CopiedLine, EarlierLines, LineSize, RowLine, keep_line,
+};
 use crate::render::line::draw::layout::Layout;
 use crate::render::line::draw::line_copier::{LineCopier, NextRow};
 use crate::render::line::draw::line_writer::LineWriter;
@@ -30,7 +34,7 @@ use crate::render::line::draw::tracker::{begin_observing, observe_row};
 use crate::render::line::page::Sign;
 use prodash_base::Refusal;
 use prodash_base::messages::{Message, MessageCopyState, Messages};
-use prodash_base::progress::{Row, Rows};
+use prodash_base::progress::Row;
 use prodash_base::throughput::FrameThroughput;
 use prodash_base::time::Moment;
 use prodash_base::timing::Timer;
@@ -49,11 +53,14 @@ struct Scene<'a> {
     timer: &'a Option<Timer>,
     /// The rows that are drawn if the frame draws any.
     rows: &'a [Row],
+    /// The lines of an earlier frame that may be copied, and its rows.
+    earlier: EarlierLines<'a>,
 }
 
 /// Composes the frame of a tick with a root: the messages over the lines on screen, then the rows
-/// over those that are left, if they are drawn; or blanks, if the tick closes the renderer. Fails
-/// if out of memory.
+/// over those that are left, if they are drawn; or blanks, if the tick closes the renderer. Its rows
+/// are remembered already, and `seen` has what was remembered before in their place. Fails if out
+/// of memory.
 pub(crate) fn compose_tick(
     alloc: Global,
     out: &mut LineWriter,
@@ -61,23 +68,23 @@ pub(crate) fn compose_tick(
     tracker: &mut Option<FrameThroughput>,
     at: Moment,
     show: bool,
-    seen: &(Rows, Messages, MessageCopyState),
+    seen: &(Earlier, Messages, MessageCopyState),
 ) -> Result<Composed, Refusal>
+    requires { KeepsEarlier seen.now.0 (latest_rows past.now.last_rows) }
     ensures bytes { OnOk result
-        (Composes past.now tracker.old (tick_seeing at show seen.now) out.new) }
+        (ComposesTick past.now tracker.old at show seen.now out.new) }
     ensures state { IfOk result
-        (LeftByTick past.now tracker.old at show seen.now tracker.new) }
-    ensures lines { IfOk result
-        (λ frame. KeepsLines past.now seen.now.0 out.new frame.drawn) }
-    ensures rows { IfOk result (RowsStay past.now seen.now.0) }
+        (LeftAfter past.now tracker.old at show seen.now tracker.new) }
+    ensures lines { IfOk result (λ frame. KeepsLatest past.now out.new frame.drawn) }
+    ensures rows { IfOk result (LatestStay past.now seen.now.0) }
     ensures kept { kept_of tracker.new ≡ kept_of tracker.old }
     ensures reason { IsOkUnless result Refusal.Memory }
 {
     let (_, height) = past.options.terminal_dimensions;
     let layout = past.options.layout();
-    let (rows, messages) = (seen.0.as_slice(), seen.1.as_slice());
+    let (rows, messages) = (past.latest_rows(), seen.1.as_slice());
     let has_messages = !messages.is_empty();
-    let action = past.tick_action(show, has_messages, &seen.0);
+    let action = past.tick_action(&seen.0, show, has_messages);
     let rows_stay = past.rows_stay(action, show);
     begin_frame(out, past, layout, action)?;
     start_messages(out, layout, has_messages)?;
@@ -99,6 +106,7 @@ pub(crate) fn compose_tick(
         at,
         timer: &timer,
         rows,
+        earlier: past.lines_before(&seen.0),
     };
     let drawn = write_body(alloc, out, tracker, &scene, action, left)?;
     end_frame(out, layout, action)?;
@@ -152,6 +160,7 @@ pub(crate) fn compose_resized(
         at,
         timer: &past.timer,
         rows: past.latest_rows(),
+        earlier: past.earlier_lines(&options),
     };
     let drawn = write_body(alloc, out, tracker, &scene, action, &past.widths)?;
     end_frame(out, layout, action)?;
@@ -185,6 +194,7 @@ fn write_body(
     action: Action,
     left: &[u16],
 ) -> Result<Drawn, Refusal>
+    requires earlier { HasEarlierLines scene.now }
     ensures bytes { OnOk result
         (AppendsBody action scene.now tracker.old left.now out.old out.new) }
     ensures state { IfOk result
@@ -319,6 +329,7 @@ fn redraw_rows(
     scene: &Scene<'_>,
     widths: &[u16],
 ) -> Result<Drawn, Refusal>
+    requires earlier { HasEarlierLines scene.now }
     ensures bytes { OnOk result
         (AppendsRedraw scene.now tracker.old widths.now out.old out.new) }
     ensures state { IfOk result
@@ -352,6 +363,7 @@ fn write_fitting(
     scene: &Scene<'_>,
     widths: &[u16],
 ) -> Result<Vec<RowLine>, Refusal>
+    requires earlier { HasEarlierLines scene.now }
     ensures bytes { OnOk result
         (WritesFitting scene.now tracker.old widths.now out.old out.new) }
     ensures drawn { OnOk result (DrawsFitting scene.now tracker.old drawn.old drawn.new) }
@@ -382,6 +394,7 @@ fn write_first(
     widths: &[u16],
     parts: (&[Row], &[Row]),
 ) -> Result<Vec<RowLine>, Refusal>
+    requires earlier { HasEarlierLines scene.now }
     requires split { SplitsScene scene.now parts.0.now parts.1.now }
     requires first { DrawsFirst scene.now.options parts.1.now }
     ensures bytes { OnOk result
@@ -547,13 +560,14 @@ fn write_shown(
     widths: &[u16],
     rows: &[Row],
 ) -> Result<Vec<RowLine>, Refusal>
+    requires earlier { HasEarlierLines scene.now }
     ensures written { OnOk result (WritesRows scene.now widths.now rows.now out.old tracker.old
         drawn.old out.new tracker.new drawn.new) }
     ensures lines { IfOk result (KeepsOf scene.now rows.now out.new) }
     ensures kept { kept_of tracker.new ≡ kept_of tracker.old }
     ensures reason { IsOkUnless result Refusal.Memory }
 {
-    if scene.timer.is_some() || !scene.past.resembles(rows) {
+    if scene.timer.is_some() || !scene.earlier.resemble(rows) {
         write_rows(alloc, out, tracker, drawn, scene, widths, rows)?;
         return Ok(Vec::new(alloc));
     }
@@ -573,15 +587,15 @@ fn write_again(
     widths: &[u16],
     rows: &[Row],
 ) -> Result<Vec<RowLine>, Refusal>
-    requires { scene.now.timer.now ≡ None }
+    requires timer { scene.now.timer.now ≡ None }
+    requires earlier { HasEarlierLines scene.now }
     ensures written { OnOk result (WritesRows scene.now widths.now rows.now out.old tracker.old
         drawn.old out.new tracker.new drawn.new) }
     ensures lines { IfOk result (KeepsOf scene.now rows.now out.new) }
     ensures kept { kept_of tracker.new ≡ kept_of tracker.old }
     ensures reason { IsOkUnless result Refusal.Memory }
 {
-    let options = &scene.options;
-    let earlier = scene.past.earlier_lines(options);
+    let (options, earlier) = (&scene.options, scene.earlier);
     let mut copier = LineCopier {
         earlier,
         next: 0,

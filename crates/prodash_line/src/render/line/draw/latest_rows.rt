@@ -1,19 +1,23 @@
 //! Rows that are remembered, and the lines that they were drawn in, for the next frame to copy.
-ghost use Rattle.std.specs.Prelude.{◌≡◌, ◌≤◌, ◌<◌, length, Option, true, None, Some, IfSome, OnOk};
+ghost use Rattle.std.specs.Prelude.{◌≡◌, ◌≤◌, ◌<◌, [], length, Option, true, None, Some, IfSome, OnOk, slice_get};
 ghost use Rattle.prodash_base.specs.Rows.{phase_of, progress_of, row_of, rows_of, same_phase, same_progress};
+ghost use Rattle.prodash_base.specs.Steps.{with_steps};
 ghost use Rattle.prodash_base.specs.Units.{measure_of};
 ghost use Rattle.prodash_base.specs.declared.unit.display.Throughput.{Throughput};
-ghost use Rattle.prodash_line.specs.Renderer.{latest_rows};
-ghost use Rattle.prodash_line.specs.plumbing.KeptLines.{AddsLine, AreAlike, AreAmong, AreEarlier, DrawAlike, FindsLine, FindsLineIn, IsAlso, IsWrittenIn, ShowsNone, are_same_units, are_same_values};
+ghost use Rattle.prodash_line.specs.Renderer.{latest_rows, rows_changed};
+ghost use Rattle.prodash_line.specs.plumbing.EarlierRows.{KeepsEarlier, changed_after, rows_before, rows_seen};
+ghost use Rattle.prodash_line.specs.plumbing.KeptLines.{WasThere, drawn_in, AddsLine, AreAlike, AreAmong, AreEarlier, DrawAlike, FindsLine, FindsLineIn, IsAlso, IsWrittenIn, ShowsNone, are_same_units, are_same_values};
 
 use crate::render::line::byte_buffer::ByteBuffer;
+use crate::render::line::draw::earlier_rows::{Earlier, EarlierRows, SeenRows};
 use crate::render::line::draw::input::Options;
 use crate::render::line::draw::line_writer::LineWriter;
-use prodash_base::progress::{Row, Rows, State, Value};
+use prodash_base::progress::{Row, Rows, State, Step, Value};
 use prodash_base::unit::Unit;
 use prodash_base::unit::display::Throughput;
 use std::alloc::{AllocError, Global};
 use std::marker::Model;
+use std::mem;
 
 /// How many rows are compared to tell whether most have changed.
 const SAMPLES: usize = 8;
@@ -65,6 +69,8 @@ pub(crate) struct LatestRows {
 #[derive(Clone, Copy, Drop)]
 pub(crate) struct EarlierLines<'a> {
     rows: &'a [Row],
+    /// The steps that the rows had, those of the first ones; others had those that they have.
+    steps: &'a [Step],
     lines: &'a [RowLine],
     bytes: &'a [u8],
 }
@@ -113,12 +119,57 @@ impl LatestRows {
         }
     }
 
-    /// Replaces the rows, and drops their lines. Returns the rows that were there.
-    pub(crate) fn replace(&mut self, rows: Rows) -> Option<Rows>
-        ensures { self.new ≡ Some rows }
+    /// Remembers the rows that a tick sees, without lines. Returns what was remembered before.
+    pub(crate) fn begin(&mut self, seen: SeenRows) -> Earlier
+        ensures latest { self.new ≡ Some (rows_seen seen (latest_rows self.old)) }
+        ensures before { rows_before result.rows (latest_rows self.new) ≡ self.old }
+        ensures lines { KeepsEarlier result (latest_rows self.new) }
+    {
+        let alloc = *self.lines.allocator();
+        Earlier {
+            lines: mem::replace(&mut self.lines, Vec::new(alloc)),
+            rows: see_rows(&mut self.rows, alloc, seen),
+            bytes: mem::replace(&mut self.bytes, ByteBuffer::new(alloc)),
+            options: self.options,
+            midpoint: self.midpoint,
+        }
+    }
+
+    /// Remembers again what was remembered before these rows.
+    pub(crate) fn take_back(&mut self, earlier: Earlier)
+        requires some { self.old ≡ Some (latest_rows self.old) }
+        requires lines { KeepsEarlier earlier (latest_rows self.old) }
+        ensures { self.new ≡ rows_before earlier.rows (latest_rows self.old) }
+    {
+        take_rows_back(&mut self.rows, earlier.rows);
+        self.lines = earlier.lines;
+        self.bytes = earlier.bytes;
+        self.options = earlier.options;
+        self.midpoint = earlier.midpoint;
+    }
+
+    /// Keeps the lines of what was remembered before, as the rows are the same. Returns these rows
+    /// as they were before.
+    pub(crate) fn keep_earlier(&mut self, earlier: Earlier) -> EarlierRows
+        requires same { rows_before earlier.rows (latest_rows self.old) ≡ self.old }
+        requires lines { KeepsEarlier earlier (latest_rows self.old) }
+        ensures { self.new ≡ self.old }
+    {
+        self.lines = earlier.lines;
+        self.bytes = earlier.bytes;
+        self.options = earlier.options;
+        self.midpoint = earlier.midpoint;
+        earlier.rows
+    }
+
+    /// Takes the memory of an earlier frame's bytes for those of another. Returns the rows that were
+    /// remembered before.
+    pub(crate) fn reuse(&mut self, earlier: Earlier) -> EarlierRows
+        ensures { self.new ≡ self.old }
     {
         self.lines.clear();
-        self.rows.replace(rows)
+        self.bytes = earlier.bytes;
+        earlier.rows
     }
 
     /// Keeps the lines of the frame that was written last.
@@ -144,38 +195,138 @@ impl LatestRows {
     pub(crate) fn lines_for(&self, options: &Options, midpoint: u16) -> EarlierLines<'_>
         ensures { AreEarlier options.now midpoint result }
     {
+        let (rows, steps): (&[Row], &[Step]) = (self.as_slice(), &[]);
         if self.midpoint == midpoint && draw_alike(&self.options, options) {
             EarlierLines {
-                rows: self.as_slice(),
+                rows,
+                steps,
                 lines: self.lines.as_slice(),
                 bytes: self.bytes.as_slice(),
             }
         } else {
+            EarlierLines::none(rows, steps)
+        }
+    }
+
+    /// Returns those of what was remembered before these rows.
+    pub(crate) fn lines_before<'a>(
+        &'a self,
+        earlier: &'a Earlier,
+        options: &Options,
+        midpoint: u16,
+    ) -> EarlierLines<'a>
+        requires { KeepsEarlier earlier.now (latest_rows self.now) }
+        ensures { AreEarlier options.now midpoint result }
+    {
+        let (rows, steps): (&[Row], &[Step]) = match &earlier.rows {
+            EarlierRows::Others(None) => (&[], &[]),
+            EarlierRows::Others(Some(rows)) => (rows.as_slice(), &[]),
+            EarlierRows::Same(steps) => (self.as_slice(), steps.as_slice()),
+        };
+        if earlier.midpoint == midpoint && draw_alike(&earlier.options, options) {
             EarlierLines {
-                rows: &[],
-                lines: &[],
-                bytes: &[],
+                rows,
+                steps,
+                lines: earlier.lines.as_slice(),
+                bytes: earlier.bytes.as_slice(),
             }
+        } else {
+            EarlierLines::none(rows, steps)
+        }
+    }
+
+    /// Whether these rows differ from those that were remembered before, or there were none.
+    pub(crate) fn differ(&self, earlier: &EarlierRows) -> bool
+        ensures { result ≡ changed_after earlier.now (latest_rows self.now) }
+    {
+        match earlier {
+            EarlierRows::Others(None) => true,
+            EarlierRows::Others(Some(before)) => match &self.rows {
+                None => !before.as_slice().is_empty(),
+                Some(rows) => *before != *rows,
+            },
+            EarlierRows::Same(steps) => match &self.rows {
+                None => false,
+                Some(rows) => !rows.have_steps(steps),
+            },
+        }
+    }
+}
+
+/// Remembers the rows that a tick sees. Returns those that were remembered before.
+fn see_rows(rows: &mut Option<Rows>, alloc: Global, seen: SeenRows) -> EarlierRows
+    ensures latest { rows.new ≡ Some (rows_seen seen (latest_rows rows.old)) }
+    ensures before { rows_before result (latest_rows rows.new) ≡ rows.old }
+{
+    match seen {
+        SeenRows::All(seen) => EarlierRows::Others(rows.replace(seen)),
+        SeenRows::Steps(mut steps) => match rows {
+            Some(rows) => {
+                rows.swap_steps(&mut steps);
+                EarlierRows::Same(steps)
+            }
+            None => EarlierRows::Others(rows.replace(Rows::new(Vec::new(alloc)))),
+        },
+    }
+}
+
+/// Remembers the rows again that were remembered before.
+fn take_rows_back(rows: &mut Option<Rows>, earlier: EarlierRows)
+    requires { rows.old ≡ Some (latest_rows rows.old) }
+    ensures { rows.new ≡ rows_before earlier (latest_rows rows.old) }
+{
+    match earlier {
+        EarlierRows::Others(others) => *rows = others,
+        EarlierRows::Same(mut steps) => {
+            if let Some(rows) = rows {
+                rows.swap_steps(&mut steps);
+            }
+        }
+    }
+}
+
+impl<'a> EarlierLines<'a> {
+    /// Returns no lines of these rows, which had these steps.
+    fn none(rows: &'a [Row], steps: &'a [Step]) -> EarlierLines<'a>
+        ensures { result.lines.now ≡ [] }
+    {
+        EarlierLines {
+            rows,
+            steps,
+            lines: &[],
+            bytes: &[],
         }
     }
 
     /// Whether some of a few rows, spread over all, show their values alone, and have the progress of
     /// those in their places. If not, few lines can be copied, and lines aren't worth keeping.
     pub(crate) fn resemble(&self, rows: &[Row]) -> bool {
-        let earlier = self.as_slice();
         let step = rows.len() / SAMPLES + 1;
         let mut n = 0;
-        while n < rows.len() && n < earlier.len() {
-            if rows[n].progress == earlier[n].progress && shows_values_alone(&rows[n]) {
+        while n < rows.len() && n < self.rows.len() {
+            let (row, earlier) = (&rows[n], &self.rows[n]);
+            if row.progress == earlier.progress
+                && self.has_step(n, earlier)
+                && shows_values_alone(row)
+            {
                 return true;
             }
             n += step;
         }
         false
     }
-}
 
-impl<'a> EarlierLines<'a> {
+    /// Whether the row at an index had the step that it has, or no progress.
+    #[inline(always)]
+    fn has_step(&self, index: usize, row: &Row) -> bool
+        ensures { result ≡ true → WasThere self.now index (row_of row.now) }
+    {
+        match self.steps.get(index) {
+            None => true,
+            Some(step) => row.has_step(*step),
+        }
+    }
+
     /// Returns the line of a row, if one was drawn that is the same. `next` is the index of the line at
     /// which it is looked for first, and then that of the next row.
     #[inline(always)]
@@ -231,7 +382,12 @@ impl<'a> EarlierLines<'a> {
         ensures { result ≡ true → IsAlso self.now line.now (row_of row.now) }
     {
         match self.rows.get(line.row) {
-            Some(earlier) => are_alike(row, earlier),
+            Some(latest) => {
+                if !self.has_step(line.row, latest) {
+                    return false;
+                }
+                are_alike(row, latest)
+            }
             None => false,
         }
     }

@@ -1,22 +1,24 @@
 //! What the renderer keeps from frame to frame.
-ghost use Rattle.std.specs.Prelude.{◌≡◌, Bool, List, [], true, false, Some, IfSome, IfOk, IsOkUnless};
+ghost use Rattle.std.specs.Prelude.{◌≡◌, Bool, List, Option, [], true, false, Some, IfSome, IfOk, IsOkUnless};
 ghost use Rattle.prodash_base.specs.Rows.{PathRow, rows_of};
 ghost use Rattle.prodash_base.specs.Timers.{timer_after};
 ghost use Rattle.std.specs.Option.{option_map};
 ghost use Rattle.prodash_line.specs.Renderer.{IsEndRefusal, new_renderer, rows_changed, draws_again, any_goes_on, times_go_on, is_drawn, erases_at_end, closes_at, hides_cursor, is_cursor_hidden, latest_rows, resized, tick_action, resize_action, answer_of};
 ghost use Rattle.prodash_line.specs.plumbing.FrameWriting.{KeepsLines, RowsStay, keeping, remembering};
+ghost use Rattle.prodash_line.specs.plumbing.EarlierRows.{KeepsEarlier, KeepsLatest, LatestStay, SawThem, action_after, before_rows, drawn_after, rows_seen};
 ghost use Rattle.prodash_line.specs.plumbing.KeptLines.{AreAmong, AreEarlier};
 ghost use Rattle.prodash_line.specs.Tracking.{kept_of};
 ghost use Rattle.prodash_base.specs.Rings.{keep_last};
 
 use crate::render::line::draw::action::{Action, Composed, Drawn};
+use crate::render::line::draw::earlier_rows::{Earlier, EarlierRows, SeenRows};
 use crate::render::line::draw::input::{Answer, Options};
 use crate::render::line::draw::latest_rows::{EarlierLines, LatestRows, RowLine};
 use crate::render::line::draw::line_writer::LineWriter;
 use crate::render::line::draw::row::is_row_drawn;
 use prodash_base::Refusal;
 use prodash_base::messages::{MessageCopyState, Messages};
-use prodash_base::progress::{Level, Row, Rows};
+use prodash_base::progress::{Level, Row, Rows, Step};
 use prodash_base::throughput::FrameThroughput;
 use prodash_base::time::Moment;
 use prodash_base::timing::{Timer, goes_on};
@@ -54,6 +56,8 @@ pub(crate) struct Past {
     /// The rows that were remembered before those, kept only for their memory. Contracts don't see
     /// them.
     spare_rows: Option<Rows>,
+    /// The steps that those rows had before, kept only for their memory. Contracts don't see them.
+    spare_steps: Option<Vec<Step>>,
     /// The messages that were printed last, kept only for their memory. Contracts don't see them.
     spare_messages: Option<Messages>,
     /// The widths of the latest origins, at most as many as the terminal has rows.
@@ -183,6 +187,13 @@ impl State {
         self.past.ended()
     }
 
+    /// Returns the rows at the latest accepted tick with a root, `None` before the first.
+    pub fn rows(&self) -> &Option<Rows>
+        ensures { result.now ≡ self.now.last_rows }
+    {
+        self.past.last_rows.rows()
+    }
+
     /// Takes rows that are no longer remembered and messages that have been printed, or empty lists
     /// if there are none. The rows and messages of the next tick may reuse their memory.
     pub fn take_spare(&mut self, alloc: Global) -> (Rows, Messages)
@@ -191,6 +202,21 @@ impl State {
         let (rows, messages) = (self.past.spare_rows.take(), self.past.spare_messages.take());
         (
             rows.unwrap_or_else(|| Rows::new(Vec::new(alloc))),
+            messages.unwrap_or_else(|| Messages::new(Vec::new(alloc))),
+        )
+    }
+
+    /// Takes steps that are no longer remembered and messages that have been printed, or empty lists
+    /// if there are none. The steps and messages of the next tick may reuse their memory.
+    pub fn take_spare_steps(&mut self, alloc: Global) -> (Vec<Step>, Messages)
+        ensures { self.new ≡ self.old }
+    {
+        let (steps, messages) = (
+            self.past.spare_steps.take(),
+            self.past.spare_messages.take(),
+        );
+        (
+            steps.unwrap_or_else(|| Vec::new(alloc)),
             messages.unwrap_or_else(|| Messages::new(Vec::new(alloc))),
         )
     }
@@ -218,6 +244,7 @@ impl Past {
             last_progress_midpoint: 0,
             last_rows: LatestRows::new(alloc, options, None),
             spare_rows: None,
+            spare_steps: None,
             spare_messages: None,
             origin_widths: Vec::new(alloc),
             seen: None,
@@ -243,6 +270,7 @@ impl Past {
             last_progress_midpoint: self.last_progress_midpoint,
             last_rows: LatestRows::new(alloc, self.options, self.last_rows.rows().clone()?),
             spare_rows: None,
+            spare_steps: None,
             spare_messages: None,
             origin_widths: self.origin_widths.clone()?,
             seen: self.seen,
@@ -261,15 +289,24 @@ impl Past {
         self.ending.map(Ending::refusal)
     }
 
-    /// Whether these rows differ from those that the latest accepted tick with a root saw, or there
-    /// was no such tick.
-    fn rows_changed(&self, rows: &Rows) -> bool
-        ensures { result ≡ rows_changed self.now.last_rows rows.now }
+    /// Remembers the rows that a tick sees. Returns what was remembered before.
+    pub(crate) fn begin_tick(&mut self, seen: SeenRows) -> Earlier
+        ensures latest { self.new ≡ record self.old {
+          last_rows = Some (rows_seen seen (latest_rows self.old.last_rows));
+        } }
+        ensures before { before_rows result self.new ≡ self.old }
+        ensures lines { KeepsEarlier result (latest_rows self.new.last_rows) }
     {
-        match self.last_rows.rows() {
-            None => true,
-            Some(before) => *before != *rows,
-        }
+        self.last_rows.begin(seen)
+    }
+
+    /// Remembers again what was remembered before the rows of a tick.
+    pub(crate) fn take_back(&mut self, earlier: Earlier)
+        requires some { self.old.last_rows ≡ Some (latest_rows self.old.last_rows) }
+        requires lines { KeepsEarlier earlier (latest_rows self.old.last_rows) }
+        ensures { self.new ≡ before_rows earlier self.old }
+    {
+        self.last_rows.take_back(earlier);
     }
 
     /// Whether a tick has to draw rows that haven't changed: its frame erases rows, and it prints
@@ -281,37 +318,40 @@ impl Past {
     }
 
     /// Whether times go on: they are shown, and that of a row goes on that is drawn.
-    fn times_go_on(&self, rows: &Rows) -> bool
-        ensures { result ≡ times_go_on self.now.options rows.now }
+    fn times_go_on(&self) -> bool
+        ensures { result ≡ times_go_on self.now.options (latest_rows self.now.last_rows) }
     {
-        self.options.times && any_goes_on(self.options.level_filter, rows.as_slice())
+        self.options.times && any_goes_on(self.options.level_filter, self.latest_rows())
     }
 
-    /// Whether a tick draws these rows: they are shown on a terminal, and they have changed, their
-    /// times go on, or they must be drawn again. `printed` says whether the tick prints messages.
-    fn draws_rows(&self, show: bool, printed: bool, rows: &Rows) -> bool
-        ensures { result ≡ is_drawn self.now show printed rows.now }
+    /// Whether a tick draws the rows, before which these were remembered: they are shown on a
+    /// terminal, and they have changed, their times go on, or they must be drawn again. `printed`
+    /// says whether the tick prints messages.
+    fn draws_rows(&self, earlier: &Earlier, show: bool, printed: bool) -> bool
+        ensures { result ≡ drawn_after earlier.now self.now show printed }
     {
         show && self.options.output_is_terminal
-            && (self.draws_again(printed) || self.times_go_on(rows) || self.rows_changed(rows))
+            && (self.draws_again(printed)
+                || self.times_go_on()
+                || self.last_rows.differ(&earlier.rows))
     }
 
-    /// Whether a tick that sees these rows closes the renderer: there are none, and the renderer
-    /// isn't to keep running.
-    fn closes_at(&self, rows: &Rows) -> bool
-        ensures { result ≡ closes_at self.now rows.now }
+    /// Whether a tick that saw the rows closes the renderer: there are none, and the renderer isn't
+    /// to keep running.
+    fn closes_at(&self) -> bool
+        ensures { result ≡ closes_at self.now (latest_rows self.now.last_rows) }
     {
-        !self.options.keep_running_if_progress_is_empty && rows.as_slice().is_empty()
+        !self.options.keep_running_if_progress_is_empty && self.latest_rows().is_empty()
     }
 
-    /// Returns what the frame of a tick that sees these rows does after its messages. `printed`
-    /// says whether there are any.
-    pub(crate) fn tick_action(&self, show: bool, printed: bool, rows: &Rows) -> Action
-        ensures { result ≡ tick_action self.now show printed rows.now }
+    /// Returns what the frame of a tick does after its messages, if it saw the rows, before which
+    /// these were remembered. `printed` says whether there are messages.
+    pub(crate) fn tick_action(&self, earlier: &Earlier, show: bool, printed: bool) -> Action
+        ensures { result ≡ action_after earlier.now self.now show printed }
     {
-        if self.closes_at(rows) {
+        if self.closes_at() {
             Action::Close
-        } else if self.draws_rows(show, printed, rows) {
+        } else if self.draws_rows(earlier, show, printed) {
             Action::Redraw
         } else if self.options.erases_rows() && printed {
             Action::Erase
@@ -322,9 +362,7 @@ impl Past {
 
     /// Whether a tick with this action saw the rows of the tick before: it would draw others.
     pub(crate) fn rows_stay(&self, action: Action, show: bool) -> bool
-        ensures { (printed : Bool) (rows : List PathRow)
-            → action ≡ tick_action self.now show printed rows
-            → result ≡ true → self.now.last_rows ≡ Some rows }
+        ensures { result ≡ true → SawThem action self.now show }
     {
         match action {
             Action::Leave => show && self.options.output_is_terminal,
@@ -403,9 +441,13 @@ impl Past {
         self.last_rows.as_slice()
     }
 
-    /// Whether some of a few rows, spread over all, were the same at the latest accepted tick.
-    pub(crate) fn resembles(&self, rows: &[Row]) -> bool {
-        self.last_rows.resemble(rows)
+    /// Returns the lines of the frame before the rows of a tick that the frame of the tick may copy.
+    pub(crate) fn lines_before<'a>(&'a self, earlier: &'a Earlier) -> EarlierLines<'a>
+        requires { KeepsEarlier earlier.now (latest_rows self.now.last_rows) }
+        ensures { AreEarlier self.now.options self.now.midpoint result }
+    {
+        self.last_rows
+            .lines_before(earlier, &self.options, self.last_progress_midpoint)
     }
 
     /// Returns the lines of the latest frame that one with these options may copy.
@@ -423,26 +465,29 @@ impl Past {
         self.cursor_hidden = self.is_cursor_hidden();
     }
 
-    /// Records what the written frame of a tick left, and what the tick saw of the tree: rows, and
-    /// messages, which are printed now. A closing frame ends the renderer. Returns the answer to
-    /// the tick.
+    /// Records what the written frame of a tick left, and what the tick saw of the tree besides the
+    /// rows: messages, which are printed now. A closing frame ends the renderer. Returns the answer
+    /// to the tick.
     pub(crate) fn remember_tick(
         &mut self,
         frame: Composed,
         bytes: &mut LineWriter,
-        rows: Rows,
+        earlier: Earlier,
         messages: Messages,
         seen: MessageCopyState,
     ) -> Answer
-        requires lines { KeepsLines self.old rows bytes.old frame.drawn }
-        requires rows { RowsStay self.old rows frame }
-        ensures state { self.new ≡ remembering frame rows seen self.old }
+        requires some { self.old.last_rows ≡ Some (latest_rows self.old.last_rows) }
+        requires lines { KeepsLatest self.old bytes.old frame.drawn }
+        requires rows { LatestStay self.old earlier frame }
+        requires earlier { KeepsEarlier earlier (latest_rows self.old.last_rows) }
+        ensures state { self.new
+            ≡ remembering frame (latest_rows self.old.last_rows) seen self.old }
         ensures answer { result ≡ answer_of frame.drawn.action }
     {
         let (action, rows_stay) = (frame.drawn.action, frame.rows_stay);
         let midpoint = self.midpoint();
         let lines = self.keep_drawn(frame.drawn);
-        self.keep_rows(rows_stay, rows, midpoint, lines, bytes);
+        self.keep_rows(rows_stay, earlier, midpoint, lines, bytes);
         self.spare_messages = Some(messages);
         self.origin_widths = frame.origin_widths;
         self.seen = Some(seen);
@@ -456,26 +501,37 @@ impl Past {
         }
     }
 
-    /// Remembers the rows of a tick, and the lines of its frame, in which values are brought to this
-    /// midpoint. If `rows_stay`, the same rows are remembered already, and their lines are kept.
+    /// Keeps the lines of the frame of a tick, in which values are brought to this midpoint. If
+    /// `rows_stay`, the rows are those that were remembered before, and their lines are kept.
     fn keep_rows(
         &mut self,
         rows_stay: bool,
-        rows: Rows,
+        earlier: Earlier,
         midpoint: u16,
         lines: Vec<RowLine>,
         frame: &mut LineWriter,
     )
-        requires rows { rows_stay ≡ true → self.old.last_rows ≡ Some rows }
-        requires lines { AreAmong self.old.options midpoint rows frame.old.bytes lines.items }
-        ensures { self.new ≡ record self.old { last_rows = Some rows } }
+        requires rows { rows_stay ≡ true
+            → (before_rows earlier self.old).last_rows ≡ self.old.last_rows }
+        requires earlier { KeepsEarlier earlier (latest_rows self.old.last_rows) }
+        requires lines { AreAmong self.old.options midpoint (latest_rows self.old.last_rows)
+            frame.old.bytes lines.items }
+        ensures { self.new ≡ self.old }
     {
-        if rows_stay {
-            self.spare_rows = Some(rows);
-            return;
+        let before = if rows_stay {
+            self.last_rows.keep_earlier(earlier)
+        } else {
+            let before = self.last_rows.reuse(earlier);
+            self.keep_lines(midpoint, lines, frame);
+            before
+        };
+        match before {
+            EarlierRows::Others(rows) => self.spare_rows = rows,
+            EarlierRows::Same(steps) => {
+                self.spare_rows = None;
+                self.spare_steps = Some(steps);
+            }
         }
-        self.spare_rows = self.last_rows.replace(rows);
-        self.keep_lines(midpoint, lines, frame);
     }
 
     /// Keeps the lines of the frame that was written last, in which values are brought to this

@@ -42,6 +42,9 @@ drawing_is c =
 left_is : (c : goal.In_ok-end_frame) → c.deref.result.now ≡ c.args.past.now.widths
 left_is c = c.deref.ensures.value ∙ ap (λ (x : Renderer). x.widths) c.past.view_is
 
+pub write_body-requires : goal.write_body-requires
+write_body-requires c = record { earlier = c.earlier_lines.ensures }
+
 pub returns-clause-bytes : goal.returns-clause-bytes
 returns-clause-bytes c =
     let r = whole c in

@@ -28,7 +28,7 @@ rows-preserved c =
     let known = c.in-Some.ensures.lookup in
     let drawn : DrawnRow = (row_of row, c.in_ok-throughput.throughput) in
     let line = line_in scene drawn in
-    let same : untimed_line o aligned drawn ≡ line = ap (λ timer. drawn_row_line o aligned (times_at timer scene.at) drawn) (sym c.requires) in
+    let same : untimed_line o aligned drawn ≡ line = ap (λ timer. drawn_row_line o aligned (times_at timer scene.at) drawn) (sym c.requires.timer) in
     let size = c.in_ok-size.ensures.size in
     let bytes = c.in_ok-size.ensures.bytes in
     let width = c.split_first_width-old_width.result.0 in
@@ -38,7 +38,7 @@ rows-preserved c =
     let first : filtered o.level_filter (rows_of (drop n rows)) ≡ row_of row ∷ filtered o.level_filter (rows_of (drop (n + 1) rows)) =
     filtered_from o.level_filter rows n row known.3.0 known.1 (sym c.is_row_drawn.ensures ∙ c.if-not-is_row_drawn.false) in
     let found : slice_get rows n ≡ Some row = slice_get_read rows _ n row refl known.3.0 known.1 in
-    let run = c.in_ok-next.ensures.run scene c.requires refl c.rows.invariant.earlier in
+    let run = c.in_ok-next.ensures.run scene c.requires.timer refl c.rows.invariant.earlier in
     let begun : RowsLeft = left_at rows c.rows.tracker (c.rows.at.index, c.rows.at.widths.now) c.rows.out.bytes c.rows.drawn in
     let now : RowsLeft = left_at rows c.rows.tracker (n, left) out c.copy_run.new.drawn in
     let next : RowsLeft = left_at rows c.observe_row.new.tracker (n + 1, c.split_first_width-old_width.result.1.now) new
@@ -67,7 +67,7 @@ rows-preserved-then-not-is_row_drawn c =
     let row = c.in-Some.row.now in
     let known = c.in-Some.ensures.lookup in
     let found : slice_get rows n ≡ Some row = slice_get_read rows _ n row refl known.3.0 known.1 in
-    let run = c.in_ok-next.ensures.run scene c.requires refl c.rows.invariant.earlier in
+    let run = c.in_ok-next.ensures.run scene c.requires.timer refl c.rows.invariant.earlier in
     let begun : RowsLeft = left_at rows c.rows.tracker (c.rows.at.index, c.rows.at.widths.now) c.rows.out.bytes c.rows.drawn in
     let now : RowsLeft = left_at rows c.rows.tracker (n, left) c.copy_run.new.out.bytes c.copy_run.new.drawn in
     record {
@@ -79,6 +79,6 @@ rows-preserved-then-not-is_row_drawn c =
 
 pub write_line-requires : goal.write_line-requires
 write_line-requires c = record {
-  timer = c.requires;
-  earlier = c.find.ensures c.args.scene.now.options c.args.scene.now.past.now.midpoint c.earlier_lines-earlier.ensures;
+  timer = c.requires.timer;
+  earlier = c.find.ensures c.args.scene.now.options c.args.scene.now.past.now.midpoint c.requires.earlier;
 }

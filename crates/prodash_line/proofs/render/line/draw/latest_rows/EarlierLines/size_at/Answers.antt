@@ -3,8 +3,8 @@ use Rattle.std.proofs.Common.{◌≡◌, arith, refl, ap, subst, sym, ◌∙◌}
 use Rattle.std.specs.Prelude.{Some, slice_get}
 use Rattle.std.proofs.lemmas.List.Elements.{All-get_or}
 use Rattle.std.proofs.lemmas.Option.{slice_get_read}
-use Rattle.prodash_base.specs.Rows.{row_of, rows_of}
-use Rattle.prodash_line.specs.plumbing.KeptLines.{IsAmong}
+use Rattle.prodash_base.specs.Rows.{row_of}
+use Rattle.prodash_line.specs.plumbing.KeptLines.{IsAmong, drawn_in}
 use Rattle.prodash_line.proofs.KeptLines.{written_over}
 use Rattle.prodash_line.proofs.render.line.draw.latest_rows.EarlierLines.size_at.Goals as goal
 
@@ -21,7 +21,7 @@ returns-clause-line c =
     record {
       fits = omega (arith, ends, within);
       written = λ options midpoint earlier.
-          let among = subst (IsAmong options midpoint (rows_of e.rows.now) e.bytes.now) (sym found.1) (All-get_or (IsAmong options midpoint (rows_of e.rows.now) e.bytes.now) e.lines.now c.args.index line found.3.0 earlier) in
+          let among = subst (IsAmong options midpoint (drawn_in e) e.bytes.now) (sym found.1) (All-get_or (IsAmong options midpoint (drawn_in e) e.bytes.now) e.lines.now c.args.index line found.3.0 earlier) in
           written_over options midpoint (row_of c.args.row.now) c.args.old_width e.bytes.now line c.args.start c.in_ok-end.end
           (c.is_line_of.ensures c.if-not-is_line_of.false options midpoint among) c.if-line-start.false ends feed c.if-line-old_width.false;
     }

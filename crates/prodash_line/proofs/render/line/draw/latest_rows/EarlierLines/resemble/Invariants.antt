@@ -1,6 +1,6 @@
 use Rattle.std.proofs.Common.{◌-◌, length}
 use Rattle.std.specs.Prelude.{⊤}
-use Rattle.prodash_line.proofs.render.line.draw.latest_rows.LatestRows.resemble.Given as goal
+use Rattle.prodash_line.proofs.render.line.draw.latest_rows.EarlierLines.resemble.Given as goal
 
 abbrev pub invariant-loop-n : goal.invariant-loop-n
 invariant-loop-n l = ⊤
