@@ -1,7 +1,11 @@
 -- How many turns a call takes, and what a turn of a runtime finds and leaves.
-use Rattle.std.proofs.Common.{◌≡◌, Bool, Option, is_some, sym, subst, List, [], ◌∷◌, Result, Ok, Err, IfOk, OnOk, OnErr, ◌⊎◌, inl, inr}
+use Rattle.std.proofs.Common.{◌≡◌, ℕ, Bool, Option, Some, None, is_some, sym, subst, List, [], ◌∷◌, Result, Ok, Err, IfOk, OnOk, OnErr, ◌⊎◌, inl, inr}
+use Rattle.std.specs.Global.{Vec}
+use Rattle.prodash_base.specs.Rows.{PathRow}
+use Rattle.prodash_base.specs.Steps.{OfSeenSteps}
+use Rattle.prodash_base.specs.declared.messages.Message.{Message}
 use Rattle.prodash_base.specs.declared.refusal.Refusal.{Refusal}
-use Rattle.prodash.specs.Turns.{OfTurn, Finds, Changes, Stays, Upgrades}
+use Rattle.prodash.specs.Turns.{OfTurn, Finds, HasRowsAndNews, HasSteps, Changes, Stays, Upgrades}
 use Rattle.prodash.specs.plumbing.CountedTurns.{OfTaken, OfHeld, Change, BeginsTurn, EndsTurn, TakesNone, TakesOne, TakesAtMostOne, LooksOnce, OrStays, Gives, Shows, UpgradesOrStays, WereTaken}
 use Rattle.prodash.specs.declared.tree.locked.LockedTree.{LockedTree}
 
@@ -76,5 +80,13 @@ pub finds_if_ok : {T A : Type 0} (before after : T) (found left : OfTurn) (r : R
     → LooksOnce (OfRuntime T found left) before after (Gives r fact) → IfOk r (λ x. Finds found (fact x))
 finds_if_ok before after found left (Ok x) fact one = finds before after found left (fact x) one
 finds_if_ok before after found left (Err e) fact one = tt
+
+-- a look that was handed rows found them with these steps, if it returned steps
+pub finds_steps : (found : OfTurn) (rows : List PathRow) (previous : Option ℕ) (r : Result (Option (Vec ℕ × List Message × ℕ)) Refusal)
+    → IfOk r (λ steps. Finds found (HasSteps rows previous steps))
+    → IfOk r (OfSeenSteps (λ listed messages sent. Finds found (HasRowsAndNews previous listed messages sent)) rows)
+finds_steps found rows previous (Ok (Some seen)) h = h
+finds_steps found rows previous (Ok None) h = tt
+finds_steps found rows previous (Err e) h = tt
 
 pub ruleset taking = (takes_one, at_most_one, takes_no_turn)

@@ -1,8 +1,10 @@
 -- Turns at the lock of a tree: what one thread finds there, and what it leaves.
-use Rattle.std.specs.Prelude.{◌≡◌, ℕ, Bool, cond, not, nat_eq, List, [], Option}
+use Rattle.std.specs.Prelude.{◌≡◌, ℕ, Bool, cond, not, nat_eq, List, [], Option, Some, None}
+use Rattle.std.specs.Global.{Vec}
 use Rattle.std.specs.FinMap as finite
 use Rattle.prodash_base.specs.Path.{Path, child}
 use Rattle.prodash_base.specs.Rows.{PathRow, Phase, rows_of}
+use Rattle.prodash_base.specs.Steps.{OfNoSteps, with_steps}
 use Rattle.prodash_base.specs.Rings.{messages_since}
 use Rattle.prodash_base.specs.declared.progress.Row.{Row}
 use Rattle.prodash_base.specs.declared.messages.Message.{Message}
@@ -53,6 +55,13 @@ HasNews previous messages sent tree =
 abbrev pub HasRowsAndNews : Option ℕ → List PathRow → List Message → ℕ → LockedTree → Type 0
 HasRowsAndNews previous rows messages sent tree =
     HasRows rows tree × HasNews previous messages sent tree
+
+-- what a look returned that was handed rows: with the steps they are those of the tree, and so are the messages;
+-- if it returned nothing, they aren't with any steps
+abbrev pub HasSteps : List PathRow → Option ℕ → Option (Vec ℕ × List Message × ℕ) → LockedTree → Type 0
+HasSteps rows previous None tree = OfNoSteps (λ listed. HasRows listed tree) rows
+HasSteps rows previous (Some seen) tree =
+    HasRowsAndNews previous (with_steps seen.0.items rows) seen.1 seen.2 tree
 
 -- One turn found a tree with these rows and messages. It is known of the rows as they are copied.
 abbrev pub CopiesRowsAndNews : OfTurn → Option ℕ → List Row → List Message → ℕ → Type 0

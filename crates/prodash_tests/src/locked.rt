@@ -310,6 +310,46 @@ fn deep_clones_are_apart(rt: HostRuntime) {
     assert_same(&rt, copy.num_tasks(), 1, "tasks");
 }
 
+/// Asserts that a look over the row of a task finds this step, or that more of the row has changed.
+fn assert_step_over<R: Wait + Clone + Drop>(
+    rt: &impl Abort,
+    alloc: Global,
+    root: &Root<R>,
+    rows: &Rows,
+    step: Option<u64>,
+) {
+    let spare = (Vec::new(alloc), Messages::new(Vec::new(alloc)));
+    let found = root
+        .look_at_steps(rows, spare, None)
+        .expect(rt, "no refusal");
+    let first = match found {
+        Some((steps, _messages, _state)) => steps.first().copied(),
+        None => None,
+    };
+    assert_same(rt, first, step, "step");
+}
+
+/// A look over rows finds their steps as long as nothing else of them has changed.
+#[test]
+fn looks_over_rows_find_steps(rt: HostRuntime) {
+    let alloc: Global = rt.alloc();
+    let (root, mut item) = root_with_task(rt, alloc);
+    item.init(Some(10), None);
+    let spare = (Rows::new(Vec::new(alloc)), Messages::new(Vec::new(alloc)));
+    let (rows, _messages, _state) = root.look(spare, None).expect(&rt, "no refusal");
+    item.set(4);
+    assert_step_over(&rt, alloc, &root, &rows, Some(4));
+    item.set_max(Some(11));
+    assert_step_over(&rt, alloc, &root, &rows, None);
+    item.set_max(Some(10));
+    assert_step_over(&rt, alloc, &root, &rows, Some(4));
+    let part = item.add_child(alloc, "part").expect(&rt, "no refusal");
+    assert_step_over(&rt, alloc, &root, &rows, None);
+    drop(part);
+    drop(item);
+    drop(root);
+}
+
 /// How many messages a thread sends.
 const SENT_BY_EACH: u64 = 200;
 

@@ -52,6 +52,7 @@ mod line {
 mod draw {
     pub use prodash::render::line::draw::{
         Answer, Input, MemoryScreen, Options, OverWrite, Screen, State, all, safe_char,
+        tick_with_steps,
     };
 }
 

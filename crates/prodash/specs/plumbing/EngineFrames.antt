@@ -1,13 +1,17 @@
 -- What an engine hands to its renderer: the options of frames, and an input.
-use Rattle.std.specs.Prelude.{Result}
+use Rattle.std.specs.Prelude.{ℕ, List, Option, Some, Result}
+use Rattle.std.specs.Global.{Vec}
+use Rattle.prodash_base.specs.Rows.{PathRow}
+use Rattle.prodash_base.specs.Steps.{OfSeenSteps}
+use Rattle.prodash_base.specs.declared.messages.Message.{Message}
 use Rattle.prodash_base.specs.declared.refusal.Refusal.{Refusal}
 use Rattle.prodash_line.specs.declared.render.line.draw.input.Input.{Input}
 use Rattle.prodash_line.specs.declared.render.line.draw.input.Answer.{Answer}
 use Rattle.prodash_line.specs.declared.render.line.draw.input.Options.{Options as DrawOptions}
-use Rattle.prodash_line.specs.Renderer.{Renders}
+use Rattle.prodash_line.specs.Renderer.{Renderer, Renders, latest_rows}
 use Rattle.prodash_line.specs.Screens.{ScreenState}
 use Rattle.prodash.specs.declared.render.line.engine.options.Options.{Options}
-use Rattle.prodash.specs.Engines.{EngineState}
+use Rattle.prodash.specs.Engines.{EngineState, Looks, ShownBy}
 
 -- those of the options that decide what a frame is
 abbrev pub draw_options : Options → DrawOptions
@@ -28,6 +32,14 @@ draw_options o = record {
   times = o.times;
   prefer_running = o.prefer_running;
 }
+
+-- what one look at a root shows to a renderer
+abbrev pub SeesRoot : {Root : Type 0} → Looks Root → Root → Renderer → List PathRow × List Message × ℕ → Type 0
+SeesRoot looks root r seen = ShownBy looks (Some root) r.seen (Some seen)
+
+-- the same of a look that returned the steps of the remembered rows, if it returned any
+abbrev pub SeesSteps : {Root : Type 0} → Looks Root → Root → Renderer → Option (Vec ℕ × List Message × ℕ) → Type 0
+SeesSteps looks root r = OfSeenSteps (λ rows messages sent. SeesRoot looks root r (rows, messages, sent)) (latest_rows r.last_rows)
 
 module _ {S W : Type 0} where
   -- what an engine returns for an input, and what it leaves of the renderer and the screen

@@ -1,5 +1,5 @@
 //! What the lock of a tree protects, and the calls on it, made by the thread that holds the lock.
-ghost use Rattle.std.specs.Prelude.{◌≡◌, ◌↔◌, ◌-◌, [], Err, OnOk, OnErr, IfOk, IfErr, is_some, option_map, string_bytes, IsOkUnless};
+ghost use Rattle.std.specs.Prelude.{◌≡◌, ◌↔◌, ◌-◌, [], Err, OnOk, OnErr, IfOk, IfSome, IfErr, is_some, option_map, string_bytes, IsOkUnless};
 ghost use Rattle.std.specs.FinMap as finite;
 ghost use Rattle.std.specs.Map.{keys_of};
 ghost use Rattle.prodash_base.specs.Adjacency.{IsAscending, paths_of};
@@ -7,8 +7,9 @@ ghost use Rattle.prodash_base.specs.Path.{child};
 ghost use Rattle.prodash_base.specs.Refusals.{RefusesMessage};
 ghost use Rattle.prodash_base.specs.Rings.{new_ring, messages_since};
 ghost use Rattle.prodash_base.specs.Rows.{rows_of};
+ghost use Rattle.prodash_base.specs.Steps.{StepsAscend};
 ghost use Rattle.prodash.specs.Locks.{InsertsTask, InsertsChild, ListsTasks, name_in, begun_at};
-ghost use Rattle.prodash.specs.Turns.{Sends};
+ghost use Rattle.prodash.specs.Turns.{HasSteps, Sends};
 ghost use Rattle.prodash.specs.plumbing.LockedCalls.{NoSlots, SameFreeSlots, Removes, ChangesNothing, IsAtMessageLimit};
 
 use crate::messages::{MessageCopyState, MessageLevel, MessageRingBuffer, Messages};
@@ -190,6 +191,26 @@ impl LockedTree {
         let rows = self.table.rows_reusing(&self.slots, spare_rows)?;
         let (messages, state) = self.ring.new_messages(spare_messages, previous)?;
         Ok((rows, messages, state))
+    }
+
+    /// Returns what `look` returns, with the steps of the rows in place of the rows, if the rows are
+    /// these but for their steps. The memory of `spare` is reused, whatever it contains.
+    pub(crate) fn look_at_steps(
+        &self,
+        rows: &Rows,
+        spare: (Vec<Step>, Messages),
+        previous: Option<MessageCopyState>,
+    ) -> Result<Option<(Vec<Step>, Messages, MessageCopyState)>, Refusal>
+        ensures ascending { IfOk result (StepsAscend rows.now) }
+        ensures seen { IfOk result (λ found. HasSteps rows.now previous found self.now) }
+        ensures reason { IsOkUnless result Refusal.Memory }
+    {
+        let (spare_steps, spare_messages) = spare;
+        let Some(steps) = self.table.steps_over(&self.slots, rows, spare_steps)? else {
+            return Ok(None);
+        };
+        let (messages, state) = self.ring.new_messages(spare_messages, previous)?;
+        Ok(Some((steps, messages, state)))
     }
 
     /// Begins the progress of the task at a key, whose item has a slot. Returns whether there is a

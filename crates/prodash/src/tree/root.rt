@@ -1,15 +1,16 @@
 //! Owners of the tree.
-ghost use Rattle.std.specs.Prelude.{◌≡◌, ◌<◌, ℕ, [], is_some, IfOk, IfErr, OnOk, OnErr, IsOkUnless};
+ghost use Rattle.std.specs.Prelude.{◌≡◌, ◌<◌, ℕ, [], is_some, IfOk, IfSome, IfErr, OnOk, OnErr, IsOkUnless};
 ghost use Rattle.std.specs.Map.{keys_of};
 ghost use Rattle.prodash_base.specs.Refusals.{RefusesHandle};
 ghost use Rattle.prodash_base.specs.Adjacency.{IsAscending, paths_of};
 ghost use Rattle.prodash_base.specs.Path.{child, child_limit};
 ghost use Rattle.prodash.specs.Items.{new_place};
 ghost use Rattle.prodash_base.specs.Rows.{rows_of, unknown_id};
-ghost use Rattle.prodash.specs.Turns.{Finds, Changes, HasTasks, KeepsAtMost, HasRows, HasMessages, HasNews, HasRowsAndNews, CopiesRowsAndNews, AddsChild, GetsOwner, Upgrades};
+ghost use Rattle.prodash_base.specs.Steps.{StepsAscend};
+ghost use Rattle.prodash.specs.Turns.{Finds, Changes, HasTasks, KeepsAtMost, HasRows, HasMessages, HasNews, HasRowsAndNews, HasSteps, CopiesRowsAndNews, AddsChild, GetsOwner, Upgrades};
 
 use crate::messages::{Message, MessageCopyState, Messages};
-use crate::progress::{Id, Row, Rows, UNKNOWN};
+use crate::progress::{Id, Row, Rows, Step, UNKNOWN};
 use crate::tree::item::Item;
 use crate::tree::locked::LockedTree;
 use crate::tree::shared_tree::SharedTree;
@@ -235,6 +236,30 @@ impl<R: TakesTurns> Root<R> {
         let rows = spare_rows::resized(rows, self.num_tasks())?;
         self.tree
             .look(&mut Turns::new(&self.rt), (rows, messages), previous)
+    }
+
+    /// Returns what `look` returns, with the steps of the rows in place of the rows, if the rows are
+    /// these but for their steps: the first step is that of the first row. Returns `None` if they
+    /// aren't, since tasks came, went or were changed otherwise. It reuses the memory of `spare`,
+    /// whatever it contains, and takes memory for further steps before it takes the lock.
+    ///
+    /// # Errors
+    ///
+    /// `Memory`, if there is no memory for the steps or the copies.
+    pub fn look_at_steps(
+        &self,
+        rows: &Rows,
+        spare: (Vec<Step>, Messages),
+        previous: Option<MessageCopyState>,
+    ) -> Result<Option<(Vec<Step>, Messages, MessageCopyState)>, Refusal>
+        ensures ok { IfOk result (λ found. Finds R.found (HasSteps rows.now previous found)) }
+        ensures ascending { IfOk result (StepsAscend rows.now) }
+        ensures reason { IsOkUnless result Refusal.Memory }
+    {
+        let (mut steps, messages) = spare;
+        steps.clear();
+        steps.reserve(rows.as_slice().len())?;
+        self.tree.look_at_steps(&mut Turns::new(&self.rt), rows, (steps, messages), previous)
     }
 
     /// Returns an owner of a copy of the tree, with the same tasks, messages and capacity. Its

@@ -1,17 +1,18 @@
 //! The locked tree, without a runtime.
-ghost use Rattle.std.specs.Prelude.{◌≡◌, ◌↔◌, ◌<◌, ℕ, [], Err, is_some, IfOk, IfErr, OnOk, OnErr, IsOkUnless};
+ghost use Rattle.std.specs.Prelude.{◌≡◌, ◌↔◌, ◌<◌, ℕ, [], Err, is_some, IfOk, IfSome, IfErr, OnOk, OnErr, IsOkUnless};
 ghost use Rattle.std.specs.Map.{keys_of};
 ghost use Rattle.prodash_base.specs.Refusals.{RefusesHandle};
 ghost use Rattle.prodash_base.specs.Adjacency.{IsAscending, paths_of};
 ghost use Rattle.prodash_base.specs.Path.{child, child_limit};
+ghost use Rattle.prodash_base.specs.Steps.{StepsAscend};
 ghost use Rattle.prodash.specs.Items.{new_place};
 ghost use Rattle.prodash.specs.Locks.{with_owner};
-ghost use Rattle.prodash.specs.Turns.{HasTasks, KeepsAtMost, HasMessages, HasNews, AddsChild, GetsOwner, Upgrades};
+ghost use Rattle.prodash.specs.Turns.{HasSteps, HasTasks, KeepsAtMost, HasMessages, HasNews, AddsChild, GetsOwner, Upgrades};
 ghost use Rattle.prodash.specs.plumbing.LockedCalls.{ChangesNothing, IsCopy};
 ghost use Rattle.prodash.specs.plumbing.CountedTurns.{TakesOne, TakesAtMostOne, TakesOnOk, LooksOnce, Tries, Gets, Shows, HasRowCopies, HasCopies, HasCopiesAndNews, HasSeen, LosesOwner, UpgradesOrStays};
 
 use crate::messages::{Message, MessageCopyState, Messages};
-use crate::progress::{Id, Row, Rows};
+use crate::progress::{Id, Row, Rows, Step};
 use crate::tree::locked::LockedTree;
 use crate::tree::shared_task::SharedTask;
 use crate::tree::turns::CountsTurns;
@@ -208,6 +209,26 @@ impl SharedTree {
     {
         let tree = turns.begin(&self.lock);
         let seen = tree.look(spare, previous);
+        turns.end(tree);
+        seen
+    }
+
+    /// Returns what `look` returns, with the steps of the rows in place of the rows, if the rows are
+    /// these but for their steps. The memory of `spare` is reused, whatever it contains.
+    #[tactic(auto, using(crate::proofs::TurnLaws::taking))]
+    pub(crate) fn look_at_steps<T: CountsTurns>(
+        &self,
+        turns: &mut T,
+        rows: &Rows,
+        spare: (Vec<Step>, Messages),
+        previous: Option<MessageCopyState>,
+    ) -> Result<Option<(Vec<Step>, Messages, MessageCopyState)>, Refusal>
+        ensures turn { Gets T.took turns.old turns.new result (HasSteps rows.now previous) }
+        ensures ascending { IfOk result (StepsAscend rows.now) }
+        ensures reason { IsOkUnless result Refusal.Memory }
+    {
+        let tree = turns.begin(&self.lock);
+        let seen = tree.look_at_steps(rows, spare, previous);
         turns.end(tree);
         seen
     }

@@ -178,6 +178,15 @@ impl<R: TakesTurns> traits::Root for Root<R> {
         Root::look(self, spare, previous)
     }
 
+    fn look_at_steps(
+        &self,
+        rows: &Rows,
+        spare: (Vec<Step>, Messages),
+        previous: Option<MessageCopyState>,
+    ) -> Result<Option<(Vec<Step>, Messages, MessageCopyState)>, Refusal> {
+        Root::look_at_steps(self, rows, spare, previous)
+    }
+
     fn snapshot_and_new_messages(
         &self,
         alloc: Global,

@@ -3,7 +3,7 @@ ghost use Rattle.std.specs.Prelude.{◌≡◌, is_some};
 ghost use Rattle.prodash.specs.Views.{InOneTurn, Reads, HasLook, ShowsTasks, FindsView, LooksRows, LooksMessages, LooksNews};
 
 use crate::messages::{Message, MessageCopyState, Messages};
-use crate::progress::{Row, Rows};
+use crate::progress::{Row, Rows, Step};
 use crate::tree::recorded::ledgers::TreeLedger;
 use crate::tree::recorded::turns::TakesViewTurns;
 use crate::tree::recorded::view::{RecordedView, WeakView};
@@ -63,6 +63,15 @@ impl<R: TakesViewTurns, C: TreeLedger, S: Ledger> Root for RecordedView<R, C, S>
         previous: Option<MessageCopyState>,
     ) -> Result<(Rows, Messages, MessageCopyState), Refusal> {
         RecordedView::look(self, spare, previous)
+    }
+
+    fn look_at_steps(
+        &self,
+        _rows: &Rows,
+        _spare: (Vec<Step>, Messages),
+        _previous: Option<MessageCopyState>,
+    ) -> Result<Option<(Vec<Step>, Messages, MessageCopyState)>, Refusal> {
+        Ok(None)
     }
 
     fn snapshot_and_new_messages(

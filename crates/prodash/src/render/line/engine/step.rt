@@ -1,15 +1,16 @@
 //! The engine: each event draws one frame of what its root shows then.
-ghost use Rattle.std.specs.Prelude.{◌≡◌, IfOk, IfErr, IsOkUnless};
-ghost use Rattle.prodash_base.specs.Refusals.{RefusesHandle};
-ghost use Rattle.prodash.specs.Engines.{EngineSees, EngineSteps, new_engine};
-ghost use Rattle.prodash.specs.plumbing.EngineFrames.{EngineRenders};
+ghost use Rattle.std.specs.Prelude.{◌≡◌, None, IfOk, IsOkUnless};
+ghost use Rattle.prodash.specs.Engines.{EngineSteps, new_engine};
+ghost use Rattle.prodash.specs.plumbing.EngineFrames.{EngineRenders, SeesRoot, SeesSteps};
+ghost use Rattle.prodash_line.specs.plumbing.EarlierRows.{steps_tick};
 
 mod audited;
 
 use crate::messages::{MessageCopyState, Messages};
-use crate::progress::Rows;
+use crate::progress::{Rows, Step};
 use crate::render::line::draw::{self, Answer, Input, Screen};
 use crate::render::line::engine::event::EngineEvent;
+use crate::time::Moment;
 use prodash_base::Refusal;
 use prodash_core::traits::{Root, WeakRoot};
 use std::alloc::Global;
@@ -91,8 +92,9 @@ where
 
     /// Draws the frame of an event.
     ///
-    /// A tick takes the rows and the new messages of the root in one look. Without a root it draws
-    /// the closing frame. [`draw::all`] says what a frame prints and draws.
+    /// A tick takes the rows and the new messages of the root in one look, which takes only the steps
+    /// of the rows if nothing else of them has changed since the latest tick. Without a root it
+    /// draws the closing frame. [`draw::all`] says what a frame prints and draws.
     ///
     /// # Errors
     ///
@@ -109,10 +111,7 @@ where
             return Err(refusal);
         }
         match event {
-            EngineEvent::Tick { at, show } => {
-                let seen = self.look()?;
-                self.draw(Input::Tick { at, show, seen })
-            }
+            EngineEvent::Tick { at, show } => self.tick_root(at, show),
             EngineEvent::Resize {
                 at,
                 show,
@@ -136,18 +135,79 @@ where
         draw::all(self.alloc, &mut self.screen, &mut self.renderer, input)
     }
 
-    /// Looks at the root: returns its rows, its messages that are new since the latest tick, and
-    /// the state after them; or `None` if there is no root.
-    fn look(&mut self) -> Result<Option<(Rows, Messages, MessageCopyState)>, Refusal>
-        ensures ok { IfOk result (EngineSees W.finds W.Root.looks self.old) }
-        ensures kept { self.new ≡ self.old }
-        ensures reason { IfErr result RefusesHandle }
+    /// Draws the frame of a tick: of the steps alone, if the rows of the root are those of the latest
+    /// tick but for their steps.
+    #[tactic(auto, using(crate::proofs::EngineSteps::ticking))]
+    fn tick_root(&mut self, at: Moment, show: bool) -> Result<Answer, Refusal>
+        requires { self.old.renderer.ended ≡ None }
+        ensures step { EngineSteps S.state W.finds W.Root.looks self.old
+            (EngineEvent.Tick at show) result self.new }
+        ensures weak { self.new.weak ≡ self.old.weak }
     {
         let Some(root) = self.weak.upgrade()? else {
-            return Ok(None);
+            return self.draw(Input::Tick {
+                at,
+                show,
+                seen: None,
+            });
         };
+        match self.look_at_steps(&root)? {
+            Some(seen) => {
+                drop(root);
+                self.draw_steps(at, show, seen)
+            }
+            None => {
+                let seen = Some(self.look(&root)?);
+                drop(root);
+                self.draw(Input::Tick { at, show, seen })
+            }
+        }
+    }
+
+    /// Draws the frame of a tick that saw these steps of the remembered rows.
+    fn draw_steps(
+        &mut self,
+        at: Moment,
+        show: bool,
+        seen: (Vec<Step>, Messages, MessageCopyState),
+    ) -> Result<Answer, Refusal>
+        ensures frame { EngineRenders S.state self.old
+            (steps_tick at show self.old.renderer seen) result self.new }
+        ensures weak { self.new.weak ≡ self.old.weak }
+    {
+        let (screen, renderer) = (&mut self.screen, &mut self.renderer);
+        draw::tick_with_steps(self.alloc, screen, renderer, at, show, seen)
+    }
+
+    /// Looks at the steps of a root, if rows are remembered: returns the steps, the messages that
+    /// are new since the latest tick, and the state after them; or `None` if the rows aren't the
+    /// remembered ones but for their steps.
+    fn look_at_steps(
+        &mut self,
+        root: &W::Root,
+    ) -> Result<Option<(Vec<Step>, Messages, MessageCopyState)>, Refusal>
+        ensures ok { IfOk result (SeesSteps W.Root.looks root.now self.old.renderer) }
+        ensures kept { self.new ≡ self.old }
+        ensures reason { IsOkUnless result Refusal.Memory }
+    {
+        if self.renderer.rows().is_none() {
+            return Ok(None);
+        }
+        let spare = self.renderer.take_spare_steps(self.alloc);
+        match self.renderer.rows() {
+            None => Ok(None),
+            Some(rows) => root.look_at_steps(rows, spare, self.renderer.seen()),
+        }
+    }
+
+    /// Looks at a root: returns its rows, its messages that are new since the latest tick, and the
+    /// state after them.
+    fn look(&mut self, root: &W::Root) -> Result<(Rows, Messages, MessageCopyState), Refusal>
+        ensures ok { IfOk result (SeesRoot W.Root.looks root.now self.old.renderer) }
+        ensures kept { self.new ≡ self.old }
+        ensures reason { IsOkUnless result Refusal.Memory }
+    {
         let spare = self.renderer.take_spare(self.alloc);
-        let seen = root.look(self.alloc, spare, self.renderer.seen())?;
-        Ok(Some(seen))
+        root.look(self.alloc, spare, self.renderer.seen())
     }
 }
