@@ -277,13 +277,21 @@ fn draw_frame<R: Wait + Clone + Drop>(
     state: &mut draw::State,
     n: u64,
 ) -> Result<(), Refusal> {
+    let (at, screen) = (n.saturating_mul(PERIOD), &mut OverWrite::new(io::sink()));
+    let (spare, previous) = (state.take_spare_steps(alloc), state.seen());
+    if let Some(rows) = state.rows() {
+        if let Some(seen) = root.look_at_steps(rows, spare, previous)? {
+            draw::tick_with_steps(alloc, screen, state, at, true, seen)?;
+            return Ok(());
+        }
+    }
     let spare = state.take_spare(alloc);
-    let seen = root.look(spare, state.seen())?;
+    let seen = root.look(spare, previous)?;
     let input = Input::Tick {
-        at: n.saturating_mul(PERIOD),
+        at,
         show: true,
         seen: Some(seen),
     };
-    draw::all(alloc, &mut OverWrite::new(io::sink()), state, input)?;
+    draw::all(alloc, screen, state, input)?;
     Ok(())
 }
