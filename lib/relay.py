@@ -271,11 +271,15 @@ class Relay:
     def go_on(self):
         """Does what can be done until it is over."""
         while not self.is_over():
-            try:
-                self.step()
-            except Exception as error:
-                # whatever it is, the lines and the job's output are passed on
-                self.fail(f"{type(error).__name__}: {error}")
+            self.step_or_fail()
+
+    def step_or_fail(self):
+        """Takes a step. If it raises, whatever it is, the display is given up, and no more."""
+        try:
+            self.step()
+        except Exception as error:
+            # the lines and the job's output are passed on
+            self.fail(f"{type(error).__name__}: {error}")
 
     def fail(self, reason):
         """Goes on without a display, once."""
@@ -300,7 +304,7 @@ class Relay:
         while self.display.is_alive() and not self.is_hurried:
             if not self.display.lines:
                 self.display.close()
-            self.step()
+            self.step_or_fail()
             self.watch()
         if self.display.is_alive():
             self.display.give_up("the display was not awaited", signals.SIGKILL)
