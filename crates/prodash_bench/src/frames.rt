@@ -1,6 +1,7 @@
 use crate::workloads::{NAME, add_groups, add_task, add_tasks, set_all};
 use prodash::Refusal;
-use prodash::messages::MessageLevel;
+use prodash::messages::{MessageCopyState, MessageLevel, Messages};
+use prodash::progress::Step;
 use prodash::render::line::draw::{self, Input, OverWrite};
 use prodash::tree::{Item, Root};
 use prodash::unit::display::Mode;
@@ -277,21 +278,32 @@ fn draw_frame<R: Wait + Clone + Drop>(
     state: &mut draw::State,
     n: u64,
 ) -> Result<(), Refusal> {
-    let (at, screen) = (n.saturating_mul(PERIOD), &mut OverWrite::new(io::sink()));
-    let (spare, previous) = (state.take_spare_steps(alloc), state.seen());
-    if let Some(rows) = state.rows() {
-        if let Some(seen) = root.look_at_steps(rows, spare, previous)? {
-            draw::tick_with_steps(alloc, screen, state, at, true, seen)?;
-            return Ok(());
-        }
+    let at = n.saturating_mul(PERIOD);
+    let mut screen = OverWrite::new(io::sink());
+    if let Some(seen) = look_at_steps(root, alloc, state)? {
+        draw::tick_with_steps(alloc, &mut screen, state, at, true, seen)?;
+        return Ok(());
     }
     let spare = state.take_spare(alloc);
-    let seen = root.look(spare, previous)?;
+    let seen = Some(root.look(spare, state.seen())?);
     let input = Input::Tick {
         at,
         show: true,
-        seen: Some(seen),
+        seen,
     };
-    draw::all(alloc, screen, state, input)?;
+    draw::all(alloc, &mut screen, state, input)?;
     Ok(())
+}
+
+/// Returns what a look at the steps of the remembered rows finds, if rows are remembered.
+fn look_at_steps<R: Wait + Clone + Drop>(
+    root: &Root<R>,
+    alloc: Global,
+    state: &mut draw::State,
+) -> Result<Option<(Vec<Step>, Messages, MessageCopyState)>, Refusal> {
+    let (spare, previous) = (state.take_spare_steps(alloc), state.seen());
+    match state.rows() {
+        None => Ok(None),
+        Some(rows) => root.look_at_steps(rows, spare, previous),
+    }
 }
