@@ -1,10 +1,12 @@
 -- The order of paths is that of their words, and of their lengths if all words are the same.
-use Rattle.std.proofs.Common.{◌≡◌, ◌≢◌, ℕ, zero, suc, ◌+◌, ◌<◌, ◌≤◌, [], ◌∷◌, length, refl, sym, ◌∙◌, ap, arith, inl, inr}
+use Rattle.std.proofs.Common.{◌≡◌, ℕ, zero, suc, ◌+◌, ◌<◌, ◌≤◌, [], ◌∷◌, length, refl, sym, ◌∙◌, ap, arith, inl, inr}
 use Rattle.std.proofs.lemmas.Bool.{cases_lt}
 use Rattle.std.proofs.lemmas.Cmp.{ranked, by_ranked}
 use Rattle.std.proofs.lemmas.List.{get_or_past}
-use Rattle.std.specs.Cmp.{nat_cmp_is}
-use Rattle.std.specs.Ordering.{nat_cmp, ordering_then}
+use Rattle.std.specs.Cmp.{nat_cmp_is, unsigned_ties}
+use Rattle.std.specs.Cmp.Lexicographic.{pointwise, texts_ties}
+use Rattle.std.specs.Ordering.{nat_cmp, ordering_then, is_eq}
+use Rattle.std.specs.Prelude.{nat_eq, ◌&&◌}
 use Rattle.std.specs.declared.cmp.Ordering.{Ordering}
 use Rattle.std.specs.declared.cmp.Ordering.TheVariants.{Less, Equal, Greater}
 use Rattle.prodash_base.specs.Path.{Path, IsPath, path_cmp, child_limit}
@@ -103,32 +105,27 @@ paths_by_words p q hp hq =
     ∙ ap (λ t. ordering_then (o 0) (ordering_then (o 1) (ordering_then (o 2) (ordering_then (o 3) t)))) (then_assoc (o 4) (o 5) last)
     ∙ paths_by_numbers 6 p q hp.levels hq.levels
 
--- the first words decide if they aren't the same
-decided : (o : Ordering) → o ≢ Equal → (later : Ordering) → o ≡ ordering_then o later
-decided Less h later = refl
-decided Equal h later = absurd (h refl)
-decided Greater h later = refl
-
-by_first_word : (p q : Path) → IsPath p → IsPath q → (o : Ordering) → o ≡ nat_cmp (word_at p 0) (word_at q 0) → o ≢ Equal → o ≡ path_cmp p q
-by_first_word p q hp hq o is h =
-    let second = nat_cmp (word_at p 2) (word_at q 2) in
-    let third = nat_cmp (word_at p 4) (word_at q 4) in
-    let last = nat_cmp (length p) (length q) in
-    decided o h second
-    ∙ decided (ordering_then o second) (λ e. h (decided o h second ∙ e)) third
-    ∙ decided (ordering_then (ordering_then o second) third) (λ e. h (decided o h second ∙ decided (ordering_then o second) (λ f. h (decided o h second ∙ f)) third ∙ e)) last
-    ∙ ap (λ first. ordering_then (ordering_then (ordering_then first second) third) last) is
-    ∙ paths_by_words p q hp hq
-
-pub less_by_first_word : (p q : Path) → IsPath p → IsPath q → word_at p 0 < word_at q 0 → Less ≡ path_cmp p q
-less_by_first_word p q hp hq h = by_first_word p q hp hq Less (sym (less _ _ h)) (λ e. cc)
-
-pub greater_by_first_word : (p q : Path) → IsPath p → IsPath q → word_at q 0 < word_at p 0 → Greater ≡ path_cmp p q
-greater_by_first_word p q hp hq h = by_first_word p q hp hq Greater (sym (greater _ _ h)) (λ e. cc)
-
 -- the later words decide if the first ones are the same
 pub paths_by_later_words : (p q : Path) → IsPath p → IsPath q → word_at p 0 ≡ word_at q 0
     → ordering_then (ordering_then (nat_cmp (word_at p 2) (word_at q 2)) (nat_cmp (word_at p 4) (word_at q 4))) (nat_cmp (length p) (length q)) ≡ path_cmp p q
 paths_by_later_words p q hp hq same =
     ap (λ first. ordering_then (ordering_then (ordering_then first (nat_cmp (word_at p 2) (word_at q 2))) (nat_cmp (word_at p 4) (word_at q 4))) (nat_cmp (length p) (length q))) (sym (equal _ _ same))
     ∙ paths_by_words p q hp hq
+
+both_equal : (a b : Ordering) → (is_eq a && is_eq b) ≡ is_eq (ordering_then a b)
+both_equal Less b = refl
+both_equal Equal b = refl
+both_equal Greater b = refl
+
+-- paths are the same if their later words and their lengths are, where the first two numbers are
+pub same_by_later_words : (p q : Path) → IsPath p → IsPath q → number_at p 0 ≡ number_at q 0 → number_at p 1 ≡ number_at q 1
+    → ((nat_eq (word_at p 2) (word_at q 2) && nat_eq (word_at p 4) (word_at q 4)) && nat_eq (length p) (length q)) ≡ pointwise nat_eq p q
+same_by_later_words p q hp hq zeroth first =
+    let second = nat_cmp (word_at p 2) (word_at q 2) in
+    let third = nat_cmp (word_at p 4) (word_at q 4) in
+    let last = nat_cmp (length p) (length q) in
+    (λ i. (unsigned_ties (word_at p 2) (word_at q 2) i && unsigned_ties (word_at p 4) (word_at q 4) i) && unsigned_ties (length p) (length q) i)
+    ∙ ap (λ both. both && is_eq last) (both_equal second third)
+    ∙ both_equal (ordering_then second third) last
+    ∙ ap is_eq (paths_by_later_words p q hp hq (λ i. word_of (zeroth i) (first i)))
+    ∙ sym (texts_ties p q)

@@ -1,29 +1,23 @@
 -- Rows that show the tasks but for their steps.
-use Rattle.std.proofs.Common.{rules, ◌≡◌, ◌∙◌, ◌↔◌, ap, sym, subst, ℕ, ◌<◌, ◌++◌, ◌∷◌, [], List, length, refl, append_assoc, append-nil, drop, get_or, map, suc, ◌+◌, ◌≢◌, nat_eq, true, false, Bool, IsTrue, ◌&&◌, Option, Some, None, Result, Ok}
+use Rattle.std.proofs.Common.{◌≡◌, ◌∙◌, ◌↔◌, ap, sym, subst, ℕ, ◌<◌, ◌++◌, ◌∷◌, [], List, length, refl, append_assoc, append-nil, drop, get_or, map, suc, ◌+◌, ◌≢◌, nat_eq, true, false, Bool, IsTrue, ◌&&◌, Option, Some, None, Result, Ok}
 use Rattle.std.specs.List.{AllZip}
 use Rattle.std.specs.Option.{option_eq, option_map}
 use Rattle.std.proofs.lemmas.Bool.{and_parts}
 use Rattle.std.proofs.lemmas.List.{drop_more, length-map}
 use Rattle.std.proofs.lemmas.Slice.Zip.{AllZip-long}
 use Rattle.prodash_base.specs.Path.{Path}
-use Rattle.prodash_base.specs.Rows.{phase_of, PathRow, row_of, RowProgress, rows_of, same_phase}
+use Rattle.prodash_base.specs.Rows.{phase_of, PathRow, row_of, RowProgress, rows_of}
 use Rattle.prodash_base.specs.Steps.{with_step, with_steps}
 use Rattle.prodash_base.specs.Units.{measure_of}
 use Rattle.prodash_base.specs.declared.progress.Row.{Row}
-use Rattle.prodash_base.specs.declared.progress.State.{State}
 use Rattle.prodash_base.specs.declared.progress.Value.{Value}
-use Rattle.prodash_base.specs.contracts.progress.StatePartialEq.TheImpl as state
 use Rattle.prodash_base.specs.contracts.unit.units.UnitPartialEq.TheImpl as unit
 use Rattle.prodash_base.specs.plumbing.EqualityTests.{exact, numbers, options}
-use Rattle.prodash_base.specs.plumbing.SameRows.{phases}
 use Rattle.prodash_base.specs.plumbing.SameUnits.{measures}
 use Rattle.prodash_base.proofs.SameKinds.{same_as_units}
 use Rattle.prodash_core.specs.Tables.{BoxedTask, pair_of, TaskEntry, RowShows}
 use Rattle.prodash_core.specs.declared.tree.table.Counted.{Counted}
 use Rattle.prodash_core.specs.plumbing.TaskRows.{IsSameButStep}
-
-same_as_state : (s t : State) → state.ghosts.eq s t ≡ same_phase (phase_of s) (phase_of t)
-same_as_state s t = search rules
 
 -- the test of the bound and the unit
 abbrev pub same_bound_and_unit : {C : Type 0} → Counted C → Value → Bool
@@ -41,10 +35,9 @@ bound_and_unit counted value b is =
 
 -- with the same bound and unit, the states decide
 pub same_by_state : {C : Type 0} (counted : Counted C) (value : Value) (b : Bool) → b ≡ same_bound_and_unit counted value → b ≡ true
-    → (result : Bool) → result ≡ state.ghosts.eq counted.state value.state → IsTrue result ↔ IsSameButStep counted value
-same_by_state counted value b is same result r =
+    → (result : Bool) → IsTrue result ↔ phase_of counted.state ≡ phase_of value.state → IsTrue result ↔ IsSameButStep counted value
+same_by_state counted value b is same result phase =
     let before = (bound_and_unit counted value b is).0 same in
-    let phase = exact phases result (phase_of counted.state) (phase_of value.state) (r ∙ same_as_state counted.state value.state) in
     (λ equal. record { bound = before.0; unit = before.1; phase = phase.0 equal }, λ h. phase.1 h.phase)
 
 pub not_same : {C : Type 0} (counted : Counted C) (value : Value) (b : Bool) → b ≡ same_bound_and_unit counted value → b ≡ false

@@ -6,7 +6,7 @@ ghost use Rattle.std.specs.Cmp.Rules.{comparing};
 ghost use Rattle.std.proofs.Common.{rules};
 ghost use Rattle.prodash_base.specs.Path.{max_level, IsPath, child, next_id, SharesPrefix, path_cmp};
 ghost use Rattle.prodash_base.specs.plumbing.KeyHash.{key_alike};
-ghost use Rattle.prodash_base.specs.plumbing.KeyWords.{word_of, word_at};
+ghost use Rattle.prodash_base.specs.plumbing.KeyWords.{number_at, word_of, word_at};
 ghost use Rattle.std.specs.Hash as fed;
 
 mod adjacency;
@@ -120,14 +120,15 @@ impl Key {
         &self.numbers[..usize::from(self.level)]
     }
 
-    /// Returns the key's first two numbers in a word, zeros past its level.
+    /// Returns the key's first two numbers, zeros past its level.
     #[inline]
-    fn first_word(&self) -> u64
-        ensures value { result ≡ word_at self.now 0 }
+    fn first_numbers(&self) -> (u32, u32)
+        ensures first { result.0 ≡ number_at self.now 0 }
+        ensures second { result.1 ≡ number_at self.now 1 }
         ensures path { IsPath self.now }
     {
         let [a, b, _, _, _, _] = self.numbers;
-        word_of(a, b)
+        (a, b)
     }
 
     /// Returns the key's last four numbers in words of two, zeros past its level, and its level.
@@ -142,9 +143,9 @@ impl Key {
         (word_of(c, d), word_of(e, f), self.level)
     }
 
-    /// Compares two keys that have the same first word.
+    /// Compares two keys that have the same first two numbers.
     #[inline(never)]
-    fn cmp_past_first_word(&self, other: &Key) -> Ordering
+    fn cmp_past_first_numbers(&self, other: &Key) -> Ordering
         requires { word_at self.now 0 ≡ word_at other.now 0 }
         ensures { result ≡ path_cmp self.now other.now }
     {
@@ -197,17 +198,21 @@ impl Ord for Key {
 
     ghost matches_eq = { texts_ties };
 
-    /// Compares the numbers in pairs. A number past a key's level counts as 0, so the levels decide
-    /// if all numbers are equal.
+    /// Compares the first two numbers, and then the others in pairs. A number past a key's level
+    /// counts as 0, so the levels decide if all numbers are equal.
     #[inline]
     fn cmp(&self, other: &Key) -> Ordering {
-        let (own, others) = (self.first_word(), other.first_word());
-        if own < others {
+        let (own, others) = (self.first_numbers(), other.first_numbers());
+        if own.0 < others.0 {
             Ordering::Less
-        } else if own > others {
+        } else if own.0 > others.0 {
+            Ordering::Greater
+        } else if own.1 < others.1 {
+            Ordering::Less
+        } else if own.1 > others.1 {
             Ordering::Greater
         } else {
-            self.cmp_past_first_word(other)
+            self.cmp_past_first_numbers(other)
         }
     }
 }
@@ -227,8 +232,9 @@ impl PartialEq for Key {
 
     ghost laws = { partial_equiv_from_equiv nat_list_eq_equiv };
 
+    #[inline]
     fn eq(&self, other: &Key) -> bool {
-        self.numbers() == other.numbers()
+        self.first_numbers() == other.first_numbers() && self.later_words() == other.later_words()
     }
 }
 

@@ -548,22 +548,35 @@ fn rows_of_tasks<C: Copy, N: Counters<C>>(
 fn is_same_but_step<C>(counted: &Counted<C>, value: &Value) -> bool
     ensures { IsTrue result ↔ IsSameButStep counted.now value.now }
 {
-    counted.done_at == value.done_at && counted.unit == value.unit && counted.state == value.state
+    counted.done_at == value.done_at
+        && counted.unit == value.unit
+        && are_same_states(&counted.state, &value.state)
+}
+
+/// Whether two states are the same. Two running ones are told without a call.
+#[inline(always)]
+fn are_same_states(state: &State, other: &State) -> bool
+    ensures { IsTrue result ↔ phase_of state.now ≡ phase_of other.now }
+{
+    match (state, other) {
+        (State::Running, State::Running) => true,
+        _ => state == other,
+    }
 }
 
 /// Returns the step of a task, 0 without progress, if its row is this one but for the step.
 #[inline(always)]
 fn step_over<C: Copy, N: Counters<C>>(
-    key: Key,
+    key: &Key,
     task: &Task<C>,
     counters: &N,
     row: &Row,
 ) -> Option<Step>
-    ensures some { IfSome result (StepShows (N.shows counters.now) key task.now row.now) }
+    ensures some { IfSome result (StepShows (N.shows counters.now) key.now task.now row.now) }
     ensures none { result ≡ None
-        → (step : ℕ) → StepShows (N.shows counters.now) key task.now row.now step → ⊥ }
+        → (step : ℕ) → StepShows (N.shows counters.now) key.now task.now row.now step → ⊥ }
 {
-    if row.key != key || row.id != task.id || row.name != task.name {
+    if row.key != *key || row.id != task.id || row.name != task.name {
         return None;
     }
     match (&task.progress, &row.progress) {
@@ -595,7 +608,7 @@ fn steps_of_tasks<C: Copy, N: Counters<C>>(
     steps.clear();
     steps.reserve(rows.len())?;
     for (key, task) in tasks.iter() {
-        match step_over(*key, task.as_ref(), counters, &rows[steps.len()]) {
+        match step_over(key, task.as_ref(), counters, &rows[steps.len()]) {
             Some(step) => steps.push_reserved(step),
             None => return Ok(None),
         }

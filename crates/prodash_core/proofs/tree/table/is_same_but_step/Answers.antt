@@ -12,7 +12,7 @@ returns-then-eq-2 g c =
       | then-eq w ↦ w.value-is ∙ w.eq-then-eq.ensures ∙ ap (λ b. b && units) (sym w.if-eq.true ∙ c.eq.ensures)
       | else-eq w ↦ w.value-is ∙ w.if-eq.false ∙ ap (λ b. b && units) (sym w.if-eq.false ∙ c.eq.ensures)
     ] in
-    same_by_state c.args.counted.now c.args.value.now c.if-eq.value tested c.if-eq-2.true c.eq-then-eq-2.result c.eq-then-eq-2.ensures
+    same_by_state c.args.counted.now c.args.value.now c.if-eq.value tested c.if-eq-2.true c.are_same_states.result c.are_same_states.ensures
 
 pub returns-else-eq-2 : goal.returns-else-eq-2
 returns-else-eq-2 g c =

@@ -1,7 +1,7 @@
 use Rattle.std.proofs.Common.{◌∙◌}
 use Rattle.std.specs.Ordering.{nat_cmp, ordering_then}
 use Rattle.prodash_base.proofs.KeyOrder.{paths_by_later_words}
-use Rattle.prodash_base.proofs.progress.key.Key.cmp_past_first_word.Goals as goal
+use Rattle.prodash_base.proofs.progress.key.Key.cmp_past_first_numbers.Goals as goal
 
 pub returns : goal.returns
 returns c =
