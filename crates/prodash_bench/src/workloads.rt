@@ -1,7 +1,7 @@
 use crate::frames::Scene;
 use crate::{USAGE, dashboards};
-use prodash::messages::MessageLevel;
-use prodash::progress::UNKNOWN;
+use prodash::messages::{MessageLevel, Messages};
+use prodash::progress::{Rows, UNKNOWN};
 use prodash::render::line::draw::{self, OverWrite};
 use prodash::tree::{Event, Item, Root, RootOptions, Session, SessionOptions};
 use prodash::unit::Unit;
@@ -41,6 +41,7 @@ pub(crate) fn run<R: Wait + Clone + Drop>(
         "tasks" => add_and_drop_tasks(&root, alloc, tasks, count)?,
         "message" => send_messages(&items, alloc, count)?,
         "rows" => take_rows(&root, alloc, &items, count)?,
+        "steps" => take_steps(&root, alloc, &items, count)?,
         "snapshot" | "snapshot_of_levels" => take_snapshots(&root, alloc, &items, count)?,
         "session" => set_by_handle(alloc, count)?,
         "dashboard" => dashboards::draw_frames(&root, alloc, &items, false, count)?,
@@ -195,6 +196,26 @@ fn take_rows<R: Wait + Clone + Drop>(
     for n in 0..count {
         set_all(items, n);
         root.sorted_snapshot(alloc, &mut rows)?;
+    }
+    Ok(())
+}
+
+/// Sets all tasks, and looks at their steps over the rows of one look.
+fn take_steps<R: Wait + Clone + Drop>(
+    root: &Root<R>,
+    alloc: Global,
+    items: &[Item<R>],
+    count: u64,
+) -> Result<(), Refusal> {
+    let none = (Rows::new(Vec::new(alloc)), Messages::new(Vec::new(alloc)));
+    let (rows, messages, _) = root.look(none, None)?;
+    let mut spare = (Vec::new(alloc), messages);
+    for n in 0..count {
+        set_all(items, n);
+        spare = match root.look_at_steps(&rows, spare, None)? {
+            Some((steps, messages, _)) => (steps, messages),
+            None => (Vec::new(alloc), Messages::new(Vec::new(alloc))),
+        };
     }
     Ok(())
 }

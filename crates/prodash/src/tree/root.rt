@@ -217,7 +217,7 @@ impl<R: TakesTurns> Root<R> {
     /// different one at that index: if it has the rows of an earlier look, and the tasks are still
     /// the same, nothing is allocated for them. Nor is anything allocated for a message if `spare`
     /// has one at that index whose texts are as long. Memory for further rows, with names of up to
-    /// 24 bytes, is allocated before the look takes the lock, so other threads don't wait for it.
+    /// 30 bytes, is allocated before the look takes the lock, so other threads don't wait for it.
     ///
     /// # Errors
     ///
