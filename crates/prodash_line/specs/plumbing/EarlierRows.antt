@@ -18,7 +18,7 @@ use Rattle.prodash_line.specs.declared.render.line.draw.action.Drawn.{Drawn}
 use Rattle.prodash_line.specs.declared.render.line.draw.line_writer.LineWriter.{LineWriter}
 use Rattle.prodash_line.specs.Renderer.{Renderer, is_drawn, latest_rows, rows_changed, tick_action}
 use Rattle.prodash_line.specs.plumbing.FrameWriting.{Composes, KeepsLines, LeftByTick, RowsStay}
-use Rattle.prodash_line.specs.plumbing.KeptLines.{AreAmong}
+use Rattle.prodash_line.specs.plumbing.KeptLines.{AreKept}
 
 -- the rows that a tick sees if these are remembered
 abbrev pub rows_seen : SeenRows → List PathRow → List PathRow
@@ -81,4 +81,4 @@ LatestStay r e = RowsStay (before_rows e r) (latest_rows r.last_rows)
 
 -- the lines of what was before these rows are those of the rows before
 abbrev pub KeepsEarlier : Earlier → List PathRow → Type 0
-KeepsEarlier e latest = AreAmong e.options e.midpoint (latest_rows (rows_before e.rows latest)) e.bytes e.lines.items
+KeepsEarlier e latest = AreKept e.kept (latest_rows (rows_before e.rows latest))

@@ -11,6 +11,7 @@ use Rattle.prodash_base.specs.declared.unit.units.Unit.{Unit as TaskUnit}
 use Rattle.prodash_line.specs.declared.render.line.draw.input.Options.{Options}
 use Rattle.prodash_line.specs.declared.render.line.draw.latest_rows.CopiedLine.{CopiedLine}
 use Rattle.prodash_line.specs.declared.render.line.draw.latest_rows.EarlierLines.{EarlierLines}
+use Rattle.prodash_line.specs.declared.render.line.draw.latest_rows.KeptLines.{KeptLines}
 use Rattle.prodash_line.specs.declared.render.line.draw.latest_rows.LineSize.{LineSize}
 use Rattle.prodash_line.specs.declared.render.line.draw.latest_rows.RowLine.{RowLine}
 use Rattle.prodash_line.specs.DrawnLines.{layout_of}
@@ -52,6 +53,10 @@ pub record IsAmong (options : Options) (aligned : ℕ) (rows : List PathRow) (by
 -- each of them is
 abbrev pub AreAmong : Options → ℕ → List PathRow → List ℕ → List RowLine → Type 0
 AreAmong options midpoint rows bytes lines = All (IsAmong options midpoint rows bytes) lines
+
+-- lines that are kept are those of these rows
+abbrev pub AreKept : KeptLines → List PathRow → Type 0
+AreKept kept rows = AreAmong kept.options kept.midpoint rows kept.bytes kept.lines.items
 
 -- the rows of an earlier frame: these, with the steps that they had
 abbrev pub drawn_in : EarlierLines → List PathRow

@@ -1,7 +1,5 @@
 //! The rows that a tick sees, and what was remembered before it.
-use crate::render::line::byte_buffer::ByteBuffer;
-use crate::render::line::draw::input::Options;
-use crate::render::line::draw::latest_rows::RowLine;
+use crate::render::line::draw::latest_rows::KeptLines;
 use prodash_base::progress::{Rows, Step};
 
 /// The rows that a tick sees.
@@ -27,11 +25,5 @@ pub(crate) enum EarlierRows {
 pub(crate) struct Earlier {
     pub(crate) rows: EarlierRows,
     /// The lines that these rows were drawn in, as far as a frame may copy them.
-    pub(crate) lines: Vec<RowLine>,
-    /// The bytes of the frame that has drawn them.
-    pub(crate) bytes: ByteBuffer,
-    /// The options that it was drawn with.
-    pub(crate) options: Options,
-    /// The midpoint that values were brought to.
-    pub(crate) midpoint: u16,
+    pub(crate) kept: KeptLines,
 }

@@ -6,7 +6,7 @@ ghost use Rattle.prodash_base.specs.Units.{measure_of};
 ghost use Rattle.prodash_base.specs.declared.unit.display.Throughput.{Throughput};
 ghost use Rattle.prodash_line.specs.Renderer.{latest_rows, rows_changed};
 ghost use Rattle.prodash_line.specs.plumbing.EarlierRows.{KeepsEarlier, changed_after, rows_before, rows_seen};
-ghost use Rattle.prodash_line.specs.plumbing.KeptLines.{WasThere, drawn_in, AddsLine, AreAlike, AreAmong, AreEarlier, DrawAlike, FindsLine, FindsLineIn, IsAlso, IsWrittenIn, ShowsNone, are_same_units, are_same_values};
+ghost use Rattle.prodash_line.specs.plumbing.KeptLines.{WasThere, drawn_in, AddsLine, AreAlike, AreAmong, AreEarlier, AreKept, DrawAlike, FindsLine, FindsLineIn, IsAlso, IsWrittenIn, ShowsNone, are_same_units, are_same_values};
 
 use crate::render::line::byte_buffer::ByteBuffer;
 use crate::render::line::draw::earlier_rows::{Earlier, EarlierRows, SeenRows};
@@ -50,11 +50,9 @@ pub(crate) struct CopiedLine<'a> {
     pub(crate) size: LineSize,
 }
 
-/// The rows at the latest accepted tick with a root, and the lines that they were drawn in, as far
-/// as a frame may copy them. Contracts see the rows.
+/// Lines of rows that the next frame may copy.
 #[derive(Drop)]
-pub(crate) struct LatestRows {
-    rows: Option<Rows>,
+pub(crate) struct KeptLines {
     /// The lines of rows that show neither a throughput nor a time.
     lines: Vec<RowLine>,
     /// The bytes of the frame that has drawn them.
@@ -63,6 +61,14 @@ pub(crate) struct LatestRows {
     options: Options,
     /// The midpoint that values were brought to.
     midpoint: u16,
+}
+
+/// The rows at the latest accepted tick with a root, and the lines that they were drawn in, as far
+/// as a frame may copy them. Contracts see the rows.
+#[derive(Drop)]
+pub(crate) struct LatestRows {
+    rows: Option<Rows>,
+    kept: KeptLines,
 }
 
 /// Lines of an earlier frame, and its rows.
@@ -79,13 +85,50 @@ impl Model for LatestRows {
     ghost use Rattle.std.specs.Prelude.{List, Option};
     ghost use Rattle.prodash_base.specs.Rows.{PathRow};
     ghost use Rattle.prodash_line.specs.Renderer.{latest_rows};
-    ghost use Rattle.prodash_line.specs.plumbing.KeptLines.{AreAmong};
+    ghost use Rattle.prodash_line.specs.plumbing.KeptLines.{AreKept};
 
     ghost Value = { Option (List PathRow) };
 
     ghost view = { λ l. l.rows };
 
-    ghost invariant = { λ l. AreAmong l.options l.midpoint (latest_rows l.rows) l.bytes l.lines.items };
+    ghost invariant = { λ l. AreKept l.kept (latest_rows l.rows) };
+}
+
+impl KeptLines {
+    /// Returns no lines.
+    fn new(alloc: Global, options: Options) -> KeptLines
+        ensures { result.lines.items ≡ [] }
+    {
+        KeptLines {
+            lines: Vec::new(alloc),
+            bytes: ByteBuffer::new(alloc),
+            options,
+            midpoint: 0,
+        }
+    }
+
+    /// Returns those that a frame with these options and this midpoint may copy, with their rows.
+    fn lines_for<'a>(
+        &'a self,
+        rows: &'a [Row],
+        steps: &'a [Step],
+        options: &Options,
+        midpoint: u16,
+    ) -> EarlierLines<'a>
+        requires { AreKept self.now (with_steps steps.now (rows_of rows.now)) }
+        ensures { AreEarlier options.now midpoint result }
+    {
+        let all = EarlierLines {
+            rows,
+            steps,
+            lines: self.lines.as_slice(),
+            bytes: self.bytes.as_slice(),
+        };
+        if self.midpoint == midpoint && draw_alike(&self.options, options) {
+            return all;
+        }
+        EarlierLines { lines: &[], ..all }
+    }
 }
 
 impl LatestRows {
@@ -95,10 +138,7 @@ impl LatestRows {
     {
         LatestRows {
             rows,
-            lines: Vec::new(alloc),
-            bytes: ByteBuffer::new(alloc),
-            options,
-            midpoint: 0,
+            kept: KeptLines::new(alloc, options),
         }
     }
 
@@ -125,13 +165,11 @@ impl LatestRows {
         ensures before { rows_before result.rows (latest_rows self.new) ≡ self.old }
         ensures lines { KeepsEarlier result (latest_rows self.new) }
     {
-        let alloc = *self.lines.allocator();
+        let alloc = *self.kept.lines.allocator();
+        let none = KeptLines::new(alloc, self.kept.options);
         Earlier {
-            lines: mem::replace(&mut self.lines, Vec::new(alloc)),
+            kept: mem::replace(&mut self.kept, none),
             rows: see_rows(&mut self.rows, alloc, seen),
-            bytes: mem::replace(&mut self.bytes, ByteBuffer::new(alloc)),
-            options: self.options,
-            midpoint: self.midpoint,
         }
     }
 
@@ -142,10 +180,7 @@ impl LatestRows {
         ensures { self.new ≡ rows_before earlier.rows (latest_rows self.old) }
     {
         take_rows_back(&mut self.rows, earlier.rows);
-        self.lines = earlier.lines;
-        self.bytes = earlier.bytes;
-        self.options = earlier.options;
-        self.midpoint = earlier.midpoint;
+        self.kept = earlier.kept;
     }
 
     /// Keeps the lines of what was remembered before, as the rows are the same. Returns these rows
@@ -155,11 +190,9 @@ impl LatestRows {
         requires lines { KeepsEarlier earlier (latest_rows self.old) }
         ensures { self.new ≡ self.old }
     {
-        self.lines = earlier.lines;
-        self.bytes = earlier.bytes;
-        self.options = earlier.options;
-        self.midpoint = earlier.midpoint;
-        earlier.rows
+        let Earlier { rows, kept } = earlier;
+        self.kept = kept;
+        rows
     }
 
     /// Takes the memory of an earlier frame's bytes for those of another. Returns the rows that were
@@ -167,9 +200,10 @@ impl LatestRows {
     pub(crate) fn reuse(&mut self, earlier: Earlier) -> EarlierRows
         ensures { self.new ≡ self.old }
     {
-        self.lines.clear();
-        self.bytes = earlier.bytes;
-        earlier.rows
+        let Earlier { rows, kept } = earlier;
+        self.kept.lines.clear();
+        self.kept.bytes = kept.bytes;
+        rows
     }
 
     /// Keeps the lines of the frame that was written last.
@@ -183,11 +217,11 @@ impl LatestRows {
         requires { AreAmong options midpoint (latest_rows self.old) frame.old.bytes lines.items }
         ensures { self.new ≡ self.old }
     {
-        self.options = options;
-        self.midpoint = midpoint;
-        self.lines = lines;
-        if !self.lines.is_empty() {
-            frame.swap_bytes(&mut self.bytes);
+        self.kept.options = options;
+        self.kept.midpoint = midpoint;
+        self.kept.lines = lines;
+        if !self.kept.lines.is_empty() {
+            frame.swap_bytes(&mut self.kept.bytes);
         }
     }
 
@@ -195,17 +229,7 @@ impl LatestRows {
     pub(crate) fn lines_for(&self, options: &Options, midpoint: u16) -> EarlierLines<'_>
         ensures { AreEarlier options.now midpoint result }
     {
-        let (rows, steps): (&[Row], &[Step]) = (self.as_slice(), &[]);
-        if self.midpoint == midpoint && draw_alike(&self.options, options) {
-            EarlierLines {
-                rows,
-                steps,
-                lines: self.lines.as_slice(),
-                bytes: self.bytes.as_slice(),
-            }
-        } else {
-            EarlierLines::none(rows, steps)
-        }
+        self.kept.lines_for(self.as_slice(), &[], options, midpoint)
     }
 
     /// Returns those of what was remembered before these rows.
@@ -223,16 +247,7 @@ impl LatestRows {
             EarlierRows::Others(Some(rows)) => (rows.as_slice(), &[]),
             EarlierRows::Same(steps) => (self.as_slice(), steps.as_slice()),
         };
-        if earlier.midpoint == midpoint && draw_alike(&earlier.options, options) {
-            EarlierLines {
-                rows,
-                steps,
-                lines: earlier.lines.as_slice(),
-                bytes: earlier.bytes.as_slice(),
-            }
-        } else {
-            EarlierLines::none(rows, steps)
-        }
+        earlier.kept.lines_for(rows, steps, options, midpoint)
     }
 
     /// Whether these rows differ from those that were remembered before, or there were none.
@@ -286,18 +301,6 @@ fn take_rows_back(rows: &mut Option<Rows>, earlier: EarlierRows)
 }
 
 impl<'a> EarlierLines<'a> {
-    /// Returns no lines of these rows, which had these steps.
-    fn none(rows: &'a [Row], steps: &'a [Step]) -> EarlierLines<'a>
-        ensures { result.lines.now ≡ [] }
-    {
-        EarlierLines {
-            rows,
-            steps,
-            lines: &[],
-            bytes: &[],
-        }
-    }
-
     /// Whether some of a few rows, spread over all, show their values alone, and have the progress of
     /// those in their places. If not, few lines can be copied, and lines aren't worth keeping.
     pub(crate) fn resemble(&self, rows: &[Row]) -> bool {
