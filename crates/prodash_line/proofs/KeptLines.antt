@@ -24,7 +24,7 @@ use Rattle.prodash_line.specs.ProgressRows.{DrawnRow, bar, bar_columns, filtered
 use Rattle.prodash_line.specs.Renderer.{Renderer, closes_at, draws_again, idle_action, is_drawn, rows_changed, tick_action, times_go_on}
 use Rattle.prodash_line.specs.Signs.{spelling}
 use Rattle.prodash_line.specs.TextStyles.{name_style, row_style}
-use Rattle.prodash_line.specs.plumbing.KeptLines.{AreAlike, AreAmong, IsAmong, IsAt, IsLineOf, IsPlaced, IsSizeOf, IsWritten, ShowsNone, own_bytes, untimed_line}
+use Rattle.prodash_line.specs.plumbing.KeptLines.{AreAlike, AreAmong, IsAmong, IsAt, IsLineOf, IsPlaced, IsSizeOf, IsWritten, ShowsNone, kept_line, line_size, own_bytes, untimed_line}
 use Rattle.prodash_line.specs.plumbing.OverwriteBytes.{row_end}
 use Rattle.prodash_line.specs.plumbing.Writing.{line_bytes}
 
@@ -122,7 +122,7 @@ among_first options midpoint rows shown others bytes lines e a =
 pub among_last : (options : Options) (midpoint : ℕ) (rows : List Row) (before new rest : List ℕ) (row : Row) (at : ℕ) (size : LineSize)
     → slice_get rows at ≡ Some row → IsSizeOf options midpoint (row_of row, None) size
     → new ≡ before ++ (own_bytes options (untimed_line options midpoint (row_of row, None)) ++ rest)
-    → IsAmong options midpoint (rows_of rows) new (record { row = at; start = length before; size = size })
+    → IsAmong options midpoint (rows_of rows) new (kept_line at (length before) size)
 among_last options midpoint rows before new rest row at size f s e = record {
   row = row_of row;
   found = slice_get-map row_of rows at ∙ ap (option_map row_of) f;
@@ -187,16 +187,16 @@ placed_also options midpoint rows bytes line row earlier a f alike =
     let own : midpoint_of options.defensive (a.row, None) ≡ midpoint_of options.defensive (row, None) =
     ap (λ (r : PathRow). midpoint_of options.defensive (r, None)) same ∙ sym (alike_midpoint options.defensive None row earlier alike) in
     record {
-      size = same_size options midpoint (a.row, None) (row, None) line.size drawn own a.size;
+      size = same_size options midpoint (a.row, None) (row, None) (line_size line) drawn own a.size;
       place = subst (λ (l : Line). IsAt line.start (own_bytes options l) bytes) drawn a.place;
     }
 
 -- the bytes of a line where it is
 pub line_found : (options : Options) (midpoint : ℕ) (row : PathRow) (bytes : List ℕ) (line : RowLine) (copied : CopiedLine) → IsPlaced options midpoint row bytes line
-    → copied.size ≡ line.size → copied.bytes.now ≡ take line.size.length (drop line.start bytes) → IsLineOf options midpoint (row, None) copied
+    → copied.size ≡ line_size line → copied.bytes.now ≡ take line.length (drop line.start bytes) → IsLineOf options midpoint (row, None) copied
 line_found options midpoint row bytes line copied p s b = record {
   size = subst (IsSizeOf options midpoint (row, None)) (sym s) p.size;
-  bytes = b ∙ at_place line.start line.size.length (own_bytes options (untimed_line options midpoint (row, None))) bytes p.place p.size.bytes;
+  bytes = b ∙ at_place line.start line.length (own_bytes options (untimed_line options midpoint (row, None))) bytes p.place p.size.bytes;
 }
 
 -- ---- lines that stand one behind the other
@@ -222,15 +222,15 @@ with_next start end x part whole a e h =
 
 -- a line at least as wide as the one on screen, and a line feed behind it
 pub written_over : (options : Options) (midpoint : ℕ) (row : PathRow) (old_width : ℕ) (bytes : List ℕ) (line : RowLine) (start end : ℕ) → IsPlaced options midpoint row bytes line
-    → line.start ≡ start → end ≡ start + line.size.length → slice_get bytes end ≡ Some 10 → old_width ≤ line.size.width → IsWritten options midpoint row old_width bytes start line.size
+    → line.start ≡ start → end ≡ start + line.length → slice_get bytes end ≡ Some 10 → old_width ≤ line.width → IsWritten options midpoint row old_width bytes start (line_size line)
 written_over options midpoint row old_width bytes line start end p s e h w =
     let drawn = untimed_line options midpoint (row, None) in
     let nothing : 0 ≡ old_width - columns_of drawn = let width = p.size.width in omega (arith, width) in
     let own = own_bytes options drawn in
-    let ended : line.size.length + 1 ≡ length (own ++ row_end 0) = ap (λ (n : ℕ). n + 1) p.size.bytes ∙ sym (length-append own (10 ∷ [])) in
+    let ended : line.length + 1 ≡ length (own ++ row_end 0) = ap (λ (n : ℕ). n + 1) p.size.bytes ∙ sym (length-append own (10 ∷ [])) in
     record {
       own = p.size;
-      long = subst (λ (n : ℕ). line.size.length + 1 ≡ length (own ++ row_end n)) nothing ended;
+      long = subst (λ (n : ℕ). line.length + 1 ≡ length (own ++ row_end n)) nothing ended;
       place = subst (λ (n : ℕ). IsAt start (own_bytes options drawn ++ row_end n) bytes) nothing
           (with_next start end 10 (own_bytes options drawn) bytes (subst (λ (n : ℕ). IsAt n (own_bytes options drawn) bytes) s p.place) (e ∙ ap (λ (n : ℕ). start + n) p.size.bytes) h);
     }

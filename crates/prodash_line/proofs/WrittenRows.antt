@@ -20,7 +20,7 @@ use Rattle.prodash_line.specs.declared.render.line.draw.latest_rows.LineSize.{Li
 use Rattle.prodash_line.specs.declared.render.line.draw.latest_rows.RowLine.{RowLine}
 use Rattle.prodash_line.specs.declared.render.line.draw.line_writer.LineWriter.{LineWriter}
 use Rattle.prodash_line.specs.plumbing.FrameWriting.{shown_rows, times_in}
-use Rattle.prodash_line.specs.plumbing.KeptLines.{IsAmong, IsSizeOf, bytes_over, own_bytes, untimed_line}
+use Rattle.prodash_line.specs.plumbing.KeptLines.{IsAmong, IsSizeOf, bytes_over, kept_line, own_bytes, untimed_line}
 use Rattle.prodash_line.specs.plumbing.Observing.{ahead_of, observe_all, observe_by, shown_by, throughput_by}
 use Rattle.prodash_line.specs.plumbing.OverwriteBytes.{lines_bytes, overwrite_line_bytes, row_end}
 use Rattle.prodash_line.specs.plumbing.Writing.{line_bytes}
@@ -93,7 +93,7 @@ pub run_written : (scene : Scene) (rows : List Row) (first : RowsLeft) (n : ℕ)
     → new_drawn.rows_erased ≡ drawn.rows_erased
     → new_drawn.action ≡ drawn.action
     → KeepsRun scene rows first (left_at rows tracker (n, widths) bytes drawn) old lines
-    → KeepsRun scene rows first (left_at rows tracker (n + 1, others) new new_drawn) old (lines ++ record { row = n; start = length bytes; size = size } ∷ [])
+    → KeepsRun scene rows first (left_at rows tracker (n + 1, others) new new_drawn) old (lines ++ kept_line n (length bytes) size ∷ [])
 run_written scene rows first n widths others bytes new drawn new_drawn old lines tracker row size untimed all none found is wrote rest wide aligned erased action run =
     let o = scene.options in
     let midpoint = scene.past.now.midpoint in
@@ -112,7 +112,7 @@ run_written scene rows first n widths others bytes new drawn new_drawn old lines
           (wide ∙ ap (λ (w : ℕ). drawn.widths.items ++ w ∷ []) (is.width ∙ ap columns_of same))
           (aligned ∙ ap (max drawn.midpoint) is.midpoint) erased action);
       lines = λ among.
-          let last : RowLine = record { row = n; start = length bytes; size = size } in
+          let last = kept_line n (length bytes) size in
           let own = among_last o midpoint rows bytes new (row_end (first_width widths - columns_of (untimed_line o midpoint shown))) row n size found is wrote in
           let one = All-cons (IsAmong o midpoint (rows_of rows) new) last [] own (λ k d within. absurd (omega arith)) in
           All-append (IsAmong o midpoint (rows_of rows) new) lines (last ∷ []) (among_more o midpoint (rows_of rows) bytes _ new lines wrote (run.lines among)) one;

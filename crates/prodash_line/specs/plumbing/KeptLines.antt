@@ -43,11 +43,19 @@ pub record IsSizeOf (options : Options) (aligned : ℕ) (drawn : DrawnRow) (size
   pub width : size.width ≡ columns_of (untimed_line options aligned drawn)
   pub midpoint : size.midpoint ≡ midpoint_of options.defensive drawn
 
+-- the size of a line that is kept
+abbrev pub line_size : RowLine → LineSize
+line_size line = record { length = line.length; width = line.width; midpoint = line.midpoint }
+
+-- what is kept of a line: the index of its row, where it begins, and its size
+abbrev pub kept_line : ℕ → ℕ → LineSize → RowLine
+kept_line row start size = record { row = row; start = start; length = size.length; width = size.width; midpoint = size.midpoint }
+
 -- it is the line of one of these rows without a throughput, among these bytes
 pub record IsAmong (options : Options) (aligned : ℕ) (rows : List PathRow) (bytes : List ℕ) (line : RowLine) : Type 0 where
   pub row : PathRow
   pub found : slice_get rows line.row ≡ Some row
-  pub size : IsSizeOf options aligned (row, None) line.size
+  pub size : IsSizeOf options aligned (row, None) (line_size line)
   pub place : IsAt line.start (own_bytes options (untimed_line options aligned (row, None))) bytes
 
 -- each of them is
@@ -72,7 +80,7 @@ AreEarlier options midpoint e = AreAmong options midpoint (drawn_in e) e.bytes.n
 
 -- it is the line of this row without a throughput, among these bytes
 pub record IsPlaced (options : Options) (aligned : ℕ) (row : PathRow) (bytes : List ℕ) (line : RowLine) : Type 0 where
-  pub size : IsSizeOf options aligned (row, None) line.size
+  pub size : IsSizeOf options aligned (row, None) (line_size line)
   pub place : IsAt line.start (own_bytes options (untimed_line options aligned (row, None))) bytes
 
 -- a line of an earlier frame is that of this row too, with whichever options and midpoint it is that of its row

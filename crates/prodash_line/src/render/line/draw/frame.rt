@@ -626,12 +626,7 @@ fn write_again(
         let size = write_line(alloc, out, &mut texts, scene, row, source)?;
         drawn.midpoint = drawn.midpoint.max(size.midpoint);
         drawn.widths.push(size.width)?;
-        let line = RowLine {
-            row: n,
-            start,
-            size,
-        };
-        keep_line(&mut copier.lines, row, &throughput, line)?;
+        keep_line(&mut copier.lines, row, &throughput, n, start, size)?;
     }
 }
 

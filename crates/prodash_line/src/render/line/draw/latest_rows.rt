@@ -6,7 +6,7 @@ ghost use Rattle.prodash_base.specs.Units.{measure_of};
 ghost use Rattle.prodash_base.specs.declared.unit.display.Throughput.{Throughput};
 ghost use Rattle.prodash_line.specs.Renderer.{latest_rows, rows_changed};
 ghost use Rattle.prodash_line.specs.plumbing.EarlierRows.{KeepsEarlier, changed_after, rows_before, rows_seen};
-ghost use Rattle.prodash_line.specs.plumbing.KeptLines.{WasThere, drawn_in, AddsLine, AreAlike, AreAmong, AreEarlier, AreKept, DrawAlike, FindsLine, FindsLineIn, IsAlso, IsWrittenIn, ShowsNone, are_same_units, are_same_values};
+ghost use Rattle.prodash_line.specs.plumbing.KeptLines.{WasThere, drawn_in, AddsLine, AreAlike, AreAmong, AreEarlier, AreKept, DrawAlike, FindsLine, FindsLineIn, IsAlso, IsWrittenIn, ShowsNone, are_same_units, are_same_values, kept_line, line_size};
 
 use crate::render::line::byte_buffer::ByteBuffer;
 use crate::render::line::draw::earlier_rows::{Earlier, EarlierRows, SeenRows};
@@ -33,15 +33,22 @@ pub(crate) struct LineSize {
     pub(crate) midpoint: u16,
 }
 
-/// The line of a row among the bytes of a frame.
+/// The line of a row among the bytes of a frame. It is small, since one is kept for each row.
 #[derive(Clone, Copy, Debug)]
 pub(crate) struct RowLine {
     /// The index of the row.
-    pub(crate) row: usize,
+    row: u32,
     /// The index of the line's first byte.
-    pub(crate) start: usize,
-    pub(crate) size: LineSize,
+    start: u32,
+    /// The length in its `LineSize`.
+    length: u32,
+    /// The width there.
+    width: u16,
+    /// The midpoint there.
+    midpoint: u16,
 }
+
+const _: () = prove!(size_of::<RowLine>() == 16);
 
 /// A line that is copied from an earlier frame.
 #[derive(Clone, Copy, Debug)]
@@ -92,6 +99,38 @@ impl Model for LatestRows {
     ghost view = { λ l. l.rows };
 
     ghost invariant = { λ l. AreKept l.kept (latest_rows l.rows) };
+}
+
+impl RowLine {
+    /// Returns a line of this size, that of the row at an index, which begins at this byte.
+    #[inline(always)]
+    pub(crate) fn new(row: usize, start: usize, size: LineSize) -> RowLine
+        requires row { row < 4294967296 }
+        requires start { start < 4294967296 }
+        requires length { size.length < 4294967296 }
+        ensures { result ≡ kept_line row start size }
+    {
+        RowLine {
+            row: row as u32,
+            start: start as u32,
+            length: size.length as u32,
+            width: size.width,
+            midpoint: size.midpoint,
+        }
+    }
+
+    /// Returns how large it is.
+    #[inline(always)]
+    fn size(&self) -> LineSize
+        ensures size { result ≡ line_size self.now }
+        ensures length { result.length < 4294967296 }
+    {
+        LineSize {
+            length: self.length as usize,
+            width: self.width,
+            midpoint: self.midpoint,
+        }
+    }
 }
 
 impl KeptLines {
@@ -373,9 +412,8 @@ impl<'a> EarlierLines<'a> {
         if !self.is_line_of(line, row) {
             return None;
         }
-        let (start, size) = (line.start, line.size);
-        let end = start.checked_add(size.length)?;
-        let bytes = self.bytes.get(start..end)?;
+        let (start, size) = (line.start as usize, line.size());
+        let bytes = self.bytes.get(start..start + size.length)?;
         Some(CopiedLine { bytes, size })
     }
 
@@ -384,9 +422,10 @@ impl<'a> EarlierLines<'a> {
     fn is_line_of(&self, line: &RowLine, row: &Row) -> bool
         ensures { result ≡ true → IsAlso self.now line.now (row_of row.now) }
     {
-        match self.rows.get(line.row) {
+        let index = line.row as usize;
+        match self.rows.get(index) {
             Some(latest) => {
-                if !self.has_step(line.row, latest) {
+                if !self.has_step(index, latest) {
                     return false;
                 }
                 are_alike(row, latest)
@@ -407,7 +446,7 @@ impl<'a> EarlierLines<'a> {
         ensures { result ≤ length self.now.bytes.now }
     {
         match self.lines.get(index) {
-            Some(line) => line.start.min(self.bytes.len()),
+            Some(line) => (line.start as usize).min(self.bytes.len()),
             None => 0,
         }
     }
@@ -426,23 +465,23 @@ impl<'a> EarlierLines<'a> {
         ensures index { IfSome result (λ size. index < 18446744073709551615) }
     {
         let line = self.lines.get(index)?;
-        if line.start != start || line.size.width < old_width {
+        let size = line.size();
+        if line.start as usize != start || size.width < old_width {
             return None;
         }
         if !self.is_line_of(line, row) {
             return None;
         }
-        let end = start.checked_add(line.size.length)?;
-        let after = self.bytes.get(end)?;
+        let after = self.bytes.get(start + size.length)?;
         if *after != b'\n' {
             return None;
         }
-        Some(line.size)
+        Some(size)
     }
 
     /// Returns whether the row of a line is above this one in the tree's order.
     fn is_above(&self, line: &RowLine, row: &Row) -> bool {
-        match self.rows.get(line.row) {
+        match self.rows.get(line.row as usize) {
             Some(earlier) => earlier.key < row.key,
             None => false,
         }
@@ -515,20 +554,24 @@ fn is_same_state(own: &State, other: &State) -> bool
     }
 }
 
-/// Adds the line of a row to those that the next frame may copy, if it shows no throughput. Fails if
-/// out of memory.
+/// Adds the line of the row at an index, which begins at this byte and is so large, to those that
+/// the next frame may copy, if it shows no throughput and these numbers have at most 32 bits. Fails
+/// if out of memory.
 #[inline(always)]
 pub(crate) fn keep_line(
     lines: &mut Vec<RowLine>,
     row: &Row,
     throughput: &Option<Throughput>,
-    line: RowLine,
+    index: usize,
+    start: usize,
+    size: LineSize,
 ) -> Result<(), AllocError>
-    ensures { OnOk result (AddsLine (row_of row.now) throughput.now line lines.old.items
-        lines.new.items) }
+    ensures { OnOk result (AddsLine (row_of row.now) throughput.now
+        (kept_line index start size) lines.old.items lines.new.items) }
 {
-    if shows_no_throughput(row, throughput) {
-        lines.push(line)?;
+    let most = index.max(start).max(size.length);
+    if u32::try_from(most).is_ok() && shows_no_throughput(row, throughput) {
+        lines.push(RowLine::new(index, start, size))?;
     }
     Ok(())
 }

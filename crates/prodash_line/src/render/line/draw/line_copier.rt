@@ -31,8 +31,9 @@ pub(crate) struct NextRow<'a> {
 
 impl<'a> LineCopier<'a> {
     /// Copies the lines of this row and of those below it, while each line is that of the row and
-    /// follows the one before among the earlier ones. Copies none if throughput is measured or
-    /// levels are filtered. Returns the row that is written next then. Fails if out of memory.
+    /// follows the one before among the earlier ones. Copies none if throughput is measured, levels
+    /// are filtered, or there are more rows or bytes than 32 bits count. Returns the row that is
+    /// written next then. Fails if out of memory.
     #[inline(never)]
     pub(crate) fn copy_run<'b>(
         &mut self,
@@ -49,8 +50,8 @@ impl<'a> LineCopier<'a> {
         ensures index { IfOk result (λ next. at.entry.index ≤ next.index) }
     {
         let (earlier, before) = (self.earlier, out.len());
-        let most = before.checked_add(earlier.bytes().len());
-        if tracker.is_some() || levels.is_some() || most.is_none() {
+        let most = before.saturating_add(earlier.bytes().len()).max(rows.len());
+        if tracker.is_some() || levels.is_some() || u32::try_from(most).is_err() {
             return Ok(at);
         }
         let start = earlier.start_of(self.next);
@@ -58,11 +59,7 @@ impl<'a> LineCopier<'a> {
         while let Some(size) = self.size_of(rows, n, left, end) {
             drawn.midpoint = drawn.midpoint.max(size.midpoint);
             drawn.widths.push(size.width)?;
-            let line = RowLine {
-                row: n,
-                start: before + (end - start),
-                size,
-            };
+            let line = RowLine::new(n, before + (end - start), size);
             self.lines.push(line)?;
             self.next += 1;
             end += size.length + 1;

@@ -7,7 +7,7 @@ use Rattle.prodash_line.specs.Frames.{first_width}
 use Rattle.prodash_line.specs.Lines.{Line, columns_of}
 use Rattle.prodash_line.specs.ProgressRows.{DrawnRow, drawn_row_line, filtered, times_at}
 use Rattle.prodash_line.specs.declared.render.line.draw.latest_rows.EarlierLines.{EarlierLines}
-use Rattle.prodash_line.specs.plumbing.KeptLines.{AreEarlier, IsAmong, own_bytes, untimed_line}
+use Rattle.prodash_line.specs.plumbing.KeptLines.{AreEarlier, IsAmong, kept_line, own_bytes, untimed_line}
 use Rattle.prodash_line.specs.plumbing.OverwriteBytes.{row_end}
 use Rattle.prodash_line.specs.plumbing.WrittenRows.{RowsLeft, left_at}
 use Rattle.prodash_line.proofs.KeptLines.{among_last, among_more, filtered_from, same_size}
@@ -51,7 +51,7 @@ rows-preserved c =
           (let own = size.midpoint in search (rules, own)) (search rules) (search rules));
       lines = c.in_ok-keep_line.ensures o aligned (rows_of rows) new
           (among_more o aligned (rows_of rows) out _ new c.copy_run.new.self.lines.items bytes (run.lines c.rows.invariant.lines))
-          (λ shows. subst (λ (start : ℕ). IsAmong o aligned (rows_of rows) new (record { row = n; start = start; size = c.in_ok-size.size })) (sym c.len-start.ensures)
+          (λ shows. subst (λ (start : ℕ). IsAmong o aligned (rows_of rows) new (kept_line n start c.in_ok-size.size)) (sym c.len-start.ensures)
           (among_last o aligned rows out new (row_end (width - columns_of (untimed_line o aligned drawn))) row n c.in_ok-size.size found
           (same_size o aligned drawn (row_of row, None) c.in_ok-size.size (shows.line o aligned) (shows.midpoint o.defensive) size)
           (bytes ∙ ap (λ (l : Line). out ++ (own_bytes o l ++ row_end (width - columns_of (untimed_line o aligned drawn)))) (shows.line o aligned))));

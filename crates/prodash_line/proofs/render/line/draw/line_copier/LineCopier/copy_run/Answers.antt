@@ -6,7 +6,7 @@ use Rattle.prodash_base.specs.Rows.{row_of}
 use Rattle.prodash_line.specs.Frames.{first_width}
 use Rattle.prodash_line.specs.declared.render.line.draw.latest_rows.EarlierLines.{EarlierLines}
 use Rattle.prodash_line.specs.declared.render.line.draw.latest_rows.RowLine.{RowLine}
-use Rattle.prodash_line.specs.plumbing.KeptLines.{IsWrittenIn, bytes_over, untimed_line}
+use Rattle.prodash_line.specs.plumbing.KeptLines.{IsWrittenIn, bytes_over, kept_line, untimed_line}
 use Rattle.prodash_line.specs.plumbing.WrittenRows.{KeepsRun, left_at}
 use Rattle.prodash_line.proofs.KeptLines.{length-run, run_bytes, run_more, run_nothing}
 use Rattle.prodash_line.proofs.WrittenRows.{run_written, starts}
@@ -67,7 +67,7 @@ loop-size-preserved c =
           subst (λ (ls : List RowLine). KeepsRun scene rows (left_at rows c.args.tracker.now (c.args.at.index, c.args.at.widths.now) out c.args.drawn.now)
           (left_at rows c.args.tracker.now (n + 1, c.split_first_width.result.1.now) (out ++ run_bytes bytes start (end + (size.length + 1))) (record c.loop-size.drawn { widths = c.push.new.self; midpoint = c.max-drawn.result }))
           c.args.self.now.lines.items ls)
-          (ap (λ (s : ℕ). lines ++ record { row = n; start = s; size = size } ∷ []) placed ∙ sym c.in_ok-push-2.ensures.items)
+          (ap (λ (s : ℕ). lines ++ kept_line n s size ∷ []) placed ∙ ap (λ (line : RowLine). lines ++ line ∷ []) (sym c.new-line.ensures) ∙ sym c.in_ok-push-2.ensures.items)
           (run_written scene rows _ n widths c.split_first_width.result.1.now written (out ++ run_bytes bytes start (end + (size.length + 1))) c.loop-size.drawn (record c.loop-size.drawn { widths = c.push.new.self; midpoint = c.max-drawn.result })
           c.args.self.now.lines.items lines c.args.tracker.now found.row size untimed (levels ∙ all) none found.found own.own more
           c.split_first_width.ensures.others c.in_ok-push.ensures.items (search rules) (search rules) (search rules)
