@@ -54,6 +54,8 @@ pub mod TimeTexts
 pub mod UnseenSigns
 pub mod WholeTexts
 pub mod SafeFrames
+pub mod WrittenDigits
+pub mod LabelledTexts
 pub mod WorkedCharacters
 pub mod WorkedCuts
 pub mod WorkedEnvironments

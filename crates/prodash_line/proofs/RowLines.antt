@@ -37,17 +37,12 @@ parts_written a b c d text first second third n m k e eb em ec ek ed =
     ∙ ap (λ j. a ++ (mine ++ take j (second ++ third))) em
     ∙ ap (λ t. a ++ t) (sym (take-parts n first (second ++ third)) ∙ ap (take n) (sym e))
 
--- where it ends
-pub fraction_end : (text step slash bound : List ℕ) (before width own : ℕ) → text ≡ step ++ (slash ++ bound)
-    → is_printable step ≡ true → is_printable slash ≡ true → is_printable bound ≡ true
-    → width ≡ length step + length slash + length bound → own ≡ capped (capped (before + 1) + width) → own ≡ end_of_values before (piece text ∷ [])
-fraction_end text step slash bound before width own v q1 q2 q3 e o =
-    let values = step ++ (slash ++ bound) in
+-- where printable characters end
+pub text_end : (text : List ℕ) (before width own : ℕ) → is_printable text ≡ true → width ≡ length text → own ≡ capped (capped (before + 1) + width) → own ≡ end_of_values before (piece text ∷ [])
+text_end text before width own h e o =
     let one : str_width false (replicate 1 32) ≡ 1 = width-repeated 1 32 (omega arith) (omega arith) in
-    let columns : str_width false values ≡ length values = width-printable values (printable-append step (slash ++ bound) q1 (printable-append slash bound q2 q3)) in
-    let size : length values ≡ length step + length slash + length bound = omega (arith, length-append step (slash ++ bound), length-append slash bound) in
-    let same : own ≡ end_of_values before (piece values ∷ []) = omega arith in
-    same ∙ ap (λ t. end_of_values before (piece t ∷ [])) (sym v)
+    let columns : str_width false text ≡ length text = width-printable text h in
+    omega arith
 
 -- where values and a unit end
 pub unit_end : (values unit : List ℕ) (before first second own : ℕ) → first ≡ columns_of (piece values ∷ []) → second ≡ columns_of (piece unit ∷ [])

@@ -1,5 +1,5 @@
 -- The values of a row after the head of its line, with spaces that bring their end to a midpoint, and its bar.
-use Rattle.std.specs.Prelude.{◌≡◌, ℕ, List, [], Bool, false, ◌+◌, ◌-◌, ◌∷◌, ◌++◌, Option, Some, None, codes, replicate, length, drop, nat_lt}
+use Rattle.std.specs.Prelude.{◌≡◌, ℕ, List, [], Bool, true, false, ◌+◌, ◌-◌, ◌/◌, ◌%◌, ◌∷◌, ◌++◌, Option, Some, None, codes, replicate, length, drop, nat_lt}
 use Rattle.prodash_base.specs.Rows.{RowProgress, progress_of, row_of}
 use Rattle.prodash_base.specs.Units.{measure_of}
 use Rattle.prodash_base.specs.declared.progress.Value.{Value}
@@ -7,6 +7,11 @@ use Rattle.prodash_base.specs.declared.unit.display.Throughput.{Throughput}
 use Rattle.prodash_base.specs.declared.unit.units.Unit.{Unit}
 use Rattle.prodash_line.specs.declared.render.line.draw.input.Options.{Options}
 use Rattle.prodash_line.specs.declared.render.line.draw.plain_progress.PlainText.{PlainText}
+use Rattle.prodash_line.specs.declared.render.line.draw.plain_progress.PlainText.TheVariants.{Fraction, Labelled, Other}
+use Rattle.prodash_base.specs.declared.unit.display.Mode.{Mode}
+use Rattle.prodash_base.specs.declared.unit.display.Location.TheVariants.{BeforeValue}
+use Rattle.prodash_base.specs.Displays.{amount, text_at}
+use Rattle.prodash_base.specs.Shown.{Shown}
 use Rattle.prodash_line.specs.declared.render.line.draw.plain_progress.PlainProgress.{PlainProgress}
 use Rattle.prodash_line.specs.declared.render.line.draw.row.DrawnProgress.{DrawnProgress}
 use Rattle.prodash_line.specs.declared.render.line.draw.row.Measured.{Measured}
@@ -17,7 +22,7 @@ use Rattle.prodash_line.specs.declared.render.line.draw.line_writer.LineWriter.{
 use Rattle.prodash_line.specs.Lines.{Line, piece, spaces, capped, columns_of}
 use Rattle.prodash_line.specs.ProgressRows.{times_at, time_line, fraction_values, values_in, values_of, bar, bar_columns, fraction_of, bar_with, head_of, midpoint_of, row_line}
 use Rattle.prodash_line.specs.TextStyles.{row_style}
-use Rattle.prodash_line.specs.plumbing.Writing.{Appends, AppendsIn, DrawsLine}
+use Rattle.prodash_line.specs.plumbing.Writing.{is_printable, Appends, AppendsIn, DrawsLine}
 use Rattle.std.specs.Fmt.{decimal}
 use Rattle.prodash_line.specs.DrawnLines.{layout_of}
 use Rattle.prodash_line.specs.plumbing.OverwriteBytes.{on_row}
@@ -130,19 +135,35 @@ pub record AppendsText (width : ℕ) (most : Option ℕ) (midpoint : ℕ) (text 
   pub padded : Appends old (piece (replicate (1 + (midpoint - own)) 32 ++ text) ∷ []) between
   pub bar : AppendsIn false between (bar (row_style p) (bar_columns most (width - between.width)) p.counter p.bound) new
 
--- the characters of a text in three parts
+-- the two digits of a number below 100, the first of which may be a zero
+abbrev pub two_digits : ℕ → List ℕ
+two_digits n = (48 + n / 10) ∷ (48 + n % 10) ∷ []
+
+-- the characters of a text
 abbrev pub whole_text : PlainText → List ℕ
-whole_text text = text.first.now ++ (text.second.now ++ text.third.now)
+whole_text (Fraction step bound) = fraction_of step bound
+whole_text (Labelled step bound label) = fraction_of step bound ++ (codes " " ++ label.now)
+whole_text (Other text) = text.now
 
 -- how many characters it has
 abbrev pub text_length : PlainText → ℕ
-text_length text = length text.first.now + length text.second.now + length text.third.now
+text_length text = length (whole_text text)
+
+-- in this mode nothing is shown before values
+abbrev pub NothingBefore : Option Mode → Type 0
+NothingBefore mode = (shown : Shown) (value : ℕ) (bound : Option ℕ) (throughput : Option Throughput) → text_at shown mode BeforeValue (amount value bound throughput) ≡ []
 
 -- the same without styles, of such a text
 abbrev pub DrawsText : DrawnProgress → PlainText → ℕ → LineWriter → LineWriter → Type 0
 DrawsText d text own old new =
     let o = d.options.now in
     AppendsText o.terminal_dimensions.0 o.bar_columns d.midpoint (whole_text text) (progress_of d.value.now) own old new
+
+-- the same, of a fraction, a space and a label of printable characters
+pub record DrawsLabelled (d : DrawnProgress) (label : List ℕ) (own : ℕ) (old new : LineWriter) : Type 0 where
+  pub printable : is_printable label ≡ true
+  pub text_follows : let o = d.options.now in
+      AppendsText o.terminal_dimensions.0 o.bar_columns d.midpoint (fraction_of d.value.now.step d.value.now.done_at ++ (codes " " ++ label)) (progress_of d.value.now) own old new
 
 -- this with the column at which values end, or nothing at all
 abbrev pub OrNothing : LineWriter → LineWriter → (ℕ → LineWriter → LineWriter → Type 0) → Option ℕ → Type 0

@@ -1,8 +1,12 @@
 //! A buffer that bytes are appended to.
 ghost use Rattle.std.specs.Prelude.{◌≡◌, ◌+◌, ◌∷◌, [], ◌++◌, ◌≤◌, ◌<◌, length, replicate, take, vec_len, OnOk, IfOk};
-ghost use Rattle.prodash_line.specs.plumbing.RowWriting.{plain_bar, whole_text, text_length, length_of, progress_bytes};
+ghost use Rattle.std.specs.Fmt.{decimal};
+ghost use Rattle.prodash_line.specs.ProgressRows.{fraction_of};
+ghost use Rattle.prodash_line.specs.plumbing.RowWriting.{two_digits, plain_bar, whole_text, text_length, length_of, progress_bytes};
 
 use crate::render::line::draw::plain_progress::{PlainProgress, PlainText};
+use itoa::Buffer;
+use prodash_base::progress::Step;
 use std::alloc::{AllocError, Global};
 use std::marker::Model;
 
@@ -98,6 +102,7 @@ impl ByteBuffer {
     /// Appends a progress without styles. Fails if out of memory.
     #[inline(always)]
     pub(crate) fn push_progress(&mut self, progress: &PlainProgress<'_>) -> Result<(), AllocError>
+        requires columns { progress.now.columns ≡ text_length progress.now.text }
         requires within { progress.now.filled ≤ progress.now.cells }
         requires short { length_of progress.now ≤ 65535 }
         ensures { OnOk result (self.new ≡ self.old ++ progress_bytes progress.now) }
@@ -108,6 +113,23 @@ impl ByteBuffer {
         let at = put_copies(&mut self.initialized, self.length, b' ', gap);
         let at = put_text(&mut self.initialized, at, &progress.text);
         self.length = put_bar(&mut self.initialized, at, progress.cells, progress.filled);
+        Ok(())
+    }
+
+    /// Appends a step, and a slash and its bound if it has one, which are this long together. Fails
+    /// if out of memory.
+    #[inline(always)]
+    pub(crate) fn push_fraction(
+        &mut self,
+        step: Step,
+        done_at: Option<Step>,
+        count: u16,
+    ) -> Result<(), AllocError>
+        requires { count ≡ length (fraction_of step done_at) }
+        ensures { OnOk result (self.new ≡ self.old ++ fraction_of step done_at) }
+    {
+        make_room(&mut self.initialized, self.length, usize::from(count))?;
+        self.length = put_fraction(&mut self.initialized, self.length, step, done_at);
         Ok(())
     }
 
@@ -192,9 +214,93 @@ fn put_text(bytes: &mut Vec<u8>, at: usize, text: &PlainText<'_>) -> usize
     ensures length { vec_len bytes.new ≡ vec_len bytes.old }
     ensures put { take result bytes.new.items ≡ take at bytes.old.items ++ whole_text text.now }
 {
-    let at = put_bytes(bytes, at, text.first);
-    let at = put_bytes(bytes, at, text.second);
-    put_bytes(bytes, at, text.third)
+    match *text {
+        PlainText::Fraction(step, done_at) => put_fraction(bytes, at, step, done_at),
+        PlainText::Labelled(step, done_at, label) => {
+            let at = put_fraction(bytes, at, step, done_at);
+            let at = put_byte(bytes, at, b' ');
+            put_bytes(bytes, at, label)
+        }
+        PlainText::Other(text) => put_bytes(bytes, at, text),
+    }
+}
+
+/// Writes a step, and a slash and its bound if it has one, from an index on, and returns the index
+/// after them.
+#[inline(always)]
+fn put_fraction(bytes: &mut Vec<u8>, at: usize, step: Step, done_at: Option<Step>) -> usize
+    requires { at + length (fraction_of step done_at) ≤ vec_len bytes.old }
+    ensures end { result ≡ at + length (fraction_of step done_at) }
+    ensures length { vec_len bytes.new ≡ vec_len bytes.old }
+    ensures put { take result bytes.new.items ≡ take at bytes.old.items ++ fraction_of step done_at }
+{
+    match done_at {
+        None => put_decimal(bytes, at, step),
+        Some(bound) => {
+            let at = put_decimal(bytes, at, step);
+            let at = put_byte(bytes, at, b'/');
+            put_decimal(bytes, at, bound)
+        }
+    }
+}
+
+/// Writes a number in decimal digits from an index on, and returns the index after them.
+#[inline(always)]
+fn put_decimal(bytes: &mut Vec<u8>, at: usize, n: u64) -> usize
+    requires { at + length (decimal n) ≤ vec_len bytes.old }
+    ensures end { result ≡ at + length (decimal n) }
+    ensures length { vec_len bytes.new ≡ vec_len bytes.old }
+    ensures put { take result bytes.new.items ≡ take at bytes.old.items ++ decimal n }
+{
+    if n < 100 {
+        put_below_100(bytes, at, n)
+    } else if n < 10_000 {
+        let at = put_below_100(bytes, at, n / 100);
+        put_two_digits(bytes, at, n % 100)
+    } else {
+        put_large(bytes, at, n)
+    }
+}
+
+/// Does what `put_decimal` does for a number below 100.
+#[inline(always)]
+fn put_below_100(bytes: &mut Vec<u8>, at: usize, n: u64) -> usize
+    requires small { n < 100 }
+    requires room { at + length (decimal n) ≤ vec_len bytes.old }
+    ensures end { result ≡ at + length (decimal n) }
+    ensures length { vec_len bytes.new ≡ vec_len bytes.old }
+    ensures put { take result bytes.new.items ≡ take at bytes.old.items ++ decimal n }
+{
+    if n < 10 {
+        return put_byte(bytes, at, b'0' + n as u8);
+    }
+    put_two_digits(bytes, at, n)
+}
+
+/// Writes the two digits of a number below 100, the first of which may be a zero, from an index on,
+/// and returns the index after them.
+#[inline(always)]
+fn put_two_digits(bytes: &mut Vec<u8>, at: usize, n: u64) -> usize
+    requires small { n < 100 }
+    requires room { at + 2 ≤ vec_len bytes.old }
+    ensures end { result ≡ at + 2 }
+    ensures length { vec_len bytes.new ≡ vec_len bytes.old }
+    ensures put { take result bytes.new.items ≡ take at bytes.old.items ++ two_digits n }
+{
+    let at = put_byte(bytes, at, b'0' + (n / 10) as u8);
+    put_byte(bytes, at, b'0' + (n % 10) as u8)
+}
+
+/// Does what `put_decimal` does for a large number.
+#[cold]
+#[inline(never)]
+fn put_large(bytes: &mut Vec<u8>, at: usize, n: u64) -> usize
+    requires { at + length (decimal n) ≤ vec_len bytes.old }
+    ensures end { result ≡ at + length (decimal n) }
+    ensures length { vec_len bytes.new ≡ vec_len bytes.old }
+    ensures put { take result bytes.new.items ≡ take at bytes.old.items ++ decimal n }
+{
+    put_bytes(bytes, at, Buffer::new().format(n).as_bytes())
 }
 
 /// Writes a bar of `cells` cells, of which the first `filled` are filled, from an index on, and

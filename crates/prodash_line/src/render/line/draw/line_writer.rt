@@ -3,9 +3,9 @@
 ghost use Rattle.std.specs.Prelude.{◌≡◌, ◌+◌, ◌-◌, ℕ, ◌∷◌, [], ◌++◌, ◌≤◌, ◌<◌, true, false, chars, length, replicate, take, OnOk, IfOk};
 ghost use Rattle.prodash_line.specs.Signs.{spelling_of};
 ghost use Rattle.prodash_line.specs.Lines.{piece, styled, spaces};
-ghost use Rattle.prodash_line.specs.ProgressRows.{bar_with};
+ghost use Rattle.prodash_line.specs.ProgressRows.{bar_with, fraction_of};
 ghost use Rattle.prodash_line.specs.plumbing.Writing.{IsMeasured, line_bytes, is_printable, style_of_length, open_bytes, reset_bytes, Appends, AppendsPair, AppendsIndented, AppendsIfRoom, run, Begun, SameLine, Counts};
-ghost use Rattle.prodash_line.specs.plumbing.RowWriting.{whole_text, text_length, length_of, progress_bytes};
+ghost use Rattle.prodash_line.specs.plumbing.RowWriting.{FollowsStep, text_length, length_of, progress_bytes};
 ghost use Rattle.prodash_line.specs.plumbing.OverwriteBytes.{on_row, row_end, EndsOver, IsCutWidth};
 
 use crate::render::line::byte_buffer::ByteBuffer;
@@ -15,11 +15,12 @@ use crate::render::line::draw::erasing::start_row;
 use crate::render::line::draw::fitting::{fit_indented, fit_printable, fit_text};
 use crate::render::line::draw::layout::Layout;
 use crate::render::line::draw::measured_names::MeasuredNames;
-use crate::render::line::draw::plain_progress::{PlainProgress, PlainText};
+use crate::render::line::draw::plain_progress::PlainProgress;
 use crate::render::line::draw::room::Room;
 use crate::render::line::draw::text::text_width;
 use crate::render::line::page::{Sign, Style, push_open, push_reset, push_sign};
-use prodash_base::progress::Level;
+use itoa::Buffer;
+use prodash_base::progress::{Level, Step};
 use std::alloc::{AllocError, Global};
 use std::mem;
 
@@ -205,6 +206,7 @@ impl LineWriter {
     /// has; otherwise nothing is appended. Fails if out of memory.
     #[inline(always)]
     pub(crate) fn push_progress(&mut self, progress: &PlainProgress<'_>) -> Result<bool, AllocError>
+        requires columns { progress.now.columns ≡ text_length progress.now.text }
         requires within { progress.now.filled ≤ progress.now.cells }
         requires short { length_of progress.now ≤ 65535 }
         ensures { IfOk result (AppendsIfRoom self.old (progress_bytes progress.now) self.new) }
@@ -281,26 +283,50 @@ impl LineWriter {
         Ok(0)
     }
 
-    /// Writes the first `limit` bytes of a text that has been counted. Fails if out of memory.
-    pub(crate) fn push_parts(&mut self, text: &PlainText<'_>, limit: u16) -> Result<(), AllocError>
-        requires { text_length text.now ≤ 65535 }
+    /// Writes the first `limit` characters of a step, and of a slash and its bound if it has one,
+    /// which are `count` characters and have been counted. Fails if out of memory.
+    #[inline(always)]
+    pub(crate) fn push_fraction(
+        &mut self,
+        step: Step,
+        done_at: Option<Step>,
+        count: u16,
+        limit: u16,
+    ) -> Result<(), AllocError>
+        requires { count ≡ length (fraction_of step done_at) }
         ensures bytes { OnOk result
-            (self.new.bytes ≡ self.old.bytes ++ take limit (whole_text text.now)) }
+            (self.new.bytes ≡ self.old.bytes ++ take limit (fraction_of step done_at)) }
         ensures line { OnOk result (SameLine self.old self.new) }
     {
-        let (first, second, third) = (text.first, text.second, text.third);
-        if text.len() <= limit {
-            self.bytes.extend_from_slice(first)?;
-            match second {
-                [byte] => self.bytes.push(*byte)?,
-                _ => self.bytes.extend_from_slice(second)?,
-            }
-            self.bytes.extend_from_slice(third)?;
-            return Ok(());
+        if limit == 0 {
+            Ok(())
+        } else if count <= limit {
+            self.bytes.push_fraction(step, done_at, count)
+        } else {
+            self.push_cut_fraction(step, done_at, limit)
         }
-        let limit = self.push_prefix(first, limit)?;
-        let limit = self.push_prefix(second, limit)?;
-        self.push_prefix(third, limit)?;
+    }
+
+    /// Does what `push_fraction` does where the line is cut.
+    #[cold]
+    #[inline(never)]
+    fn push_cut_fraction(
+        &mut self,
+        step: Step,
+        done_at: Option<Step>,
+        limit: u16,
+    ) -> Result<(), AllocError>
+        ensures bytes { OnOk result
+            (self.new.bytes ≡ self.old.bytes ++ take limit (fraction_of step done_at)) }
+        ensures line { OnOk result (SameLine self.old self.new) }
+    {
+        let mut step_digits = Buffer::new();
+        let mut bound_digits = Buffer::new();
+        let step = step_digits.format(step);
+        let (slash, bound) = format_bound(&mut bound_digits, done_at);
+        let limit = self.push_prefix(step.as_bytes(), limit)?;
+        let limit = self.push_prefix(slash.as_bytes(), limit)?;
+        self.push_prefix(bound.as_bytes(), limit)?;
         Ok(())
     }
 
@@ -525,4 +551,17 @@ pub(crate) fn style_of_length(style: Option<Style>, length: usize) -> Option<Sty
     ensures { result ≡ style_of_length style length }
 {
     if length == 0 { None } else { style }
+}
+
+/// Returns what follows the digits of a step: a slash and the digits of the bound, if there is one.
+fn format_bound(digits: &mut Buffer, done_at: Option<Step>) -> (&'static str, &str)
+    ensures text { FollowsStep done_at (result.0.now ++ result.1.now) }
+    ensures slash { is_printable result.0.now ≡ true }
+    ensures bound { is_printable result.1.now ≡ true }
+    ensures short { length result.0.now + length result.1.now ≤ 41 }
+{
+    match done_at {
+        Some(bound) => ("/", digits.format(bound)),
+        None => ("", ""),
+    }
 }

@@ -6,25 +6,24 @@ ghost use Rattle.prodash_line.specs.ProgressRows as rows;
 ghost use Rattle.prodash_line.specs.ProgressRows.{fraction_values};
 ghost use Rattle.prodash_line.specs.Lines.{capped};
 ghost use Rattle.prodash_line.specs.TextStyles as styles;
-ghost use Rattle.prodash_line.specs.plumbing.RowWriting.{FollowsStep, end_of_values, Pads, PadsValues, drawn_values, unit_values, own_midpoint, text_length, whole_text, DrawsRow, DrawsProgress, DrawsFraction, DrawsInUnit, DrawsText, OrNothing, AppendsName};
+ghost use Rattle.prodash_line.specs.plumbing.RowWriting.{NothingBefore, DrawsLabelled, end_of_values, Pads, PadsValues, drawn_values, unit_values, own_midpoint, whole_text, DrawsRow, DrawsProgress, DrawsFraction, DrawsInUnit, DrawsText, OrNothing, AppendsName};
 ghost use Rattle.prodash_line.specs.plumbing.Writing.{is_printable};
 
 use crate::render::line::draw::bar::{ARROW, BRACKETS, bar_columns, filled_cells, push_bar};
 use crate::render::line::draw::drawn_text::{drawn_name, drawn_text};
 use crate::render::line::draw::input::Options;
 use crate::render::line::draw::line_writer::{LineWriter, style_of_length};
-use crate::render::line::draw::plain_progress::{PlainProgress, PlainText};
+use crate::render::line::draw::plain_progress::{PlainProgress, PlainText, fraction_columns};
 use crate::render::line::draw::row_time::{TimeTexts, push_time};
 use crate::render::line::draw::styles::{name_style, values_style};
-use crate::render::line::draw::text::{is_all_printable, printable_width};
+use crate::render::line::draw::text::is_all_printable;
 use crate::render::line::page::Style;
-use itoa::Buffer;
 use prodash_base::Refusal;
 use prodash_base::progress::{Level, Row, Step, Value};
 use prodash_base::time::Moment;
 use prodash_base::timing::Timer;
-use prodash_base::unit::Unit;
-use prodash_base::unit::display::{Throughput, append_unit, append_values};
+use prodash_base::unit::display::{Mode, Throughput, append_unit, append_values};
+use prodash_base::unit::{Kind, Unit};
 use std::alloc::{AllocError, Global};
 
 /// Memory for the texts of one row, which that of the next row reuses.
@@ -216,23 +215,102 @@ fn push_plain_fraction(
     requires { drawn.now.value.now.done_at ≡ Some done_at }
     ensures { IfOk result (OrNothing out.old out.new (DrawsFraction drawn.now)) }
 {
-    let mut step_digits = Buffer::new();
-    let mut bound_digits = Buffer::new();
-    let step = step_digits.format(drawn.value.step);
-    let bound = bound_digits.format(done_at);
-    let columns = (step.len() + 1 + bound.len()) as u16;
-    let text = PlainText {
-        first: step.as_bytes(),
-        second: b"/",
-        third: bound.as_bytes(),
-    };
-    let plain = push_plain_text(out, drawn, done_at, columns, &text)?;
+    let text = PlainText::Fraction(drawn.value.step, Some(done_at));
+    let plain = push_plain_text(out, drawn, done_at, &text)?;
     Ok(plain)
 }
 
 /// Does what `push_plain` does for a progress with this bound and this unit.
 #[inline(always)]
 fn push_plain_unit(
+    out: &mut LineWriter,
+    text: &mut String,
+    drawn: &DrawnProgress<'_>,
+    unit: &Unit,
+    done_at: Step,
+) -> Result<Option<u16>, Refusal>
+    requires { drawn.now.value.now.done_at ≡ Some done_at }
+    ensures drawn { IfOk result (OrNothing out.old out.new (DrawsInUnit drawn.now unit.now)) }
+    ensures reason { IsOkUnless result Refusal.Memory }
+{
+    let plain = match unit.as_display_value() {
+        Kind::Label(label) if shows_nothing_before(unit.mode()) => {
+            push_plain_label(out, text, drawn, unit, label, done_at)?
+        }
+        _ => push_plain_values(out, text, drawn, unit, done_at)?,
+    };
+    Ok(plain)
+}
+
+/// Whether nothing is shown before values in a mode: of the modes that show something, only the one
+/// that shows the throughput alone is looked at.
+#[inline(always)]
+fn shows_nothing_before(mode: Option<Mode>) -> bool
+    ensures { result ≡ true → NothingBefore mode }
+{
+    match mode {
+        None => true,
+        Some(mode) => mode == Mode::with_throughput(),
+    }
+}
+
+/// Does what `push_plain_unit` does for a unit of this label that shows nothing before the values.
+#[inline(always)]
+fn push_plain_label(
+    out: &mut LineWriter,
+    text: &mut String,
+    drawn: &DrawnProgress<'_>,
+    unit: &Unit,
+    label: &'static str,
+    done_at: Step,
+) -> Result<Option<u16>, Refusal>
+    requires bound { drawn.now.value.now.done_at ≡ Some done_at }
+    requires kind { unit.now.kind ≡ Kind.Label label }
+    requires nothing { NothingBefore unit.now.mode }
+    ensures drawn { IfOk result (OrNothing out.old out.new (DrawsInUnit drawn.now unit.now)) }
+    ensures reason { IsOkUnless result Refusal.Memory }
+{
+    if unit.mode().is_none() {
+        let plain = push_labelled(out, drawn, label.as_bytes(), done_at)?;
+        return Ok(plain);
+    }
+    text.clear();
+    let value = drawn.value;
+    let (kind, mode) = (unit.as_display_value(), unit.mode());
+    append_unit(
+        text,
+        kind,
+        mode,
+        value.step,
+        value.done_at,
+        drawn.throughput,
+    )?;
+    let plain = push_labelled(out, drawn, text.as_bytes(), done_at)?;
+    Ok(plain)
+}
+
+/// Does what `push_plain` does for a progress with this bound, whose values this label follows.
+#[inline(always)]
+fn push_labelled(
+    out: &mut LineWriter,
+    drawn: &DrawnProgress<'_>,
+    label: &[u8],
+    done_at: Step,
+) -> Result<Option<u16>, AllocError>
+    requires { drawn.now.value.now.done_at ≡ Some done_at }
+    ensures { IfOk result (OrNothing out.old out.new (DrawsLabelled drawn.now label.now)) }
+{
+    if !is_all_printable(label) {
+        return Ok(None);
+    }
+    let text = PlainText::Labelled(drawn.value.step, Some(done_at), label);
+    let plain = push_plain_text(out, drawn, done_at, &text)?;
+    Ok(plain)
+}
+
+/// Does what `push_plain_unit` does with the values and the unit in one text.
+#[inline(always)]
+fn push_plain_values(
     out: &mut LineWriter,
     text: &mut String,
     drawn: &DrawnProgress<'_>,
@@ -250,35 +328,30 @@ fn push_plain_unit(
     append_values(text, kind, mode, step, bound, throughput)?;
     text.push(' ')?;
     append_unit(text, kind, mode, step, bound, throughput)?;
-    let Some(columns) = printable_width(text.as_str()) else {
+    let text = text.as_bytes();
+    if !is_all_printable(text) {
         return Ok(None);
-    };
-    let text = PlainText {
-        first: text.as_bytes(),
-        second: b"",
-        third: b"",
-    };
-    let plain = push_plain_text(out, drawn, done_at, columns, &text)?;
+    }
+    let plain = push_plain_text(out, drawn, done_at, &PlainText::Other(text))?;
     Ok(plain)
 }
 
 /// Appends a text, padded as `push_values` says, and the bar of a progress with this bound, without
-/// styles, if the line has room for all of it. `columns` is the width of the text, at most 65535.
-/// Returns the column at which the text ends without padding, or `None` if nothing is appended.
+/// styles, if the line has room for all of it. Returns the column at which the text ends without
+/// padding, or `None` if nothing is appended.
 #[inline(always)]
 fn push_plain_text(
     out: &mut LineWriter,
     drawn: &DrawnProgress<'_>,
     done_at: Step,
-    columns: u16,
     text: &PlainText<'_>,
 ) -> Result<Option<u16>, AllocError>
     requires bound { drawn.now.value.now.done_at ≡ Some done_at }
-    requires columns { columns ≡ capped (text_length text.now) }
     requires printable { is_printable (whole_text text.now) ≡ true }
     ensures { IfOk result (OrNothing out.old out.new (DrawsText drawn.now text.now)) }
 {
     let (width, _) = drawn.options.terminal_dimensions;
+    let columns = text.columns();
     let own = out.width().saturating_add(1).saturating_add(columns);
     let end = own.max(drawn.midpoint);
     let left = bar_columns(drawn.options.bar_columns, width.saturating_sub(end));
@@ -289,6 +362,7 @@ fn push_plain_text(
     let progress = PlainProgress {
         padding: end - own,
         text: *text,
+        columns,
         cells,
         filled: filled_cells(cells, drawn.value.step, done_at),
     };
@@ -336,22 +410,13 @@ fn push_fraction(
     ensures end { IfOk result
         (λ n. n ≡ end_of_values out.old.width (fraction_values step done_at)) }
 {
-    let mut step_digits = Buffer::new();
-    let mut bound_digits = Buffer::new();
-    let step = step_digits.format(step);
-    let (slash, bound) = format_bound(&mut bound_digits, done_at);
-    let values = (step.len() + slash.len() + bound.len()) as u16;
+    let values = fraction_columns(step, done_at);
     let own = out.width().saturating_add(1).saturating_add(values);
     out.push_gap(midpoint.saturating_sub(own))?;
     let count = out.count_printable(values);
     let style = style_of_length(colored.then_some(values_style()), usize::from(count));
     out.open_style(style)?;
-    let text = PlainText {
-        first: step.as_bytes(),
-        second: slash.as_bytes(),
-        third: bound.as_bytes(),
-    };
-    out.push_parts(&text, count)?;
+    out.push_fraction(step, done_at, values, count)?;
     out.reset_style(style)?;
     Ok(own)
 }
@@ -374,9 +439,10 @@ fn push_in_unit(
     texts.values.clear();
     texts.unit.clear();
     let (options, value) = (drawn.options, drawn.value);
-    let mut display = unit.display(alloc, value.step, value.done_at, drawn.throughput);
-    display.values().append_to(&mut texts.values)?;
-    display.unit().append_to(&mut texts.unit)?;
+    let (kind, mode) = (unit.as_display_value(), unit.mode());
+    let (step, bound, throughput) = (value.step, value.done_at, drawn.throughput);
+    append_values(&mut texts.values, kind, mode, step, bound, throughput)?;
+    append_unit(&mut texts.unit, kind, mode, step, bound, throughput)?;
     let (values, name) = (texts.values.as_str(), texts.unit.as_str());
     let values = drawn_text(options.defensive, values, &mut texts.replaced_values)?;
     let name = drawn_text(options.defensive, name, &mut texts.replaced_unit)?;
@@ -400,19 +466,6 @@ pub(crate) fn is_row_drawn(levels: Option<(Level, Level)>, row: &Row) -> bool
     match levels {
         None => true,
         Some((lowest, highest)) => lowest <= level && level <= highest,
-    }
-}
-
-/// Returns what follows the digits of a step: a slash and the digits of the bound, if there is one.
-fn format_bound(digits: &mut Buffer, done_at: Option<Step>) -> (&'static str, &str)
-    ensures text { FollowsStep done_at (result.0.now ++ result.1.now) }
-    ensures slash { is_printable result.0.now ≡ true }
-    ensures bound { is_printable result.1.now ≡ true }
-    ensures short { length result.0.now + length result.1.now ≤ 41 }
-{
-    match done_at {
-        Some(bound) => ("/", digits.format(bound)),
-        None => ("", ""),
     }
 }
 

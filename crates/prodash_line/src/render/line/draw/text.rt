@@ -94,7 +94,7 @@ pub(crate) fn text_width(text: &str) -> u16
 }
 
 /// Returns this width, or 65535 if that is less.
-fn capped(width: usize) -> u16
+pub(crate) fn capped(width: usize) -> u16
     ensures { result ≡ capped width }
 {
     width.min(usize::from(u16::MAX)) as u16

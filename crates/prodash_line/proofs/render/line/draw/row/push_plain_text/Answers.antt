@@ -4,7 +4,6 @@ use Rattle.prodash_line.specs.Lines.{capped}
 use Rattle.prodash_line.specs.ProgressRows.{bar_columns}
 use Rattle.prodash_line.specs.plumbing.RowWriting.{DrawsText, OrNothing, plain_progress, whole_text}
 use Rattle.prodash_line.proofs.PlainProgress.{appends_plain, drawn_if}
-use Rattle.prodash_line.proofs.RowLines.{length-parts}
 use Rattle.prodash_line.proofs.render.line.draw.row.push_plain_text.Goals as goal
 
 pub returns : goal.returns
@@ -15,7 +14,6 @@ returns c =
     let width = drawn.options.now.terminal_dimensions.0 in
     let parts = c.args.text.now in
     let text = whole_text parts in
-    let size : length text ≡ length parts.first.now + length parts.second.now + length parts.third.now = length-parts text parts.first.now parts.second.now parts.third.now (λ i. text) in
     let own = c.saturating_add-own.result in
     let end = c.max-end.result in
     let left = c.bar_columns-left.result in
@@ -25,8 +23,8 @@ returns c =
     let draws = DrawsText drawn parts in
     subst (OrNothing old new draws) (sym c.then_some.ensures)
     (drawn_if c.in_ok-has_room.has_room own (plain_progress (end - own) text (left - 4) filled) old new draws
-    (λ whole. appends_plain old new width most drawn.midpoint own end left c.args.columns (left - 4) filled c.args.done_at text
+    (λ whole. appends_plain old new width most drawn.midpoint own end left c.columns-columns.result (left - 4) filled c.args.done_at text
     (progress_of drawn.value.now) c.requires.printable
-    (c.requires.columns ∙ ap capped (sym size)) (omega (arith, c.saturating_add-own.ensures, c.saturating_add.ensures, c.width.ensures)) c.max-end.ensures (c.bar_columns-left.ensures ∙ ap (bar_columns most) c.saturating_sub.ensures) four
+    c.columns-columns.ensures (omega (arith, c.saturating_add-own.ensures, c.saturating_add.ensures, c.width.ensures)) c.max-end.ensures (c.bar_columns-left.ensures ∙ ap (bar_columns most) c.saturating_sub.ensures) four
     (omega arith) c.requires.bound (λ i. left - 4) c.filled_cells.ensures.value c.filled_cells.ensures.within whole)
     c.in_ok-has_room.ensures)

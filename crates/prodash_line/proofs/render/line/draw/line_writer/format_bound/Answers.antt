@@ -3,7 +3,7 @@ use Rattle.std.specs.Fmt.{decimal}
 use Rattle.prodash_line.specs.ProgressRows.{fraction_of}
 use Rattle.prodash_line.specs.plumbing.Writing.{is_printable}
 use Rattle.prodash_line.proofs.Columns.{printable-decimal}
-use Rattle.prodash_line.proofs.render.line.draw.row.format_bound.Goals as goal
+use Rattle.prodash_line.proofs.render.line.draw.line_writer.format_bound.Goals as goal
 
 pub returns-in-Some : goal.returns-in-Some
 returns-in-Some c = record {
