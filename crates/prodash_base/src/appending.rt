@@ -93,6 +93,17 @@ pub(crate) fn push_two_digits(out: &mut String, n: u64) -> Result<(), AllocError
     push_ascii(out, b'0' + (n % 10) as u8)
 }
 
+/// Returns the last two digits of a number.
+#[inline(always)]
+fn last_two_digits(n: u128) -> u64
+    ensures { result ≡ n % 100 }
+{
+    match u64::try_from(n) {
+        Ok(n) => n % 100,
+        Err(_) => (n % 100) as u64,
+    }
+}
+
 /// Appends the last digits of a number, with leading zeros if it has fewer than `places`.
 pub(crate) fn push_last_digits(out: &mut String, places: u8, n: u128) -> Result<(), AllocError>
     ensures { Pushes result out.old (last_digits places n) out.new }
@@ -100,7 +111,7 @@ pub(crate) fn push_last_digits(out: &mut String, places: u8, n: u128) -> Result<
     match places {
         0 => Ok(()),
         1 => push_ascii(out, b'0' + (n % 10) as u8),
-        2 => push_two_digits(out, (n % 100) as u64),
+        2 => push_two_digits(out, last_two_digits(n)),
         _ => {
             push_last_digits(out, places - 1, n / 10)?;
             push_ascii(out, b'0' + (n % 10) as u8)
@@ -137,8 +148,12 @@ pub(crate) fn push_cut(out: &mut String, places: u8, a: u64, b: u64) -> Result<(
     ensures { Pushes result out.old (cut places a b) out.new }
 {
     push_decimal(out, a / b)?;
-    let shifted = u128::from(a) * 10_u128.pow(u32::from(places));
-    push_after_point(out, places, shifted / u128::from(b))
+    let power = 10_u64.pow(u32::from(places));
+    let shifted = match a.checked_mul(power) {
+        Some(product) => u128::from(product / b),
+        None => u128::from(a) * u128::from(power) / u128::from(b),
+    };
+    push_after_point(out, places, shifted)
 }
 
 /// Appends a quotient with at most three decimals, rounded down, without zeros at the end. The

@@ -41,6 +41,7 @@ impl DisplayValue for Kind {
         }
     }
 
+    #[inline(always)]
     fn separator(
         &self,
         out: &mut String,
@@ -57,6 +58,7 @@ impl DisplayValue for Kind {
         }
     }
 
+    #[inline(always)]
     fn display_upper_bound(
         &self,
         out: &mut String,

@@ -111,6 +111,7 @@ pub trait DisplayValue {
 }
 
 /// Appends the second part of a throughput, as `/1.5m|`.
+#[inline(always)]
 fn push_timespan(
     out: &mut String,
     fraction: Option<(u64, u64)>,

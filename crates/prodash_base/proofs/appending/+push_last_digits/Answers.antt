@@ -1,5 +1,6 @@
 use Rattle.std.proofs.Common.{◌<◌, ◌++◌, ◌∙◌, ap, sym, refl, string_bytes, arith}
 use Rattle.std.proofs.lemmas.Result.{on_ok_weaker}
+use Rattle.prodash_base.specs.Numerals.{last_digits}
 use Rattle.prodash_base.proofs.Prefixes.{append_twice, IsPrefix-same, IsPrefix-trans}
 use Rattle.prodash_base.proofs.Digits.{append_none, last_digits-none, last_digits-one, last_digits-rest, last_digits-last}
 use Rattle.prodash_base.proofs.appending.+push_last_digits.Goals as goal
@@ -18,7 +19,7 @@ returns-in-1 t c = (
 pub returns-in-2 : goal.returns-in-2
 returns-in-2 t c = (
   on_ok_weaker c.push_two_digits.result
-      (λ e. e ∙ ap (λ ds. string_bytes c.args.out.now ++ ds) (last_digits-rest c.args.places c.args.n c.in-2.is))
+      (λ e. e ∙ ap (λ ds. string_bytes c.args.out.now ++ ds) (ap (last_digits 2) c.last_two_digits.ensures ∙ last_digits-rest c.args.places c.args.n c.in-2.is))
       c.push_two_digits.ensures.0,
   c.push_two_digits.ensures.1,
 )

@@ -268,6 +268,7 @@ fn push_bound<K: DisplayValue>(
 }
 
 /// Appends the value.
+#[inline(always)]
 pub(in crate::unit) fn push_value<K: DisplayValue>(
     kind: &K,
     out: &mut String,
