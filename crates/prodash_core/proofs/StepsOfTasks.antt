@@ -1,10 +1,15 @@
 -- Rows that show the tasks but for their steps.
-use Rattle.std.proofs.Common.{◌≡◌, ◌∙◌, ◌↔◌, ap, sym, subst, ℕ, ◌<◌, ◌++◌, ◌∷◌, [], List, length, refl, append_assoc, append-nil, drop, get_or, map, suc, ◌+◌, ◌≢◌, nat_eq, true, false, Bool, IsTrue, ◌&&◌, Option, Some, None, Result, Ok}
+use Rattle.std.proofs.Common.{arith, ◌-◌, ◌≡◌, ◌∙◌, ◌↔◌, ap, sym, subst, ℕ, ◌<◌, ◌++◌, ◌∷◌, [], List, length, refl, append_assoc, append-nil, drop, get_or, map, suc, ◌+◌, ◌≢◌, nat_eq, true, false, Bool, IsTrue, ◌&&◌, Option, Some, None, Result, Ok}
+use Rattle.std.specs.Prelude.{slice_get}
+use Rattle.std.specs.Cmp.Lexicographic.{pointwise, bytes_decides}
 use Rattle.std.specs.List.{AllZip}
+use Rattle.std.specs.Map.{keys_of}
 use Rattle.std.specs.Option.{option_eq, option_map}
 use Rattle.std.proofs.lemmas.Bool.{and_parts}
 use Rattle.std.proofs.lemmas.List.{drop_more, length-map}
+use Rattle.std.proofs.lemmas.Option.{none-some, same_Some, slice_get-map}
 use Rattle.std.proofs.lemmas.Slice.Zip.{AllZip-long}
+use Rattle.prodash_base.specs.Adjacency.{paths_of}
 use Rattle.prodash_base.specs.Path.{Path}
 use Rattle.prodash_base.specs.Rows.{phase_of, PathRow, row_of, RowProgress, rows_of}
 use Rattle.prodash_base.specs.Steps.{with_step, with_steps}
@@ -12,12 +17,16 @@ use Rattle.prodash_base.specs.Units.{measure_of}
 use Rattle.prodash_base.specs.declared.progress.Row.{Row}
 use Rattle.prodash_base.specs.declared.progress.Value.{Value}
 use Rattle.prodash_base.specs.contracts.unit.units.UnitPartialEq.TheImpl as unit
+use Rattle.prodash_base.specs.plumbing.KeyHash.{same_path}
 use Rattle.prodash_base.specs.plumbing.EqualityTests.{exact, numbers, options}
 use Rattle.prodash_base.specs.plumbing.SameUnits.{measures}
 use Rattle.prodash_base.proofs.SameKinds.{same_as_units}
+use Rattle.prodash_base.proofs.SteppedRows.{keys-with_steps}
 use Rattle.prodash_core.specs.Tables.{BoxedTask, pair_of, TaskEntry, RowShows}
 use Rattle.prodash_core.specs.declared.tree.table.Counted.{Counted}
-use Rattle.prodash_core.specs.plumbing.TaskRows.{IsSameButStep}
+use Rattle.prodash_core.specs.plumbing.TaskRows.{IsSameButStep, last_path}
+use Rattle.prodash_core.proofs.AscendingRows.{paths-rows_of}
+use Rattle.prodash_core.proofs.TableRows.{keys-pairs, shown_paths}
 
 -- the test of the bound and the unit
 abbrev pub same_bound_and_unit : {C : Type 0} → Counted C → Value → Bool
@@ -128,3 +137,44 @@ steps_all shows all rows steps left rest h l r =
 -- equal results hold equal values
 pub same_ok : {A E : Type 0} (x y : A) → ◌≡◌ {A = Result A E} (Ok x) (Ok y) → x ≡ y
 same_ok x y h = cc
+
+-- the last path of entries is that of the last entry
+last_entry : {C : Type 0} (es : List (Path × BoxedTask C)) (o : Option (Path × BoxedTask C)) → slice_get es (length es - 1) ≡ o → last_path (keys_of es) ≡ option_map (λ e. e.0) o
+last_entry es o at =
+    ap (λ n. slice_get (keys_of es) (n - 1)) (length-map es (λ e. e.0)) ∙ slice_get-map (λ e. e.0) es (length es - 1) ∙ ap (option_map (λ e. e.0)) at
+
+-- and that of rows is that of the last row
+last_row : (rows : List Row) (o : Option Row) → slice_get rows (length rows - 1) ≡ o → last_path (paths_of rows) ≡ option_map (λ r. r.key) o
+last_row rows o at =
+    ap (λ n. slice_get (paths_of rows) (n - 1)) (length-map rows (λ r. r.key)) ∙ slice_get-map (λ r. r.key) rows (length rows - 1) ∙ ap (option_map (λ r. r.key)) at
+
+-- without entries there is no last one
+no_entry : {X : Type 0} (es : List X) → (0 < length es → ⊥) → slice_get es (length es - 1) ≡ None
+no_entry [] n = refl
+no_entry (e ∷ es) n = absurd (n (omega arith))
+
+-- two last ones, of which the paths are compared
+pub both_end : {C : Type 0} (es : List (Path × BoxedTask C)) (rows : List Row) (e : Path × BoxedTask C) (row : Row) → slice_get es (length es - 1) ≡ Some e → slice_get rows (length rows - 1) ≡ Some row
+    → (result : Bool) → result ≡ pointwise nat_eq row.key e.0 → IsTrue result ↔ (last_path (keys_of es) ≡ last_path (paths_of rows))
+both_end es rows e row at_e at_row result is =
+    let k = last_entry es (Some e) at_e in
+    let p = last_row rows (Some row) at_row in (
+      λ yes. k ∙ ap Some (sym (same_path row.key e.0 (sym is ∙ yes))) ∙ sym p,
+      λ same. is ∙ (bytes_decides row.key e.0).1 (sym (same_Some e.0 row.key (sym k ∙ same ∙ p))),
+    )
+
+-- a last row alone
+pub row_alone : {C : Type 0} (es : List (Path × BoxedTask C)) (rows : List Row) (row : Row) → (0 < length es → ⊥) → slice_get rows (length rows - 1) ≡ Some row
+    → last_path (keys_of es) ≡ last_path (paths_of rows) → ⊥
+row_alone es rows row none at same = none-some row.key (sym (last_entry es None (no_entry es none)) ∙ same ∙ last_row rows (Some row) at)
+
+-- a last entry alone
+pub entry_alone : {C : Type 0} (es : List (Path × BoxedTask C)) (rows : List Row) (e : Path × BoxedTask C) → slice_get es (length es - 1) ≡ Some e → slice_get rows (length rows - 1) ≡ None
+    → last_path (keys_of es) ≡ last_path (paths_of rows) → ⊥
+entry_alone es rows e at none same = none-some e.0 (sym (last_row rows None none) ∙ sym same ∙ last_entry es (Some e) at)
+
+-- no steps change the paths, and rows that show the tasks have theirs
+pub other_end : {C : Type 0} (shows : C → ℕ → Type 0) (tasks : List (Path × BoxedTask C)) (rows : List Row) → (last_path (keys_of tasks) ≡ last_path (paths_of rows) → ⊥)
+    → (some : List ℕ) → AllZip (RowShows shows) (map pair_of tasks) (with_steps some (rows_of rows)) → ⊥
+other_end shows tasks rows n some z =
+    n (ap last_path (keys-pairs tasks ∙ sym (shown_paths shows (map pair_of tasks) (with_steps some (rows_of rows)) z) ∙ keys-with_steps some (rows_of rows) ∙ sym (paths-rows_of rows)))

@@ -18,7 +18,8 @@ use Rattle.prodash_base.specs.plumbing.KeyHash.{same_path}
 use Rattle.prodash_core.specs.Tables.{TaskEntry, BoxedTask, pair_of, RowShows, RowsShow, ListsEachOnce}
 use Rattle.prodash_core.proofs.TableChanges.{table_of, is_some-table_of, sorted_list}
 
-keys-pairs : {C : Type 0} (es : List (Path × BoxedTask C)) → keys_of es ≡ keys_of (map pair_of es)
+-- entries have the paths of their tasks
+pub keys-pairs : {C : Type 0} (es : List (Path × BoxedTask C)) → keys_of es ≡ keys_of (map pair_of es)
 keys-pairs [] = refl
 keys-pairs (e ∷ es) = ap (λ ks. e.0 ∷ ks) (keys-pairs es)
 
@@ -44,7 +45,7 @@ ascending (x ∷ y ∷ ys) h (suc k) d l =
     subst (λ n. path_cmp (get_or (y ∷ ys) k d) (get_or (x ∷ y ∷ ys) n d) ≡ Less) (sym place) (ascending (y ∷ ys) h.1 k d (omega arith))
 
 -- rows have the paths of the entries that they show
-shown_paths : {C : Type 0} (shows : C → ℕ → Type 0) (es : List (Path × TaskEntry C)) (rows : List PathRow) → AllZip (RowShows shows) es rows → keys_of rows ≡ keys_of es
+pub shown_paths : {C : Type 0} (shows : C → ℕ → Type 0) (es : List (Path × TaskEntry C)) (rows : List PathRow) → AllZip (RowShows shows) es rows → keys_of rows ≡ keys_of es
 shown_paths shows [] [] h = refl
 shown_paths shows [] (r ∷ rows) h = absurd h
 shown_paths shows (e ∷ es) [] h = absurd h

@@ -1,5 +1,5 @@
 -- The rows of tasks, and their values.
-use Rattle.std.specs.Prelude.{◌≡◌, ℕ, List, Option, map}
+use Rattle.std.specs.Prelude.{◌≡◌, ◌-◌, ℕ, List, Option, length, map, slice_get}
 use Rattle.std.specs.Global.{Vec}
 use Rattle.std.specs.List.{AllZip}
 use Rattle.std.specs.Option.{option_map}
@@ -46,3 +46,7 @@ StepsShowTasks shows tasks rows = OfSteps (AllZip (RowShows shows) (map pair_of 
 abbrev pub NoStepsShowTasks : {C : Type 0} → (C → ℕ → Type 0) → List (Path × BoxedTask C) → List Row
     → Type 0
 NoStepsShowTasks shows tasks rows = OfNoSteps (AllZip (RowShows shows) (map pair_of tasks)) (rows_of rows)
+
+-- the last of these paths, if there are any
+abbrev pub last_path : List Path → Option Path
+last_path paths = slice_get paths (length paths - 1)

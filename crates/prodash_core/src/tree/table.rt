@@ -2,13 +2,14 @@ ghost use Rattle.std.specs.Prelude.{◌↔◌, map, IsTrue, ◌≡◌, ◌≢◌
 ghost use Rattle.std.specs.FinMap as finite;
 ghost use Rattle.std.specs.List.{AllZip};
 ghost use Rattle.std.specs.Option.{option_map};
-ghost use Rattle.std.specs.BTreeMap.{IsOrdered};
+ghost use Rattle.std.specs.BTreeMap.{IsOrdered, keys};
+ghost use Rattle.prodash_base.specs.Adjacency.{paths_of};
 ghost use Rattle.prodash_base.specs.Path.{Path, path_cmp};
 ghost use Rattle.prodash_base.specs.Rows.{phase_of, row_of, rows_of};
 ghost use Rattle.prodash_base.specs.Steps.{OfNoSteps, OfSteps};
 ghost use Rattle.prodash_core.specs.plumbing.MissingNames.{missing_names, TakesName};
 ghost use Rattle.prodash_core.specs.Tables.{new_entry, change_at, with_name, with_progress, with_bound, with_phase, name_at, id_of, bound_of, unit_of, counted_of, RowShows, RowsShow, ListsEachOnce, pair_of, entry_of, entry_in};
-ghost use Rattle.prodash_core.specs.plumbing.TaskRows.{IsSameButStep, NoStepsShowTasks, StepShows, StepsShowTasks, ValueShows, RowShowsTask, RowsShowTasks};
+ghost use Rattle.prodash_core.specs.plumbing.TaskRows.{IsSameButStep, last_path, NoStepsShowTasks, StepShows, StepsShowTasks, ValueShows, RowShowsTask, RowsShowTasks};
 
 use prodash_base::progress::{Id, Key, Row, Rows, State, Step, UNKNOWN, Value};
 use prodash_base::unit::Unit;
@@ -469,11 +470,16 @@ fn update_value<C: Copy, N: Counters<C>>(value: &mut Value, counted: &Counted<C>
 
 /// Updates a row to that of a task, apart from its name.
 #[inline(always)]
-fn update_below_name<C: Copy, N: Counters<C>>(row: &mut Row, key: Key, task: &Task<C>, counters: &N)
+fn update_below_name<C: Copy, N: Counters<C>>(
+    row: &mut Row,
+    key: &Key,
+    task: &Task<C>,
+    counters: &N,
+)
     ensures { row.old.name ≡ task.now.name
-        → RowShowsTask (N.shows counters.now) key task.now row.new }
+        → RowShowsTask (N.shows counters.now) key.now task.now row.new }
 {
-    row.key = key;
+    row.key = *key;
     row.id = task.id;
     if let Some(counted) = &task.progress {
         if let Some(value) = &mut row.progress {
@@ -504,11 +510,11 @@ fn replace_name(name: &mut Text, by: &Text) -> Result<(), AllocError>
 /// Updates a row to that of a task. The name is copied only if it differs.
 fn update_row<C: Copy, N: Counters<C>>(
     row: &mut Row,
-    key: Key,
+    key: &Key,
     task: &Task<C>,
     counters: &N,
 ) -> Result<(), AllocError>
-    ensures { OnOk result (RowShowsTask (N.shows counters.now) key task.now row.new) }
+    ensures { OnOk result (RowShowsTask (N.shows counters.now) key.now task.now row.new) }
 {
     if row.name != task.name {
         replace_name(&mut row.name, &task.name)?;
@@ -533,7 +539,7 @@ fn rows_of_tasks<C: Copy, N: Counters<C>>(
     for (key, task) in tasks.iter() {
         let task = task.as_ref();
         if updated < rows.len() {
-            update_row(&mut rows[updated], *key, task, counters)?;
+            update_row(&mut rows[updated], key, task, counters)?;
         } else {
             rows.push(row_of_task(*key, task, counters)?)?;
         }
@@ -588,6 +594,17 @@ fn step_over<C: Copy, N: Counters<C>>(
     }
 }
 
+/// Returns whether the last row has the key of the last task, or there are neither rows nor tasks.
+fn end_alike<C>(tasks: &BTreeMap<Key, Box<Task<C>>>, rows: &[Row]) -> bool
+    ensures { IsTrue result ↔ last_path (keys tasks.now) ≡ last_path (paths_of rows.now) }
+{
+    match (tasks.last_key_value(), rows.last()) {
+        (None, None) => true,
+        (Some((key, _)), Some(row)) => row.key == *key,
+        _ => false,
+    }
+}
+
 /// Returns the steps of the tasks, in the order of the map, if their rows are these but for the
 /// steps. The memory of `steps` is reused.
 fn steps_of_tasks<C: Copy, N: Counters<C>>(
@@ -602,7 +619,8 @@ fn steps_of_tasks<C: Copy, N: Counters<C>>(
         → NoStepsShowTasks (N.shows counters.now) tasks.now.entries rows.now }
     ensures ordered { IsOrdered path_cmp tasks.now }
 {
-    if rows.len() != tasks.len() {
+    // tasks mostly come at the end, and then the others needn't be compared
+    if rows.len() != tasks.len() || !end_alike(tasks, rows) {
         return Ok(None);
     }
     steps.clear();
@@ -678,7 +696,7 @@ fn put_rows<C: Copy, N: Counters<C>>(
         if put < rows.len() {
             let row = &mut rows[put];
             put_name(row, task, &mut names);
-            update_below_name(row, *key, task, counters);
+            update_below_name(row, key, task, counters);
         } else if let Some(name) = names.pop_front() {
             rows.push_reserved(Row {
                 key: *key,

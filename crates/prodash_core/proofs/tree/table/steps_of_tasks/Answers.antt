@@ -2,12 +2,17 @@ use Rattle.std.proofs.Common.{rules, ◌≡◌, ◌<◌, ◌+◌, ◌∷◌, [],
 use Rattle.std.proofs.lemmas.List.{drop_all, length-append}
 use Rattle.prodash_base.specs.Rows.{row_of, rows_of}
 use Rattle.prodash_core.specs.Tables.{pair_of}
-use Rattle.prodash_core.proofs.StepsOfTasks.{steps_begin, steps_more, no_steps, other_length, row_and_behind, steps_all}
+use Rattle.prodash_core.proofs.StepsOfTasks.{steps_begin, steps_more, no_steps, other_length, other_end, row_and_behind, steps_all}
+use Rattle.prodash_core.proofs.tree.table.steps_of_tasks.Goals.{then-rows-len-via-then-rows-len, then-rows-len-via-else-rows-len+then-not-end_alike}
 use Rattle.prodash_core.proofs.tree.table.steps_of_tasks.Goals as goal
 
 pub returns-then-rows-len-clause-none : goal.returns-then-rows-len-clause-none
 returns-then-rows-len-clause-none g c = λ _.
-    other_length (g.N.Counters.shows c.args.counters.now) c.args.tasks.now.entries c.args.rows.now (λ same. c.if-rows-len.true (same ∙ sym c.len.ensures.len))
+    let shows = g.N.Counters.shows c.args.counters.now in
+    elim c.then-rows-len.branch [
+      | then-rows-len-via-then-rows-len w ↦ other_length shows c.args.tasks.now.entries c.args.rows.now (λ same. w.if-rows-len.true (same ∙ sym c.len.ensures.len))
+      | then-rows-len-via-else-rows-len+then-not-end_alike w ↦ other_end shows c.args.tasks.now.entries c.args.rows.now (λ same. absurd (search (rules, w.end_alike.ensures.1 same)))
+    ]
 
 pub loop-key-init : goal.loop-key-init
 loop-key-init g c =
