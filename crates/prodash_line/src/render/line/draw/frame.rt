@@ -471,7 +471,7 @@ fn write_chosen(
                 timer: scene.timer,
                 at: scene.at,
             };
-            write_row(alloc, out, &mut texts, drawn, scene, row, measured)?;
+            write_row(out, &mut texts, drawn, scene, row, measured)?;
         }
     }
     Ok(())
@@ -480,7 +480,6 @@ fn write_chosen(
 /// Writes the line of a row over no line, and adds its width to those that are drawn.
 #[inline(never)]
 fn write_row(
-    alloc: Global,
     out: &mut LineWriter,
     texts: &mut RowTexts,
     drawn: &mut Drawn,
@@ -493,7 +492,7 @@ fn write_row(
     ensures reason { IsOkUnless result Refusal.Memory }
 {
     let midpoint = scene.past.midpoint();
-    let own_midpoint = push_row(alloc, out, texts, &scene.options, midpoint, row, measured)?;
+    let own_midpoint = push_row(out, texts, &scene.options, midpoint, row, measured)?;
     drawn.midpoint = drawn.midpoint.max(own_midpoint);
     drawn.widths.push(out.end_line_over(0)?)?;
     Ok(())
@@ -530,7 +529,7 @@ fn write_rows(
             timer: scene.timer,
             at: scene.at,
         };
-        let own_midpoint = push_row(alloc, out, &mut texts, options, midpoint, row, measured)?;
+        let own_midpoint = push_row(out, &mut texts, options, midpoint, row, measured)?;
         drawn.midpoint = drawn.midpoint.max(own_midpoint);
         drawn.widths.push(out.end_line_over(old_width)?)?;
         left = others;
@@ -623,7 +622,7 @@ fn write_again(
             old_width,
         };
         let start = out.len();
-        let size = write_line(alloc, out, &mut texts, scene, row, source)?;
+        let size = write_line(out, &mut texts, scene, row, source)?;
         drawn.midpoint = drawn.midpoint.max(size.midpoint);
         drawn.widths.push(size.width)?;
         keep_line(&mut copier.lines, row, &throughput, n, start, size)?;
@@ -633,7 +632,6 @@ fn write_again(
 /// Writes the line of a row where no times are shown. Returns how large it is.
 #[inline(always)]
 fn write_line(
-    alloc: Global,
     out: &mut LineWriter,
     texts: &mut RowTexts,
     scene: &Scene<'_>,
@@ -652,13 +650,12 @@ fn write_line(
         return Ok(line.size);
     }
     let (throughput, old_width) = (source.throughput, source.old_width);
-    compose_line(alloc, out, texts, scene, row, throughput, old_width)
+    compose_line(out, texts, scene, row, throughput, old_width)
 }
 
 /// Composes the line of a row where no times are shown. Returns how large it is.
 #[inline(never)]
 fn compose_line(
-    alloc: Global,
     out: &mut LineWriter,
     texts: &mut RowTexts,
     scene: &Scene<'_>,
@@ -679,7 +676,7 @@ fn compose_line(
     };
     let start = out.len();
     let aligned = scene.past.midpoint();
-    let midpoint = push_row(alloc, out, texts, &scene.options, aligned, row, measured)?;
+    let midpoint = push_row(out, texts, &scene.options, aligned, row, measured)?;
     let length = out.len() - start;
     let width = out.end_line_over(old_width)?;
     Ok(LineSize {

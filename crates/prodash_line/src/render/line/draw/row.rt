@@ -83,7 +83,6 @@ pub(crate) struct DrawnProgress<'a> {
 /// end without padding, 0 if it has no progress. Fails if out of memory.
 #[inline(always)]
 pub(crate) fn push_row(
-    alloc: Global,
     out: &mut LineWriter,
     texts: &mut RowTexts,
     options: &Options,
@@ -111,7 +110,7 @@ pub(crate) fn push_row(
         timer: measured.timer,
         at: measured.at,
     };
-    let own = push_progress(alloc, out, texts, &drawn)?;
+    let own = push_progress(out, texts, &drawn)?;
     Ok(own)
 }
 
@@ -119,7 +118,6 @@ pub(crate) fn push_row(
 /// Returns the column at which the values end without padding.
 #[inline(always)]
 fn push_progress(
-    alloc: Global,
     out: &mut LineWriter,
     texts: &mut RowTexts,
     drawn: &DrawnProgress<'_>,
@@ -134,7 +132,7 @@ fn push_progress(
             return Ok(own);
         }
     }
-    let own = push_copy_in_parts(alloc, out, texts, drawn)?;
+    let own = push_copy_in_parts(out, texts, drawn)?;
     Ok(own)
 }
 
@@ -142,7 +140,6 @@ fn push_progress(
 /// in memory.
 #[inline(always)]
 fn push_copy_in_parts(
-    alloc: Global,
     out: &mut LineWriter,
     texts: &mut RowTexts,
     drawn: &DrawnProgress<'_>,
@@ -151,13 +148,12 @@ fn push_copy_in_parts(
     ensures reason { IsOkUnless result Refusal.Memory }
 {
     let copy = *drawn;
-    push_in_parts(alloc, out, texts, &copy)
+    push_in_parts(out, texts, &copy)
 }
 
 /// Does what `push_progress` does, part by part.
 #[inline(never)]
 fn push_in_parts(
-    alloc: Global,
     out: &mut LineWriter,
     texts: &mut RowTexts,
     drawn: &DrawnProgress<'_>,
@@ -166,7 +162,7 @@ fn push_in_parts(
     ensures reason { IsOkUnless result Refusal.Memory }
 {
     let (width, _) = drawn.options.terminal_dimensions;
-    let own = push_values(alloc, out, texts, drawn)?;
+    let own = push_values(out, texts, drawn)?;
     push_time(
         out,
         &mut texts.time,
@@ -373,7 +369,6 @@ fn push_plain_text(
 /// Appends a space and the values of a progress, padded so that they end at its midpoint. Returns
 /// the column at which they end without padding.
 fn push_values(
-    alloc: Global,
     out: &mut LineWriter,
     texts: &mut RowTexts,
     drawn: &DrawnProgress<'_>,
@@ -393,7 +388,7 @@ fn push_values(
             value.step,
             value.done_at,
         )?),
-        Some(unit) => push_in_unit(alloc, out, texts, drawn, unit),
+        Some(unit) => push_in_unit(out, texts, drawn, unit),
     }
 }
 
@@ -424,7 +419,6 @@ fn push_fraction(
 /// Appends a space, the values of a progress in a unit, a space and the unit, padded as
 /// `push_values` says.
 fn push_in_unit(
-    alloc: Global,
     out: &mut LineWriter,
     texts: &mut RowTexts,
     drawn: &DrawnProgress<'_>,
