@@ -15,5 +15,4 @@ It shows the information that it was sent, and the tasks with their steps.
   $ grep -ac 'threads' frames
   1
   $ grep -aq 'compress' frames && grep -aq 'verify' frames
-  $ grep -ao '17/20' frames | head -n 1
-  17/20
+  $ grep -aqE '[0-9]+/20' frames
