@@ -171,6 +171,17 @@ observed log now row = record log {
       (told_after (finite.get log.tasks row.0) now (label_of log.tasks row) row.1.progress);
 }
 
+-- the log with the label of a row for its task, of which this was said; as it is where nothing was
+abbrev pub relabelled : Option Told → PlainLog → PathRow → PlainLog
+relabelled None log row = log
+relabelled (Some told) log row = record log {
+  tasks = finite.insert log.tasks row.0 (record told { label = label_of log.tasks row });
+}
+
+-- the log once it has taken the names of a task from its row
+abbrev pub renamed : PlainLog → PathRow → PlainLog
+renamed log row = relabelled (finite.get log.tasks row.0) log row
+
 -- the line of a row that is dropped
 abbrev pub dropped_line : PlainLog → ℕ → PathRow → Option (List ℕ)
 dropped_line log now row = labelled_line log now (label_of log.tasks row) (said_at_end (finite.get log.tasks row.0) now row.1.progress)

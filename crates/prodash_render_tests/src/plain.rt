@@ -11,10 +11,11 @@ use std::process::Abort;
 #[derive(Clone, Copy, Debug, PartialEq, Eq)]
 enum What {
     Seen,
+    Renamed,
     Dropped,
 }
 
-use What::{Dropped, Seen};
+use What::{Dropped, Renamed, Seen};
 
 /// A second in nanoseconds.
 const SECOND: Moment = 1_000_000_000;
@@ -51,15 +52,35 @@ const LINES: &[(u64, What, ShortRow, &str)] = &[
         "[1:02:03] deploy 4/10 40%, stopped after 1h00m",
     ),
     (
+        3723,
+        Seen,
+        (&[0, 1], "lib", None),
+        "[1:02:03] build/lib started",
+    ),
+    (3723, Renamed, (&[0], "make", Some((1, Some(2)))), ""),
+    (3723, Renamed, (&[2], "unknown", None), ""),
+    (
+        3723,
+        Seen,
+        (&[0, 1], "lib", Some((1, Some(2)))),
+        "[1:02:03] make/lib 1/2 50%, 0s left",
+    ),
+    (
         3724,
         Dropped,
-        (&[0], "build", None),
-        "[1:02:04] build ended after 1h02m",
+        (&[0], "make", None),
+        "[1:02:04] make ended after 1h02m",
     ),
-    (3725, Dropped, (&[0], "build", None), ""),
+    (
+        3725,
+        Dropped,
+        (&[0, 1], "lib", None),
+        "[1:02:05] make/lib ended after 2.0s",
+    ),
+    (3725, Dropped, (&[0], "make", None), ""),
 ];
 
-/// Shows a log a row at a moment, and returns the line, or an empty text.
+/// Tells a log of a row at a moment, and returns the line, or an empty text.
 fn line_of(
     rt: &impl Abort,
     alloc: Global,
@@ -70,6 +91,10 @@ fn line_of(
 ) -> String {
     let line = match what {
         Seen => log.observe(alloc, row, now),
+        Renamed => match log.rename(alloc, row) {
+            Ok(()) => Ok(None),
+            Err(refusal) => Err(refusal),
+        },
         Dropped => log.end(alloc, row, now),
     };
     match line.expect(rt, "no refusal") {

@@ -3,7 +3,7 @@ ghost use Rattle.std.specs.Prelude.{◌≡◌, OnOk, OnErr, IfOk, is_some, strin
 ghost use Rattle.std.specs.FinMap as finite;
 ghost use Rattle.std.specs.Option.{option_map};
 ghost use Rattle.prodash_base.specs.Rows.{row_of};
-ghost use Rattle.prodash.specs.PlainLines.{new_log, observed_line, observed, dropped_line, dropped, labelled_line, outcome_at, Says};
+ghost use Rattle.prodash.specs.PlainLines.{new_log, observed_line, observed, renamed, dropped_line, dropped, labelled_line, outcome_at, Says};
 
 mod lines;
 mod told;
@@ -107,6 +107,26 @@ impl Plain {
         let after = told_after(told, now, Text::new(label), &row.progress);
         self.tasks.insert(row.key, after)?;
         Ok(line)
+    }
+
+    /// Takes the names of a task from its row, for what is said of it next. Nothing changes if the
+    /// log doesn't know the task. The names of tasks below it are taken from their rows in the same
+    /// way, each after those of its ancestors.
+    ///
+    /// # Errors
+    ///
+    /// `Memory`, if there is no memory for the names. The log stays as it was.
+    pub fn rename(&mut self, alloc: Global, row: &Row) -> Result<(), Refusal>
+        ensures ok { OnOk result (self.new ≡ renamed self.old (row_of row.now)) }
+        ensures err { OnErr result (self.new ≡ self.old) }
+        ensures reason { IsOkUnless result Refusal.Memory }
+    {
+        let Some(told) = self.tasks.get(row.key) else {
+            return Ok(());
+        };
+        let label = self.tasks.label_of(alloc, row)?;
+        let after = told.renamed(Text::new(label));
+        self.tasks.insert(row.key, after)
     }
 
     /// Returns the line of a task that is dropped, if there is something to say: how it ended,

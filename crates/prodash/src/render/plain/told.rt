@@ -35,6 +35,21 @@ pub(crate) struct Told {
     pub finished: Option<Moment>,
 }
 
+impl Told {
+    /// Returns what was said of the task, with other names for it.
+    pub fn renamed(&self, label: Text) -> Told
+        ensures { result ≡ record self.now { label = label } }
+    {
+        Told {
+            label,
+            since: self.since,
+            first: self.first,
+            said: self.said,
+            finished: self.finished,
+        }
+    }
+}
+
 /// What a log has said of each task. Contracts see a finite map from paths.
 #[derive(Drop)]
 pub(crate) struct Tellings {
