@@ -122,6 +122,43 @@ An item whose word is given to another ends with it. After `droproot` there are 
   [..] two started
    two hello
 
+A renamed item has its new name in its own lines and in those of the items below it, whether they
+were added before or after. They keep it once it is dropped. The summary has it too.
+
+  $ cat >script <<'END'
+  > add @build 0 build
+  > add @app @build app
+  > add @part @app part
+  > init @part 10 items
+  > set @part 3
+  > name @build make
+  > set @part 10
+  > drop @build
+  > drop @part
+  > drop @app
+  > add @tests 0 tests
+  > name @tests checks
+  > add @unit @tests unit
+  > name @unit units
+  > drop @tests
+  > drop @unit
+  > END
+  $ prodash-live --plain 30 --summary <script 2>&1 | timeless
+  [..] build started
+  [..] build/app started
+  [..] build/app/part started
+  [..] make/app/part 10/10 items 100%, done in T
+  [..] make ended after T
+  [..] make/app ended after T
+  [..] tests started
+  [..] checks/unit started
+  [..] checks ended after T
+  [..] checks/units ended after T
+   \xe2\x9c\x93 make in T (esc)
+   \xe2\x9c\x93 make/app in T (esc)
+     \xe2\x9c\x93 checks in T (esc)
+   \xe2\x9c\x93 checks/units in T (esc)
+
 The numbers of the option are those of a day.
 
   $ prodash-live --plain 86401

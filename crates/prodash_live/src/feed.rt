@@ -259,18 +259,25 @@ impl<'a, R: Wait + Threads + Clone + Drop, O: Write + Drop, W: Write + Drop, K: 
                 self.make_room()?;
                 self.items.print(alloc, now, text)
             }
-            Command::Change(item, change) => {
-                if let Change::Message { .. } = &change {
-                    self.make_room()?;
-                }
-                self.items.change(alloc, item, change)?;
-                Ok(self.note_change(item)?)
-            }
+            Command::Change(item, change) => self.change(item, change),
             Command::Fault(mistake) => match parse_dashboard_line(alloc, line)? {
                 Some(line) if is_for_scripts(&line) => Ok(self.display.serve_dashboard(line)?),
                 _ => Err(Unserved::Fault(LineFault::Mistake(mistake))),
             },
         }
+    }
+
+    /// Changes an item, or sends its message, and tells of what that has changed.
+    fn change(&mut self, item: Handle, change: Change) -> Result<(), Unserved<'static>> {
+        if let Change::Message { .. } = &change {
+            self.make_room()?;
+        }
+        let is_renamed = matches!(&change, Change::SetName(_));
+        self.items.change(self.alloc, item, change)?;
+        if is_renamed && self.tells() {
+            self.note_name(item)?;
+        }
+        Ok(self.note_change(item)?)
     }
 
     /// Waits until one more message can be kept. Without the root none is kept.
@@ -311,6 +318,19 @@ impl<'a, R: Wait + Threads + Clone + Drop, O: Write + Drop, W: Write + Drop, K: 
         self.observe(row)
     }
 
+    /// Tells of the new name of an item, which is among the names of those below it.
+    fn note_name(&mut self, item: Handle) -> Result<(), Failure> {
+        if self.items.has_children(item) {
+            let rows = self.items.rows()?;
+            for row in rows.iter() {
+                self.rename(row)?;
+            }
+        } else if let Some(row) = self.items.row(self.alloc, item)? {
+            self.rename(&row)?;
+        }
+        Ok(())
+    }
+
     /// Tells of the item that was dropped, if one was.
     fn note_drop(&mut self) -> Result<(), Failure> {
         match self.items.take_dropped() {
@@ -328,6 +348,15 @@ impl<'a, R: Wait + Threads + Clone + Drop, O: Write + Drop, W: Write + Drop, K: 
         self.display.observe(&row, now)?;
         if let Some(summary) = &mut self.summary {
             summary.observe(&row, now)?;
+        }
+        Ok(())
+    }
+
+    /// Tells of the names of an item.
+    fn rename(&mut self, row: &Row) -> Result<(), Failure> {
+        self.display.rename(row)?;
+        if let Some(summary) = &mut self.summary {
+            summary.rename(row)?;
         }
         Ok(())
     }

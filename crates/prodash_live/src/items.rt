@@ -25,6 +25,8 @@ struct Entry<R: Wait + Clone + Drop> {
     level: u8,
     /// The word by which the script names the item, if it names it.
     word: Option<String>,
+    /// Whether items were added below it.
+    has_children: bool,
 }
 
 /// The tree, its items by handle, and the handles by name.
@@ -125,6 +127,14 @@ impl<R: Wait + Clone + Drop, W: Write + Drop> Items<R, W> {
         }
     }
 
+    /// Returns whether items were added below an item.
+    pub fn has_children(&self, handle: Handle) -> bool {
+        match self.items.get(&handle) {
+            None => false,
+            Some(entry) => entry.has_children,
+        }
+    }
+
     /// Returns the recording.
     pub fn recording(&mut self) -> &mut Recording<W> {
         &mut self.recording
@@ -199,14 +209,20 @@ impl<R: Wait + Clone + Drop, W: Write + Drop> Items<R, W> {
         }
         let level = entry.level.saturating_add(1);
         let item = entry.item.add_child(alloc, name, &mut self.recording)?;
+        entry.has_children = true;
         Ok(self.insert(item, level)?)
     }
 
     /// Keeps a new item of a level, and returns its handle.
     fn insert(&mut self, item: RecordedItem<R>, level: u8) -> Result<Handle, AllocError> {
         let handle = self.made.saturating_add(1);
-        let word = None;
-        self.items.insert(handle, Entry { item, level, word })?;
+        let entry = Entry {
+            item,
+            level,
+            word: None,
+            has_children: false,
+        };
+        self.items.insert(handle, entry)?;
         self.made = handle;
         Ok(handle)
     }

@@ -104,6 +104,11 @@ impl<R: Wait + Clone + Drop, O: Write + Drop> Lines<R, O> {
         self.write_line(line)
     }
 
+    /// Takes the names of a task for its next line.
+    fn rename(&mut self, row: &Row) -> Result<(), Refusal> {
+        self.log.rename(self.alloc, row)
+    }
+
     /// Writes the line of a task that is dropped, if there is something to say.
     fn end(&mut self, row: &Row, now: Moment) -> Result<(), Refusal> {
         let line = self.log.end(self.alloc, row, now)?;
@@ -259,6 +264,15 @@ impl<R: Wait + Clone + Drop, O: Write + Drop> PlainDisplay<R, O> {
         self.write_messages(now)?;
         let written = self.lines.lock(&self.rt).observe(row, now);
         unless_broken(written)
+    }
+
+    /// Takes the names of an item for its next line.
+    ///
+    /// # Errors
+    ///
+    /// `Memory`, if there is no memory for them.
+    pub fn rename(&mut self, row: &Row) -> Result<(), Refusal> {
+        self.lines.lock(&self.rt).rename(row)
     }
 
     /// Writes the line of an item that was dropped, behind the messages.

@@ -127,6 +127,18 @@ impl<R: Wait + Threads + Clone + Drop, O: Write + Drop> Shown<R, O> {
         Ok(())
     }
 
+    /// Takes the names of an item for its next line, where there are lines.
+    ///
+    /// # Errors
+    ///
+    /// `Memory`, if there is no memory for them.
+    pub fn rename(&mut self, row: &Row) -> Result<(), Failure> {
+        if let Shown::Plain(display) = self {
+            display.rename(row)?;
+        }
+        Ok(())
+    }
+
     /// Says that an item was dropped, or is there at the end.
     ///
     /// # Errors

@@ -65,6 +65,15 @@ impl Summary {
         Ok(())
     }
 
+    /// Notes the names of an item, which may be new.
+    ///
+    /// # Errors
+    ///
+    /// `Memory`, if there is no memory for them.
+    pub fn rename(&mut self, row: &Row) -> Result<(), Refusal> {
+        self.log.rename(self.alloc, row)
+    }
+
     /// Notes how an item has come out that was dropped, or is there at the end.
     ///
     /// # Errors
