@@ -1,6 +1,6 @@
 -- Lines of rows that are kept from one frame to the next.
 use Rattle.std.proofs.Common.{◌≡◌, ℕ, zero, suc, ◌+◌, ◌-◌, Bool, true, false, List, [], ◌∷◌, ◌++◌, length, take, drop, get_or, drop-cons, ◌<◌, ◌≤◌, length-drop, refl, sym, ap, subst, ◌∙◌, append_assoc, length-append, arith, cond, not, Option, Some, None}
-use Rattle.std.specs.Prelude.{◌&&◌, ◌||◌, IfSome, slice_get}
+use Rattle.std.specs.Prelude.{◌&&◌, ◌||◌, slice_get}
 use Rattle.std.specs.Option.{option_map}
 use Rattle.std.proofs.lemmas.List.{map-append, take_at, drop_at, drop-append-le, length-take-le}
 use Rattle.std.proofs.lemmas.List.Elements.{All-weaker}
@@ -12,7 +12,6 @@ use Rattle.prodash_base.specs.declared.progress.Row.{Row}
 use Rattle.prodash_base.specs.declared.timing.task_time.TaskTime.{TaskTime}
 use Rattle.prodash_base.specs.declared.unit.display.Throughput.{Throughput}
 use Rattle.prodash_line.specs.declared.render.line.draw.input.Options.{Options}
-use Rattle.prodash_line.specs.declared.render.line.draw.latest_rows.CopiedLine.{CopiedLine}
 use Rattle.prodash_line.specs.declared.render.line.draw.latest_rows.LineSize.{LineSize}
 use Rattle.prodash_line.specs.declared.render.line.draw.latest_rows.RowLine.{RowLine}
 use Rattle.prodash_line.specs.declared.render.line.draw.action.Action.{Action}
@@ -24,7 +23,7 @@ use Rattle.prodash_line.specs.ProgressRows.{DrawnRow, bar, bar_columns, filtered
 use Rattle.prodash_line.specs.Renderer.{Renderer, closes_at, draws_again, idle_action, is_drawn, rows_changed, tick_action, times_go_on}
 use Rattle.prodash_line.specs.Signs.{spelling}
 use Rattle.prodash_line.specs.TextStyles.{name_style, row_style}
-use Rattle.prodash_line.specs.plumbing.KeptLines.{AreAlike, AreAmong, IsAmong, IsAt, IsLineOf, IsPlaced, IsSizeOf, IsWritten, ShowsNone, kept_line, line_size, own_bytes, untimed_line}
+use Rattle.prodash_line.specs.plumbing.KeptLines.{AreAlike, AreAmong, IsAmong, IsAt, IsPlaced, IsSizeOf, IsWritten, kept_line, line_size, own_bytes, untimed_line}
 use Rattle.prodash_line.specs.plumbing.OverwriteBytes.{row_end}
 use Rattle.prodash_line.specs.plumbing.Writing.{line_bytes}
 
@@ -173,13 +172,13 @@ same_some : (row other : PathRow) → Some row ≡ Some other → row ≡ other
 unfolding the_row
 same_some row other h = ap (the_row row) h
 
-at_place : (start n : ℕ) (part whole : List ℕ) → IsAt start part whole → n ≡ length part → take n (drop start whole) ≡ part
+pub at_place : (start n : ℕ) (part whole : List ℕ) → IsAt start part whole → n ≡ length part → take n (drop start whole) ≡ part
 at_place start n part whole a e =
     ap (λ (t : List ℕ). take n (drop start t)) a.joined ∙ ap (take n) (drop_at a.before (part ++ a.after) start a.begins) ∙ take_at part a.after n (sym e)
 
 -- an earlier line is that of a row that is alike
 pub placed_also : (options : Options) (midpoint : ℕ) (rows : List PathRow) (bytes : List ℕ) (line : RowLine) (row earlier : PathRow) → IsAmong options midpoint rows bytes line
-    → slice_get rows line.row ≡ Some earlier → AreAlike row earlier → IsPlaced options midpoint row bytes line
+    → slice_get rows line.row ≡ Some earlier → AreAlike row earlier → IsPlaced options midpoint row bytes line.start (line_size line)
 placed_also options midpoint rows bytes line row earlier a f alike =
     let same : a.row ≡ earlier = same_some a.row earlier (sym a.found ∙ f) in
     let drawn : untimed_line options midpoint (a.row, None) ≡ untimed_line options midpoint (row, None) =
@@ -190,14 +189,6 @@ placed_also options midpoint rows bytes line row earlier a f alike =
       size = same_size options midpoint (a.row, None) (row, None) (line_size line) drawn own a.size;
       place = subst (λ (l : Line). IsAt line.start (own_bytes options l) bytes) drawn a.place;
     }
-
--- the bytes of a line where it is
-pub line_found : (options : Options) (midpoint : ℕ) (row : PathRow) (bytes : List ℕ) (line : RowLine) (copied : CopiedLine) → IsPlaced options midpoint row bytes line
-    → copied.size ≡ line_size line → copied.bytes.now ≡ take line.length (drop line.start bytes) → IsLineOf options midpoint (row, None) copied
-line_found options midpoint row bytes line copied p s b = record {
-  size = subst (IsSizeOf options midpoint (row, None)) (sym s) p.size;
-  bytes = b ∙ at_place line.start line.length (own_bytes options (untimed_line options midpoint (row, None))) bytes p.place p.size.bytes;
-}
 
 -- ---- lines that stand one behind the other
 
@@ -221,18 +212,18 @@ with_next start end x part whole a e h =
     }
 
 -- a line at least as wide as the one on screen, and a line feed behind it
-pub written_over : (options : Options) (midpoint : ℕ) (row : PathRow) (old_width : ℕ) (bytes : List ℕ) (line : RowLine) (start end : ℕ) → IsPlaced options midpoint row bytes line
-    → line.start ≡ start → end ≡ start + line.length → slice_get bytes end ≡ Some 10 → old_width ≤ line.width → IsWritten options midpoint row old_width bytes start (line_size line)
-written_over options midpoint row old_width bytes line start end p s e h w =
+pub written_over : (options : Options) (midpoint : ℕ) (row : PathRow) (old_width : ℕ) (bytes : List ℕ) (start end : ℕ) (size : LineSize) → IsPlaced options midpoint row bytes start size
+    → end ≡ start + size.length → slice_get bytes end ≡ Some 10 → old_width ≤ size.width → IsWritten options midpoint row old_width bytes start size
+written_over options midpoint row old_width bytes start end size p e h w =
     let drawn = untimed_line options midpoint (row, None) in
     let nothing : 0 ≡ old_width - columns_of drawn = let width = p.size.width in omega (arith, width) in
     let own = own_bytes options drawn in
-    let ended : line.length + 1 ≡ length (own ++ row_end 0) = ap (λ (n : ℕ). n + 1) p.size.bytes ∙ sym (length-append own (10 ∷ [])) in
+    let ended : size.length + 1 ≡ length (own ++ row_end 0) = ap (λ (n : ℕ). n + 1) p.size.bytes ∙ sym (length-append own (10 ∷ [])) in
     record {
       own = p.size;
-      long = subst (λ (n : ℕ). line.length + 1 ≡ length (own ++ row_end n)) nothing ended;
+      long = subst (λ (n : ℕ). size.length + 1 ≡ length (own ++ row_end n)) nothing ended;
       place = subst (λ (n : ℕ). IsAt start (own_bytes options drawn ++ row_end n) bytes) nothing
-          (with_next start end 10 (own_bytes options drawn) bytes (subst (λ (n : ℕ). IsAt n (own_bytes options drawn) bytes) s p.place) (e ∙ ap (λ (n : ℕ). start + n) p.size.bytes) h);
+          (with_next start end 10 (own_bytes options drawn) bytes p.place (e ∙ ap (λ (n : ℕ). start + n) p.size.bytes) h);
     }
 
 -- the bytes from the beginning of a run up to its end
@@ -258,19 +249,6 @@ run_nothing bytes start = ap (λ (n : ℕ). take n (drop start bytes)) (let zero
 -- how long it is
 pub length-run : (bytes : List ℕ) (start end : ℕ) → start ≤ end → end ≤ length bytes → length (run_bytes bytes start end) ≡ end - start
 length-run bytes start end l e = length-take-le (end - start) (drop start bytes) (let d = length-drop start bytes in let le : end - start ≤ length (drop start bytes) = omega (arith, d) in le)
-
--- and with a throughput that isn't shown
-line_with : (options : Options) (midpoint : ℕ) (row : PathRow) (throughput : Option Throughput) (line : CopiedLine) → ShowsNone row throughput
-    → IsLineOf options midpoint (row, None) line → IsLineOf options midpoint (row, throughput) line
-line_with options midpoint row throughput line s h = record {
-  size = same_size options midpoint (row, None) (row, throughput) line.size (sym (s.line options midpoint)) (sym (s.midpoint options.defensive)) h.size;
-  bytes = h.bytes ∙ ap (own_bytes options) (sym (s.line options midpoint));
-}
-
-pub found_with : (options : Options) (midpoint : ℕ) (row : PathRow) (throughput : Option Throughput) (line : Option CopiedLine) → ShowsNone row throughput
-    → IfSome line (IsLineOf options midpoint (row, None)) → IfSome line (IsLineOf options midpoint (row, throughput))
-found_with options midpoint row throughput None s h = h
-found_with options midpoint row throughput (Some line) s h = line_with options midpoint row throughput line s h
 
 -- ---- rows that stay
 

@@ -1,13 +1,11 @@
 -- A fraction and a label, which are the values and the unit of a progress.
-use Rattle.std.proofs.Common.{◌≡◌, ℕ, ◌+◌, Bool, true, false, List, [], ◌∷◌, ◌++◌, Option, Some, None, chars, codes, length, refl, sym, ap, subst, ◌∙◌, arith, append_assoc}
+use Rattle.std.proofs.Common.{◌≡◌, ℕ, Bool, true, false, List, [], ◌∷◌, ◌++◌, Option, Some, codes, refl, sym, ap, ◌∙◌, append_assoc}
 use Rattle.std.specs.Fmt.{decimal}
 use Rattle.std.specs.Borrow.{Bor}
-use Rattle.prodash_base.specs.Displays.{amount, text_at, values_text, unit_text}
+use Rattle.prodash_base.specs.Displays.{amount, values_text, unit_text}
 use Rattle.prodash_base.specs.Kinds.{kind_shown}
 use Rattle.prodash_base.specs.Rows.{RowProgress, progress_of}
-use Rattle.prodash_base.specs.Shown.{Shown}
 use Rattle.prodash_base.specs.Units.{measure_of}
-use Rattle.prodash_base.specs.declared.unit.display.Location.TheVariants.{BeforeValue, AfterUnit}
 use Rattle.prodash_base.specs.declared.unit.display.Mode.{Mode}
 use Rattle.prodash_base.specs.declared.unit.display.Throughput.{Throughput}
 use Rattle.prodash_base.specs.declared.unit.kind.Kind.{Kind}

@@ -27,7 +27,9 @@ pub mod Decimals
 pub mod ErasedRows
 pub mod Choosing
 pub mod FittingRows
+pub mod GapBuffers
 pub mod KeptLines
+pub mod LineCopying
 pub mod EarlierRows
 pub mod WrittenRows
 pub mod FramesOnPage

@@ -11,7 +11,7 @@ use Rattle.prodash_line.specs.TextStyles.{row_style}
 use Rattle.prodash_line.specs.ProgressRows.{time_line, with_time, values_of, head_of, padded, bar, bar_columns, midpoint_with, row_line_with}
 use Rattle.prodash_line.specs.plumbing.RowWriting.{end_of_values, padded_values, AppendsTime}
 use Rattle.prodash_line.specs.plumbing.Writing.{is_printable, Appends, Begun}
-use Rattle.prodash_line.proofs.Columns.{columns_of-append, printable-append, width-printable, width-repeated}
+use Rattle.prodash_line.proofs.Columns.{columns_of-append, width-printable, width-repeated}
 use Rattle.prodash_line.proofs.Coloring.{in_color-append, columns_of-in_color}
 use Rattle.prodash_line.proofs.LineWriting.{appends_as, appends_then, begun_then, begun_as}
 

@@ -10,6 +10,7 @@ pub mod Writing
 pub mod RowWriting
 pub mod OverwriteBytes
 pub mod KeptLines
+pub mod LineCopying
 pub mod Observing
 pub mod Choosing
 pub mod FrameWriting

@@ -1,5 +1,5 @@
 -- What composing a frame writes, and what it leaves to the next frame.
-use Rattle.std.specs.Prelude.{◌≡◌, ℕ, Bool, true, List, [], ◌∷◌, ◌++◌, ◌+◌, ◌-◌, length, Option, Some, IfSome, max}
+use Rattle.std.specs.Prelude.{◌≡◌, ℕ, Bool, true, List, [], ◌∷◌, ◌++◌, ◌+◌, ◌-◌, length, Option, Some, max}
 use Rattle.std.specs.Global.{Vec}
 use Rattle.prodash_base.specs.FrameTrackers.{FrameTracker}
 use Rattle.prodash_base.specs.declared.messages.Message.{Message}
@@ -12,7 +12,7 @@ use Rattle.prodash_line.specs.declared.render.line.draw.input.Options.{Options}
 use Rattle.prodash_line.specs.declared.render.line.draw.action.Action.{Action}
 use Rattle.prodash_line.specs.declared.render.line.draw.action.Drawn.{Drawn}
 use Rattle.prodash_line.specs.declared.render.line.draw.action.Composed.{Composed}
-use Rattle.prodash_line.specs.declared.render.line.draw.frame.LineSource.{LineSource}
+use Rattle.prodash_line.specs.declared.render.line.draw.latest_rows.KeptLines.{KeptLines}
 use Rattle.prodash_line.specs.declared.render.line.draw.latest_rows.LineSize.{LineSize}
 use Rattle.prodash_line.specs.declared.render.line.draw.latest_rows.RowLine.{RowLine}
 use Rattle.prodash_line.specs.declared.render.line.draw.layout.Layout.{Layout}
@@ -34,7 +34,7 @@ use Rattle.prodash_line.specs.MessageLines.{message_lines, widths_of_origins}
 use Rattle.prodash_base.specs.declared.refusal.Refusal.TheVariants as refusals
 use Rattle.prodash_line.specs.Renderer.{Renderer, Drawing, FrameState, drawing_of, body_of, opening_of, ending_of, state_after, state_at, action_at, remember, latest_rows, frame_bytes, ended_after, is_cursor_hidden}
 use Rattle.prodash_line.specs.plumbing.OverwriteBytes.{lines_bytes, row_end}
-use Rattle.prodash_line.specs.plumbing.KeptLines.{AreAmong, AreEarlier, IsLineOf, IsSizeOf, untimed_line, own_bytes}
+use Rattle.prodash_line.specs.plumbing.KeptLines.{AreAmong, AreKept, IsSizeOf, drawn_in, untimed_line, own_bytes}
 use Rattle.prodash_line.specs.plumbing.Choosing.{quotas_of, all_reserved, chosen}
 use Rattle.prodash_line.specs.plumbing.Observing.{shown_by, ahead_of, tracker_by}
 use Rattle.prodash_line.specs.Tracking.{kept_of, tracked}
@@ -238,19 +238,19 @@ pub record Extends (old new : LineWriter) : Type 0 where
   pub more : List ℕ
   pub bytes : new.bytes ≡ old.bytes ++ more
 
--- the earlier lines of a scene are those of its earlier rows
-abbrev pub HasEarlierLines : Scene → Type 0
-HasEarlierLines scene = AreEarlier scene.options scene.past.now.midpoint scene.earlier
+-- these lines are those of the rows before a scene
+abbrev pub HasKept : Scene → KeptLines → Type 0
+HasKept scene kept = AreKept kept (drawn_in scene.before)
 
--- the earlier line, if there is one, is that of a row of a scene
-abbrev pub HasEarlier : Scene → Row → LineSource → Type 0
-HasEarlier scene row source = IfSome source.earlier (IsLineOf scene.options scene.past.now.midpoint (row_of row, source.throughput))
+-- the bytes of the line of a row of a scene, with what follows it over one of this width
+abbrev pub bytes_in : Scene → DrawnRow → ℕ → List ℕ
+bytes_in scene drawn width =
+    let line = untimed_line scene.options scene.past.now.midpoint drawn in
+    own_bytes scene.options line ++ row_end (width - columns_of line)
 
 -- the line of a row of a scene, over one of this width, follows the bytes of old
 abbrev pub WritesLine : Scene → DrawnRow → ℕ → LineWriter → LineWriter → Type 0
-WritesLine scene drawn width old new =
-    let line = untimed_line scene.options scene.past.now.midpoint drawn in
-    new.bytes ≡ old.bytes ++ (own_bytes scene.options line ++ row_end (width - columns_of line))
+WritesLine scene drawn width old new = new.bytes ≡ old.bytes ++ bytes_in scene drawn width
 
 -- it is so large
 abbrev pub IsSizeIn : Scene → DrawnRow → LineSize → Type 0

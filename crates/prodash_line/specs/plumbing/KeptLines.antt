@@ -1,5 +1,5 @@
 -- Lines of rows that are kept from one frame to the next.
-use Rattle.std.specs.Prelude.{◌≡◌, ◌≤◌, ◌+◌, ◌-◌, ℕ, Bool, List, ◌++◌, length, Option, Some, None, IfSome, slice_get}
+use Rattle.std.specs.Prelude.{◌≡◌, ◌+◌, ◌-◌, ℕ, Bool, List, ◌++◌, length, Option, Some, None, slice_get}
 use Rattle.std.specs.List.{All}
 use Rattle.std.specs.Option.{option_eq, option_map}
 use Rattle.prodash_base.specs.Rows.{PathRow, progress_of, rows_of, same_progress}
@@ -9,11 +9,10 @@ use Rattle.prodash_base.specs.declared.progress.Value.{Value}
 use Rattle.prodash_base.specs.declared.unit.display.Throughput.{Throughput}
 use Rattle.prodash_base.specs.declared.unit.units.Unit.{Unit as TaskUnit}
 use Rattle.prodash_line.specs.declared.render.line.draw.input.Options.{Options}
-use Rattle.prodash_line.specs.declared.render.line.draw.latest_rows.CopiedLine.{CopiedLine}
-use Rattle.prodash_line.specs.declared.render.line.draw.latest_rows.EarlierLines.{EarlierLines}
 use Rattle.prodash_line.specs.declared.render.line.draw.latest_rows.KeptLines.{KeptLines}
 use Rattle.prodash_line.specs.declared.render.line.draw.latest_rows.LineSize.{LineSize}
 use Rattle.prodash_line.specs.declared.render.line.draw.latest_rows.RowLine.{RowLine}
+use Rattle.prodash_line.specs.declared.render.line.draw.latest_rows.RowsBefore.{RowsBefore}
 use Rattle.prodash_line.specs.DrawnLines.{layout_of}
 use Rattle.prodash_line.specs.Frames.{row_start}
 use Rattle.prodash_line.specs.Lines.{Line, columns_of}
@@ -66,26 +65,31 @@ AreAmong options midpoint rows bytes lines = All (IsAmong options midpoint rows 
 abbrev pub AreKept : KeptLines → List PathRow → Type 0
 AreKept kept rows = AreAmong kept.options kept.midpoint rows kept.bytes kept.lines.items
 
+-- and whichever rows they are of, they are their lines with these options and this midpoint
+abbrev pub MayBeCopied : Options → ℕ → KeptLines → Type 0
+MayBeCopied options midpoint kept = (rows : List PathRow) → AreKept kept rows → AreAmong options midpoint rows kept.bytes kept.lines.items
+
 -- the rows of an earlier frame: these, with the steps that they had
-abbrev pub drawn_in : EarlierLines → List PathRow
-drawn_in e = with_steps e.steps.now (rows_of e.rows.now)
+abbrev pub drawn_in : RowsBefore → List PathRow
+drawn_in before = with_steps before.steps.now (rows_of before.rows.now)
 
 -- if this row is at an index now, it was then
-abbrev pub WasThere : EarlierLines → ℕ → PathRow → Type 0
-WasThere e index row = slice_get (rows_of e.rows.now) index ≡ Some row → slice_get (drawn_in e) index ≡ Some row
+abbrev pub WasThere : RowsBefore → ℕ → PathRow → Type 0
+WasThere before index row = slice_get (rows_of before.rows.now) index ≡ Some row → slice_get (drawn_in before) index ≡ Some row
 
--- the lines of an earlier frame are those of its rows
-abbrev pub AreEarlier : Options → ℕ → EarlierLines → Type 0
-AreEarlier options midpoint e = AreAmong options midpoint (drawn_in e) e.bytes.now e.lines.now
+-- the line of this row without a throughput is so large, and is among these bytes, from this index on
+pub record IsPlaced (options : Options) (aligned : ℕ) (row : PathRow) (bytes : List ℕ) (start : ℕ) (large : LineSize) : Type 0 where
+  pub size : IsSizeOf options aligned (row, None) large
+  pub place : IsAt start (own_bytes options (untimed_line options aligned (row, None))) bytes
 
--- it is the line of this row without a throughput, among these bytes
-pub record IsPlaced (options : Options) (aligned : ℕ) (row : PathRow) (bytes : List ℕ) (line : RowLine) : Type 0 where
-  pub size : IsSizeOf options aligned (row, None) (line_size line)
-  pub place : IsAt line.start (own_bytes options (untimed_line options aligned (row, None))) bytes
+-- a line of an earlier frame is that of this row too, and begins there, with whichever options and midpoint it is that of its row
+abbrev pub IsLineAt : RowsBefore → RowLine → ℕ → PathRow → LineSize → Type 0
+IsLineAt before line start row size =
+    (options : Options) (midpoint : ℕ) (bytes : List ℕ) → IsAmong options midpoint (drawn_in before) bytes line → IsPlaced options midpoint row bytes start size
 
--- a line of an earlier frame is that of this row too, with whichever options and midpoint it is that of its row
-abbrev pub IsAlso : EarlierLines → RowLine → PathRow → Type 0
-IsAlso e line row = (options : Options) (midpoint : ℕ) → IsAmong options midpoint (drawn_in e) e.bytes.now line → IsPlaced options midpoint row e.bytes.now line
+-- the same of what is kept of it
+abbrev pub IsAlso : RowsBefore → RowLine → PathRow → Type 0
+IsAlso before line row = IsLineAt before line line.start row (line_size line)
 
 -- the bytes of a line with what follows it over a line of this width
 abbrev pub bytes_over : Options → ℕ → Line → List ℕ
@@ -96,24 +100,6 @@ pub record IsWritten (options : Options) (aligned : ℕ) (row : PathRow) (old_wi
   pub own : IsSizeOf options aligned (row, None) size
   pub long : size.length + 1 ≡ length (bytes_over options old_width (untimed_line options aligned (row, None)))
   pub place : IsAt start (bytes_over options old_width (untimed_line options aligned (row, None))) bytes
-
--- it is among those of an earlier frame, with whichever options and midpoint its lines are those of its rows
-pub record IsWrittenIn (e : EarlierLines) (start : ℕ) (row : PathRow) (old_width : ℕ) (size : LineSize) : Type 0 where
-  pub fits : start + size.length + 1 ≤ length e.bytes.now
-  pub written : (options : Options) (midpoint : ℕ) → AreEarlier options midpoint e → IsWritten options midpoint row old_width e.bytes.now start size
-
--- it is the line of this row
-pub record IsLineOf (options : Options) (midpoint : ℕ) (drawn : DrawnRow) (line : CopiedLine) : Type 0 where
-  pub size : IsSizeOf options midpoint drawn line.size
-  pub bytes : line.bytes.now ≡ own_bytes options (untimed_line options midpoint drawn)
-
--- what is found of a row is its line, with whichever options and midpoint the lines of an earlier frame are those of its rows
-abbrev pub FindsLine : EarlierLines → DrawnRow → Option CopiedLine → Type 0
-FindsLine e drawn found = (options : Options) (midpoint : ℕ) → AreEarlier options midpoint e → IfSome found (IsLineOf options midpoint drawn)
-
--- the same of one of these lines
-abbrev pub FindsLineIn : EarlierLines → RowLine → DrawnRow → Option CopiedLine → Type 0
-FindsLineIn e line drawn found = (options : Options) (midpoint : ℕ) → IsAmong options midpoint (drawn_in e) e.bytes.now line → IfSome found (IsLineOf options midpoint drawn)
 
 -- a row is drawn with this throughput as without one
 pub record ShowsNone (row : PathRow) (throughput : Option Throughput) : Type 0 where

@@ -16,7 +16,8 @@ use Rattle.prodash_line.specs.Lines.{Line}
 use Rattle.prodash_line.specs.ProgressRows.{DrawnRow, filtered, greatest_midpoint}
 use Rattle.prodash_line.specs.Tracking.{kept_of}
 use Rattle.prodash_line.specs.plumbing.FrameWriting.{AppendsOver, DrawsRows, shown_lines, shown_rows, times_in}
-use Rattle.prodash_line.specs.plumbing.KeptLines.{AreAmong, AreEarlier, IsWrittenIn}
+use Rattle.prodash_line.specs.plumbing.KeptLines.{AreAmong}
+use Rattle.prodash_line.specs.plumbing.LineCopying.{HasLeft, IsNext}
 use Rattle.prodash_line.specs.plumbing.Observing.{ObservesDrawn, ahead_of, observe_all}
 use Rattle.prodash_line.specs.plumbing.OverwriteBytes.{lines_bytes}
 
@@ -74,21 +75,20 @@ pub record KeepsRun (scene : Scene) (rows : List Row) (first now : RowsLeft) (ol
   pub written : ComesTo scene first now
   pub lines : AreAmong scene.options scene.past.now.midpoint (rows_of rows) first.bytes old → AreAmong scene.options scene.past.now.midpoint (rows_of rows) now.bytes new
 
--- the same in each scene without times that has these levels and the earlier lines of a copier
+-- the same in each scene without times that has these levels and what a copier has left
 abbrev pub KeepsRunIn : Option FrameTracker → Option (ℕ × ℕ) → List Row → LineCopier → RowsLeft → RowsLeft → List RowLine → Type 0
 KeepsRunIn tracker levels rows copier first now lines =
-    (scene : Scene) → scene.timer.now ≡ None → scene.options.level_filter ≡ levels → AreEarlier scene.options scene.past.now.midpoint copier.earlier
-    → KeepsRun scene rows first now copier.lines.items lines
+    (scene : Scene) → scene.timer.now ≡ None → scene.options.level_filter ≡ levels → HasLeft scene.options scene.past.now.midpoint copier
+    → KeepsRun scene rows first now copier.lines.0 lines
 
 -- the rows from one index up to another have been copied
-abbrev pub CopiesRun : Option FrameTracker → Option (ℕ × ℕ) → List Row → NextRow → LineCopier → LineWriter → Drawn → LineCopier → LineWriter → Drawn → NextRow → Type 0
-CopiesRun tracker levels rows at copier old old_drawn new_copier new new_drawn next =
-    KeepsRunIn tracker levels rows copier (left_at rows tracker (at.index, at.widths.now) old.bytes old_drawn) (left_at rows tracker (next.index, next.widths.now) new.bytes new_drawn) new_copier.lines.items
+abbrev pub CopiesRun : Option FrameTracker → Option (ℕ × ℕ) → List Row → NextRow → LineCopier → Drawn → LineCopier → Drawn → NextRow → Type 0
+CopiesRun tracker levels rows at old old_drawn new new_drawn next =
+    KeepsRunIn tracker levels rows old (left_at rows tracker (at.index, at.widths.now) old.bytes.0 old_drawn) (left_at rows tracker (next.index, next.widths.now) new.bytes.0 new_drawn) new.lines.0
 
 -- the line of this row follows those that are copied
 pub record FollowsRun (copier : LineCopier) (rows : List Row) (n : ℕ) (widths : List ℕ) (start : ℕ) (size : LineSize) : Type 0 where
   pub row : Row
   pub found : slice_get rows n ≡ Some row
-  pub line : IsWrittenIn copier.earlier start (row_of row) (first_width widths) size
-  pub next : copier.next < 18446744073709551615
+  pub line : IsNext copier start (row_of row) (first_width widths) size
   pub index : n < 18446744073709551615

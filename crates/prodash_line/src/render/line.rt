@@ -1,4 +1,5 @@
 mod byte_buffer;
 pub mod draw;
+mod gap_buffer;
 pub mod page;
 pub mod terminal;

@@ -9,9 +9,10 @@ use itoa::Buffer;
 use prodash_base::progress::Step;
 use std::alloc::{AllocError, Global};
 use std::marker::Model;
+use std::mem;
 
 /// How many bytes are initialized in advance if there is memory for them.
-const AHEAD: usize = 4096;
+const AHEAD: usize = 2048;
 
 /// Bytes that others are appended to. Memory past them is initialized in advance, so that an append
 /// is one comparison and one copy. Contracts see the list of the bytes.
@@ -44,6 +45,17 @@ impl ByteBuffer {
         }
     }
 
+    /// Returns a buffer of the first `length` of these bytes.
+    pub(crate) fn from_first(bytes: Vec<u8>, length: usize) -> ByteBuffer
+        requires { length ≤ vec_len bytes }
+        ensures { result ≡ take length bytes.items }
+    {
+        ByteBuffer {
+            initialized: bytes,
+            length,
+        }
+    }
+
     /// Returns the bytes.
     pub(crate) fn as_slice(&self) -> &[u8]
         ensures { result.now ≡ self.now }
@@ -58,6 +70,14 @@ impl ByteBuffer {
         self.length
     }
 
+    /// Returns the memory that is initialized, and how many bytes there are, with which it begins.
+    pub(crate) fn into_initialized(self) -> (Vec<u8>, usize)
+        ensures bytes { take result.1 result.0.items ≡ self }
+        ensures length { result.1 ≤ vec_len result.0 }
+    {
+        (self.initialized, self.length)
+    }
+
     /// Returns the bytes without a copy.
     pub(crate) fn into_vec(self) -> Vec<u8>
         ensures { result.items ≡ self }
@@ -68,6 +88,28 @@ impl ByteBuffer {
         } = self;
         initialized.truncate(length);
         initialized
+    }
+
+    /// Takes the bytes and their memory. The buffer is empty then.
+    pub(crate) fn take(&mut self) -> ByteBuffer
+        ensures taken { result ≡ self.old }
+        ensures none { self.new ≡ [] }
+    {
+        let none = ByteBuffer::new(*self.initialized.allocator());
+        mem::replace(self, none)
+    }
+
+    /// Moves the bytes into the memory of another buffer, if it has more. Fails if out of memory.
+    pub(crate) fn move_into(&mut self, other: ByteBuffer) -> Result<(), AllocError>
+        ensures { OnOk result (self.new ≡ self.old) }
+    {
+        if self.initialized.len() < other.initialized.len() {
+            let mut other = other;
+            other.clear();
+            other.extend_from_slice(self.as_slice())?;
+            *self = other;
+        }
+        Ok(())
     }
 
     /// Empties the buffer and keeps its memory.

@@ -36,7 +36,7 @@ mod text;
 mod tracker;
 
 pub use drawn_text::safe_char;
-use earlier_rows::SeenRows;
+use earlier_rows::{Earlier, SeenRows};
 use frame::{compose_closing, compose_resized, compose_tick};
 pub use input::{Answer, Input, Options};
 pub use memory_screen::MemoryScreen;
@@ -171,22 +171,25 @@ fn draw_tick<S: Screen>(
         state.new screen.new }
 {
     let (rows, messages, copy_state) = seen;
-    let seen = (state.past.begin_tick(rows), messages, copy_state);
+    let Earlier { rows, mut kept } = state.past.begin_tick(alloc, rows);
+    let seen = (rows, messages, copy_state);
     let (past, tracker) = (&state.past, &mut state.tracker);
-    let frame = match compose_tick(alloc, &mut state.frame, past, tracker, at, show, &seen) {
+    let composed = compose_tick(&mut state.frame, past, tracker, at, show, &seen, &mut kept);
+    let (rows, messages, copy_state) = seen;
+    let earlier = Earlier { rows, kept };
+    let frame = match composed {
         Ok(frame) => frame,
         Err(refusal) => {
-            state.past.take_back(seen.0);
+            state.past.take_back(earlier);
             return Err(refusal);
         }
     };
     if let Err(refusal) = send_frame(screen, &mut state.past, state.frame.bytes()) {
-        state.past.take_back(seen.0);
+        state.past.take_back(earlier);
         return Err(refusal);
     }
     let (action, rows) = (frame.drawn.action, state.past.latest_rows());
     keep_observed(&mut state.tracker, action, rows);
-    let (earlier, messages, copy_state) = seen;
     let (past, bytes) = (&mut state.past, &mut state.frame);
     Ok(past.remember_tick(frame, bytes, earlier, messages, copy_state))
 }
@@ -208,7 +211,7 @@ fn draw_resized<S: Screen>(
     let drawn = compose_resized(alloc, &mut state.frame, past, tracker, at, size, show)?;
     send_frame(screen, &mut state.past, state.frame.bytes())?;
     keep_observed(&mut state.tracker, drawn.action, state.past.latest_rows());
-    state.past.set_size(size, drawn, &mut state.frame);
+    state.past.set_size(size, drawn);
     Ok(Answer::Drawn)
 }
 

@@ -3,9 +3,10 @@ ghost use Rattle.std.specs.Prelude.{◌≡◌, ℕ, true, None, List, [], ◌++�
 ghost use Rattle.prodash_line.specs.declared.render.line.draw.action.Action.TheVariants.{Redraw};
 ghost use Rattle.prodash_line.specs.Frames.{first_width, redraw, cursor_up};
 ghost use Rattle.prodash_line.specs.DrawnLines.{prefers_running};
-ghost use Rattle.prodash_line.specs.Renderer.{ending_of, latest_rows, resized};
-ghost use Rattle.prodash_line.specs.plumbing.FrameWriting.{HasEarlierLines, closing_signs, closing_bytes, Composes, AppendsSigns, AppendsBody, AppendsRedraw, BeginsFrame, FinishesRedraw, LeftBy, LeftByTick, LeftByAction, AddsOrigins, DrawsFitting, WritesMessages, WritesRow, WritesChosen, WritesFitting, SplitsScene, DrawsFirst, DrawsRowOf, DrawsChosen, HasEarlier, WritesLine, IsSizeIn, KeepsOf, KeepsLinesOf, KeepsLines, RowsStay, Extends, resize_to};
+ghost use Rattle.prodash_line.specs.Renderer.{ending_of, latest_rows};
+ghost use Rattle.prodash_line.specs.plumbing.FrameWriting.{HasKept, bytes_in, closing_signs, closing_bytes, Composes, AppendsSigns, AppendsBody, AppendsRedraw, BeginsFrame, FinishesRedraw, LeftBy, LeftByTick, LeftByAction, AddsOrigins, DrawsFitting, WritesMessages, WritesRow, WritesChosen, WritesFitting, SplitsScene, DrawsFirst, DrawsRowOf, DrawsChosen, WritesLine, IsSizeIn, KeepsOf, KeepsLinesOf, RowsStay, Extends, resize_to};
 ghost use Rattle.prodash_line.specs.plumbing.EarlierRows.{ComposesTick, KeepsEarlier, KeepsLatest, LatestStay, LeftAfter};
+ghost use Rattle.prodash_line.specs.plumbing.LineCopying.{HasLeft, Writes};
 ghost use Rattle.prodash_line.specs.plumbing.WrittenRows.{WritesRows};
 ghost use Rattle.prodash_line.specs.Tracking.{kept_of};
 ghost use Rattle.prodash_line.specs.plumbing.Observing.{ObservesScene};
@@ -14,14 +15,12 @@ ghost use Rattle.prodash_base.specs.Rows.{row_of};
 
 use crate::render::line::draw::action::{Action, Composed, Drawn};
 use crate::render::line::draw::drawn_text::drawn_text;
-use crate::render::line::draw::earlier_rows::Earlier;
+use crate::render::line::draw::earlier_rows::EarlierRows;
 use crate::render::line::draw::erasing::{
     end_frame, finish_erasing, start_frame, start_lines, start_messages, start_row,
 };
 use crate::render::line::draw::input::Options;
-use crate::render::line::draw::latest_rows::{
-    CopiedLine, EarlierLines, LineSize, RowLine, keep_line,
-};
+use crate::render::line::draw::latest_rows::{KeptLines, LineSize, RowLine, RowsBefore, keep_line};
 use crate::render::line::draw::layout::Layout;
 use crate::render::line::draw::line_copier::{LineCopier, NextRow};
 use crate::render::line::draw::line_writer::LineWriter;
@@ -53,8 +52,8 @@ struct Scene<'a> {
     timer: &'a Option<Timer>,
     /// The rows that are drawn if the frame draws any.
     rows: &'a [Row],
-    /// The lines of an earlier frame that may be copied, and its rows.
-    earlier: EarlierLines<'a>,
+    /// The rows of the frame before.
+    before: RowsBefore<'a>,
 }
 
 /// Composes the frame of a tick with a root: the messages over the lines on screen, then the rows
@@ -62,30 +61,33 @@ struct Scene<'a> {
 /// are remembered already, and `seen` has what was remembered before in their place. Fails if out
 /// of memory.
 pub(crate) fn compose_tick(
-    alloc: Global,
     out: &mut LineWriter,
     past: &Past,
     tracker: &mut Option<FrameThroughput>,
     at: Moment,
     show: bool,
-    seen: &(Earlier, Messages, MessageCopyState),
+    seen: &(EarlierRows, Messages, MessageCopyState),
+    kept: &mut KeptLines,
 ) -> Result<Composed, Refusal>
-    requires { KeepsEarlier seen.now.0 (latest_rows past.now.last_rows) }
+    requires { KeepsEarlier seen.now.0 kept.old (latest_rows past.now.last_rows) }
     ensures bytes { OnOk result
         (ComposesTick past.now tracker.old at show seen.now out.new) }
     ensures state { IfOk result
         (LeftAfter past.now tracker.old at show seen.now tracker.new) }
     ensures lines { IfOk result (λ frame. KeepsLatest past.now out.new frame.drawn) }
     ensures rows { IfOk result (LatestStay past.now seen.now.0) }
+    ensures earlier { KeepsEarlier seen.now.0 kept.new (latest_rows past.now.last_rows) }
     ensures kept { kept_of tracker.new ≡ kept_of tracker.old }
     ensures reason { IsOkUnless result Refusal.Memory }
 {
+    let alloc = *past.widths.allocator();
     let (_, height) = past.options.terminal_dimensions;
     let layout = past.options.layout();
     let (rows, messages) = (past.latest_rows(), seen.1.as_slice());
     let has_messages = !messages.is_empty();
     let action = past.tick_action(&seen.0, show, has_messages);
     let rows_stay = past.rows_stay(action, show);
+    let kept = kept.take_for(alloc, action);
     begin_frame(out, past, layout, action)?;
     start_messages(out, layout, has_messages)?;
     let mut origin_widths = Vec::from_slice(alloc, &past.origin_widths)?;
@@ -106,9 +108,9 @@ pub(crate) fn compose_tick(
         at,
         timer: &timer,
         rows,
-        earlier: past.lines_before(&seen.0),
+        before: past.rows_before(&seen.0),
     };
-    let drawn = write_body(alloc, out, tracker, &scene, action, left)?;
+    let drawn = write_body(alloc, out, tracker, &scene, kept, action, left)?;
     end_frame(out, layout, action)?;
     Ok(Composed {
         drawn,
@@ -142,8 +144,6 @@ pub(crate) fn compose_resized(
 ) -> Result<Drawn, Refusal>
     ensures bytes { OnOk result (Composes past.now tracker.old (resize_to at show size) out.new) }
     ensures state { IfOk result (LeftBy past.now tracker.old (resize_to at show size) tracker.new) }
-    ensures lines { IfOk result (KeepsLines (resized past.now size.0 size.1)
-        (latest_rows past.now.last_rows) out.new) }
     ensures kept { kept_of tracker.new ≡ kept_of tracker.old }
     ensures reason { IsOkUnless result Refusal.Memory }
 {
@@ -160,9 +160,10 @@ pub(crate) fn compose_resized(
         at,
         timer: &past.timer,
         rows: past.latest_rows(),
-        earlier: past.earlier_lines(&options),
+        before: RowsBefore::none(),
     };
-    let drawn = write_body(alloc, out, tracker, &scene, action, &past.widths)?;
+    let kept = KeptLines::new(alloc, options);
+    let drawn = write_body(alloc, out, tracker, &scene, kept, action, &past.widths)?;
     end_frame(out, layout, action)?;
     Ok(drawn)
 }
@@ -191,10 +192,11 @@ fn write_body(
     out: &mut LineWriter,
     tracker: &mut Option<FrameThroughput>,
     scene: &Scene<'_>,
+    mut kept: KeptLines,
     action: Action,
     left: &[u16],
 ) -> Result<Drawn, Refusal>
-    requires earlier { HasEarlierLines scene.now }
+    requires kept { HasKept scene.now kept }
     ensures bytes { OnOk result
         (AppendsBody action scene.now tracker.old left.now out.old out.new) }
     ensures state { IfOk result
@@ -212,7 +214,7 @@ fn write_body(
             action,
             lines: Vec::new(alloc),
         }),
-        Action::Redraw => redraw_rows(alloc, out, tracker, scene, left),
+        Action::Redraw => redraw_rows(alloc, out, tracker, scene, &mut kept, left),
         Action::Erase => {
             write_no_rows(out, scene.options.layout(), left)?;
             Ok(Drawn {
@@ -327,9 +329,10 @@ fn redraw_rows(
     out: &mut LineWriter,
     tracker: &mut Option<FrameThroughput>,
     scene: &Scene<'_>,
+    kept: &mut KeptLines,
     widths: &[u16],
 ) -> Result<Drawn, Refusal>
-    requires earlier { HasEarlierLines scene.now }
+    requires kept { HasKept scene.now kept.old }
     ensures bytes { OnOk result
         (AppendsRedraw scene.now tracker.old widths.now out.old out.new) }
     ensures state { IfOk result
@@ -348,7 +351,7 @@ fn redraw_rows(
     };
     begin_observing(tracker, scene.at);
     start_lines(out, layout)?;
-    drawn.lines = write_fitting(alloc, out, tracker, &mut drawn, scene, widths)?;
+    drawn.lines = write_fitting(alloc, out, tracker, &mut drawn, scene, kept, widths)?;
     finish_redraw(out, layout, widths, drawn.widths.len())?;
     Ok(drawn)
 }
@@ -361,9 +364,10 @@ fn write_fitting(
     tracker: &mut Option<FrameThroughput>,
     drawn: &mut Drawn,
     scene: &Scene<'_>,
+    kept: &mut KeptLines,
     widths: &[u16],
 ) -> Result<Vec<RowLine>, Refusal>
-    requires earlier { HasEarlierLines scene.now }
+    requires kept { HasKept scene.now kept.old }
     ensures bytes { OnOk result
         (WritesFitting scene.now tracker.old widths.now out.old out.new) }
     ensures drawn { OnOk result (DrawsFitting scene.now tracker.old drawn.old drawn.new) }
@@ -378,7 +382,7 @@ fn write_fitting(
         write_preferred(alloc, out, tracker, drawn, scene, parts)?;
         Ok(Vec::new(alloc))
     } else {
-        write_first(alloc, out, tracker, drawn, scene, widths, parts)
+        write_first(out, tracker, drawn, scene, kept, widths, parts)
     }
 }
 
@@ -386,15 +390,15 @@ fn write_fitting(
 /// `parts` are the rows up to the last one that is drawn and fits, and the others.
 #[inline(always)]
 fn write_first(
-    alloc: Global,
     out: &mut LineWriter,
     tracker: &mut Option<FrameThroughput>,
     drawn: &mut Drawn,
     scene: &Scene<'_>,
+    kept: &mut KeptLines,
     widths: &[u16],
     parts: (&[Row], &[Row]),
 ) -> Result<Vec<RowLine>, Refusal>
-    requires earlier { HasEarlierLines scene.now }
+    requires kept { HasKept scene.now kept.old }
     requires split { SplitsScene scene.now parts.0.now parts.1.now }
     requires first { DrawsFirst scene.now.options parts.1.now }
     ensures bytes { OnOk result
@@ -409,7 +413,8 @@ fn write_first(
     let options = &scene.options;
     let layout = options.layout();
     let covered = layout.covered_widths(widths);
-    let lines = write_shown(alloc, out, tracker, drawn, scene, covered, shown)?;
+    let alloc = *drawn.widths.allocator();
+    let lines = write_shown(out, tracker, drawn, scene, kept, covered, shown)?;
     write_more(alloc, out, tracker, drawn, options, others)?;
     Ok(lines)
 }
@@ -537,40 +542,31 @@ fn write_rows(
     Ok(())
 }
 
-/// What the line of a row is written with.
-#[derive(Clone, Copy, Drop)]
-struct LineSource<'a> {
-    /// The throughput of the row, if there is one.
-    throughput: Option<Throughput>,
-    /// The line in an earlier frame, if it is the same.
-    earlier: Option<CopiedLine<'a>>,
-    /// The width of the line on screen that it is written over.
-    old_width: u16,
-}
-
-/// Does what `write_rows` does, and returns the lines that the next frame may copy. Lines of the
-/// latest frame are copied, unless most rows have changed.
+/// Does what `write_rows` does, and returns the lines that the next frame may copy. Lines that are kept
+/// are copied, unless most rows have changed.
 fn write_shown(
-    alloc: Global,
     out: &mut LineWriter,
     tracker: &mut Option<FrameThroughput>,
     drawn: &mut Drawn,
     scene: &Scene<'_>,
+    kept: &mut KeptLines,
     widths: &[u16],
     rows: &[Row],
 ) -> Result<Vec<RowLine>, Refusal>
-    requires earlier { HasEarlierLines scene.now }
+    requires kept { HasKept scene.now kept.old }
     ensures written { OnOk result (WritesRows scene.now widths.now rows.now out.old tracker.old
         drawn.old out.new tracker.new drawn.new) }
     ensures lines { IfOk result (KeepsOf scene.now rows.now out.new) }
     ensures kept { kept_of tracker.new ≡ kept_of tracker.old }
     ensures reason { IsOkUnless result Refusal.Memory }
 {
-    if scene.timer.is_some() || !scene.earlier.resemble(rows) {
+    if scene.timer.is_some() || !scene.before.resemble(rows) {
+        out.move_into(kept.take_bytes())?;
+        let alloc = *drawn.widths.allocator();
         write_rows(alloc, out, tracker, drawn, scene, widths, rows)?;
         return Ok(Vec::new(alloc));
     }
-    write_again(alloc, out, tracker, drawn, scene, widths, rows)
+    write_again(out, tracker, drawn, scene, kept, widths, rows)
 }
 
 /// Does what `write_rows` does where no times are shown, and returns the lines that the next frame
@@ -578,35 +574,33 @@ fn write_shown(
 /// another are copied at once.
 #[inline(never)]
 fn write_again(
-    alloc: Global,
     out: &mut LineWriter,
     tracker: &mut Option<FrameThroughput>,
     drawn: &mut Drawn,
     scene: &Scene<'_>,
+    kept: &mut KeptLines,
     widths: &[u16],
     rows: &[Row],
 ) -> Result<Vec<RowLine>, Refusal>
     requires timer { scene.now.timer.now ≡ None }
-    requires earlier { HasEarlierLines scene.now }
+    requires kept { HasKept scene.now kept.old }
     ensures written { OnOk result (WritesRows scene.now widths.now rows.now out.old tracker.old
         drawn.old out.new tracker.new drawn.new) }
     ensures lines { IfOk result (KeepsOf scene.now rows.now out.new) }
     ensures kept { kept_of tracker.new ≡ kept_of tracker.old }
     ensures reason { IsOkUnless result Refusal.Memory }
 {
-    let (options, earlier) = (&scene.options, scene.earlier);
-    let mut copier = LineCopier {
-        earlier,
-        next: 0,
-        lines: Vec::with_capacity(alloc, rows.len())?,
-    };
+    let alloc = *drawn.widths.allocator();
+    let options = &scene.options;
+    let are_alike = kept.are_for(options, scene.past.midpoint());
+    let mut copier = LineCopier::begin(scene.before, kept, are_alike, out)?;
     let mut texts = RowTexts::new(alloc);
     let mut at = NextRow { index: 0, widths };
     'rows: loop {
-        let next = copier.copy_run(out, tracker, drawn, options.level_filter, rows, at)?;
+        let next = copier.copy_run(tracker, drawn, options.level_filter, rows, at)?;
         let n = next.index;
         let Some(row) = rows.get(n) else {
-            return Ok(copier.lines);
+            return Ok(copier.finish(out));
         };
         at = next;
         at.index += 1;
@@ -616,41 +610,42 @@ fn write_again(
         let (old_width, others) = split_first_width(at.widths);
         at.widths = others;
         let throughput = observe_row(alloc, tracker, row)?;
-        let source = LineSource {
-            throughput,
-            earlier: earlier.find(&mut copier.next, row, &throughput),
-            old_width,
-        };
-        let start = out.len();
-        let size = write_line(out, &mut texts, scene, row, source)?;
+        let start = copier.len();
+        let measured = (row, throughput);
+        let size = write_line(&mut copier, out, &mut texts, scene, measured, old_width)?;
         drawn.midpoint = drawn.midpoint.max(size.midpoint);
         drawn.widths.push(size.width)?;
         keep_line(&mut copier.lines, row, &throughput, n, start, size)?;
     }
 }
 
-/// Writes the line of a row where no times are shown. Returns how large it is.
+/// Writes the line of a row with its throughput, where no times are shown. Returns how large it is.
 #[inline(always)]
 fn write_line(
+    copier: &mut LineCopier<'_>,
     out: &mut LineWriter,
     texts: &mut RowTexts,
     scene: &Scene<'_>,
-    row: &Row,
-    source: LineSource<'_>,
+    measured: (&Row, Option<Throughput>),
+    old_width: u16,
 ) -> Result<LineSize, Refusal>
     requires timer { scene.now.timer.now ≡ None }
-    requires earlier { HasEarlier scene.now row.now source }
-    ensures bytes { OnOk result (WritesLine scene.now (row_of row.now, source.entry.throughput)
-        source.entry.old_width out.old out.new) }
-    ensures size { IfOk result (IsSizeIn scene.now (row_of row.now, source.entry.throughput)) }
+    requires left { HasLeft scene.now.options scene.now.past.now.midpoint copier.old }
+    ensures bytes { OnOk result (Writes copier.old
+        (bytes_in scene.now (row_of measured.entry.0.now, measured.entry.1) old_width)
+        copier.new) }
+    ensures size { IfOk result (IsSizeIn scene.now (row_of measured.entry.0.now, measured.entry.1)) }
     ensures reason { IsOkUnless result Refusal.Memory }
 {
-    if let Some(line) = source.earlier {
-        out.push_copied(line.bytes, source.old_width.saturating_sub(line.size.width))?;
-        return Ok(line.size);
+    let (row, throughput) = measured;
+    if let Some(size) = copier.find(row, &throughput) {
+        copier.copy_line(out, size, old_width)?;
+        return Ok(size);
     }
-    let (throughput, old_width) = (source.throughput, source.old_width);
-    compose_line(out, texts, scene, row, throughput, old_width)
+    out.clear_bytes();
+    let size = compose_line(out, texts, scene, row, throughput, old_width)?;
+    copier.push(out.bytes())?;
+    Ok(size)
 }
 
 /// Composes the line of a row where no times are shown. Returns how large it is.

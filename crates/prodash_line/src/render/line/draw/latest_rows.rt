@@ -1,17 +1,19 @@
 //! Rows that are remembered, and the lines that they were drawn in, for the next frame to copy.
-ghost use Rattle.std.specs.Prelude.{◌≡◌, ◌≤◌, ◌<◌, [], length, Option, true, None, Some, IfSome, OnOk, slice_get};
-ghost use Rattle.prodash_base.specs.Rows.{phase_of, progress_of, row_of, rows_of, same_phase, same_progress};
+ghost use Rattle.std.specs.Prelude.{◌≡◌, ◌≤◌, ◌<◌, [], List, length, Option, true, None, Some, IfSome, OnOk, slice_get};
+ghost use Rattle.prodash_base.specs.Rows.{PathRow, phase_of, progress_of, row_of, rows_of, same_phase, same_progress};
 ghost use Rattle.prodash_base.specs.Steps.{with_steps};
 ghost use Rattle.prodash_base.specs.Units.{measure_of};
 ghost use Rattle.prodash_base.specs.declared.unit.display.Throughput.{Throughput};
 ghost use Rattle.prodash_line.specs.Renderer.{latest_rows, rows_changed};
 ghost use Rattle.prodash_line.specs.plumbing.EarlierRows.{KeepsEarlier, changed_after, rows_before, rows_seen};
-ghost use Rattle.prodash_line.specs.plumbing.KeptLines.{WasThere, drawn_in, AddsLine, AreAlike, AreAmong, AreEarlier, AreKept, DrawAlike, FindsLine, FindsLineIn, IsAlso, IsWrittenIn, ShowsNone, are_same_units, are_same_values, kept_line, line_size};
+ghost use Rattle.prodash_line.specs.plumbing.KeptLines.{WasThere, drawn_in, AddsLine, AreAlike, AreAmong, AreKept, DrawAlike, IsAlso, IsLineAt, MayBeCopied, ShowsNone, are_same_units, are_same_values, kept_line, line_size};
 
 use crate::render::line::byte_buffer::ByteBuffer;
+use crate::render::line::draw::action::Action;
 use crate::render::line::draw::earlier_rows::{Earlier, EarlierRows, SeenRows};
 use crate::render::line::draw::input::Options;
 use crate::render::line::draw::line_writer::LineWriter;
+use crate::render::line::gap_buffer::GapBuffer;
 use prodash_base::progress::{Row, Rows, State, Step, Value};
 use prodash_base::unit::Unit;
 use prodash_base::unit::display::Throughput;
@@ -50,13 +52,6 @@ pub(crate) struct RowLine {
 
 const _: () = prove!(size_of::<RowLine>() == 16);
 
-/// A line that is copied from an earlier frame.
-#[derive(Clone, Copy, Debug)]
-pub(crate) struct CopiedLine<'a> {
-    pub(crate) bytes: &'a [u8],
-    pub(crate) size: LineSize,
-}
-
 /// Lines of rows that the next frame may copy.
 #[derive(Drop)]
 pub(crate) struct KeptLines {
@@ -78,14 +73,12 @@ pub(crate) struct LatestRows {
     kept: KeptLines,
 }
 
-/// Lines of an earlier frame, and its rows.
+/// The rows of an earlier frame.
 #[derive(Clone, Copy, Drop)]
-pub(crate) struct EarlierLines<'a> {
+pub(crate) struct RowsBefore<'a> {
     rows: &'a [Row],
     /// The steps that the rows had, those of the first ones; others had those that they have.
     steps: &'a [Step],
-    lines: &'a [RowLine],
-    bytes: &'a [u8],
 }
 
 impl Model for LatestRows {
@@ -119,6 +112,15 @@ impl RowLine {
         }
     }
 
+    /// Returns the index of its first byte.
+    #[inline(always)]
+    pub(crate) fn start(&self) -> usize
+        ensures start { result ≡ self.now.start }
+        ensures bound { result < 4294967296 }
+    {
+        self.start as usize
+    }
+
     /// Returns how large it is.
     #[inline(always)]
     fn size(&self) -> LineSize
@@ -135,7 +137,7 @@ impl RowLine {
 
 impl KeptLines {
     /// Returns no lines.
-    fn new(alloc: Global, options: Options) -> KeptLines
+    pub(crate) fn new(alloc: Global, options: Options) -> KeptLines
         ensures { result.lines.items ≡ [] }
     {
         KeptLines {
@@ -146,27 +148,50 @@ impl KeptLines {
         }
     }
 
-    /// Returns those that a frame with these options and this midpoint may copy, with their rows.
-    fn lines_for<'a>(
-        &'a self,
-        rows: &'a [Row],
-        steps: &'a [Step],
-        options: &Options,
-        midpoint: u16,
-    ) -> EarlierLines<'a>
-        requires { AreKept self.now (with_steps steps.now (rows_of rows.now)) }
-        ensures { AreEarlier options.now midpoint result }
+    /// Returns whether a frame with these options and this midpoint may copy them, and there are any.
+    pub(crate) fn are_for(&self, options: &Options, midpoint: u16) -> bool
+        ensures { result ≡ true → MayBeCopied options.now midpoint self.now }
     {
-        let all = EarlierLines {
-            rows,
-            steps,
-            lines: self.lines.as_slice(),
-            bytes: self.bytes.as_slice(),
-        };
-        if self.midpoint == midpoint && draw_alike(&self.options, options) {
-            return all;
+        !self.lines.is_empty() && self.midpoint == midpoint && draw_alike(&self.options, options)
+    }
+
+    /// Takes the lines for a frame with this action. None is kept then if it draws rows, and none is
+    /// taken if it doesn't.
+    pub(crate) fn take_for(&mut self, alloc: Global, action: Action) -> KeptLines
+        ensures taken { (rows : List PathRow) → AreKept self.old rows → AreKept result rows }
+        ensures kept { (rows : List PathRow) → AreKept self.old rows → AreKept self.new rows }
+    {
+        let none = KeptLines::new(alloc, self.options);
+        match action {
+            Action::Redraw => mem::replace(self, none),
+            Action::Leave | Action::Erase | Action::Close => none,
         }
-        EarlierLines { lines: &[], ..all }
+    }
+
+    /// Takes the bytes of the frame that has drawn them, of which none is left.
+    pub(crate) fn take_bytes(&mut self) -> ByteBuffer
+        ensures { result ≡ self.old.bytes }
+    {
+        self.bytes.take()
+    }
+
+    /// Takes the lines, of which none is left.
+    pub(crate) fn take_lines(&mut self) -> Vec<RowLine>
+        ensures lines { result ≡ self.old.lines }
+        ensures bytes { self.new.bytes ≡ self.old.bytes }
+    {
+        let none = Vec::new(*self.lines.allocator());
+        mem::replace(&mut self.lines, none)
+    }
+}
+
+impl Earlier {
+    /// Returns the rows.
+    pub(crate) fn into_rows(self) -> EarlierRows
+        ensures { result ≡ self.rows }
+    {
+        let Earlier { rows, .. } = self;
+        rows
     }
 }
 
@@ -199,12 +224,11 @@ impl LatestRows {
     }
 
     /// Remembers the rows that a tick sees, without lines. Returns what was remembered before.
-    pub(crate) fn begin(&mut self, seen: SeenRows) -> Earlier
+    pub(crate) fn begin(&mut self, alloc: Global, seen: SeenRows) -> Earlier
         ensures latest { self.new ≡ Some (rows_seen seen (latest_rows self.old)) }
         ensures before { rows_before result.rows (latest_rows self.new) ≡ self.old }
-        ensures lines { KeepsEarlier result (latest_rows self.new) }
+        ensures lines { KeepsEarlier result.rows result.kept (latest_rows self.new) }
     {
-        let alloc = *self.kept.lines.allocator();
         let none = KeptLines::new(alloc, self.kept.options);
         Earlier {
             kept: mem::replace(&mut self.kept, none),
@@ -215,7 +239,7 @@ impl LatestRows {
     /// Remembers again what was remembered before these rows.
     pub(crate) fn take_back(&mut self, earlier: Earlier)
         requires some { self.old ≡ Some (latest_rows self.old) }
-        requires lines { KeepsEarlier earlier (latest_rows self.old) }
+        requires lines { KeepsEarlier earlier.rows earlier.kept (latest_rows self.old) }
         ensures { self.new ≡ rows_before earlier.rows (latest_rows self.old) }
     {
         take_rows_back(&mut self.rows, earlier.rows);
@@ -226,7 +250,7 @@ impl LatestRows {
     /// as they were before.
     pub(crate) fn keep_earlier(&mut self, earlier: Earlier) -> EarlierRows
         requires same { rows_before earlier.rows (latest_rows self.old) ≡ self.old }
-        requires lines { KeepsEarlier earlier (latest_rows self.old) }
+        requires lines { KeepsEarlier earlier.rows earlier.kept (latest_rows self.old) }
         ensures { self.new ≡ self.old }
     {
         let Earlier { rows, kept } = earlier;
@@ -234,15 +258,12 @@ impl LatestRows {
         rows
     }
 
-    /// Takes the memory of an earlier frame's bytes for those of another. Returns the rows that were
-    /// remembered before.
-    pub(crate) fn reuse(&mut self, earlier: Earlier) -> EarlierRows
+    /// Forgets the lines.
+    pub(crate) fn forget_lines(&mut self)
         ensures { self.new ≡ self.old }
     {
-        let Earlier { rows, kept } = earlier;
-        self.kept.lines.clear();
-        self.kept.bytes = kept.bytes;
-        rows
+        let alloc = *self.kept.lines.allocator();
+        self.kept = KeptLines::new(alloc, self.kept.options);
     }
 
     /// Keeps the lines of the frame that was written last.
@@ -264,29 +285,16 @@ impl LatestRows {
         }
     }
 
-    /// Returns the lines that a frame with these options and this midpoint may copy.
-    pub(crate) fn lines_for(&self, options: &Options, midpoint: u16) -> EarlierLines<'_>
-        ensures { AreEarlier options.now midpoint result }
+    /// Returns those that were remembered before these rows, none if there weren't any.
+    pub(crate) fn rows_before<'a>(&'a self, earlier: &'a EarlierRows) -> RowsBefore<'a>
+        ensures { drawn_in result ≡ latest_rows (rows_before earlier.now (latest_rows self.now)) }
     {
-        self.kept.lines_for(self.as_slice(), &[], options, midpoint)
-    }
-
-    /// Returns those of what was remembered before these rows.
-    pub(crate) fn lines_before<'a>(
-        &'a self,
-        earlier: &'a Earlier,
-        options: &Options,
-        midpoint: u16,
-    ) -> EarlierLines<'a>
-        requires { KeepsEarlier earlier.now (latest_rows self.now) }
-        ensures { AreEarlier options.now midpoint result }
-    {
-        let (rows, steps): (&[Row], &[Step]) = match &earlier.rows {
+        let (rows, steps): (&[Row], &[Step]) = match earlier {
             EarlierRows::Others(None) => (&[], &[]),
             EarlierRows::Others(Some(rows)) => (rows.as_slice(), &[]),
             EarlierRows::Same(steps) => (self.as_slice(), steps.as_slice()),
         };
-        earlier.kept.lines_for(rows, steps, options, midpoint)
+        RowsBefore { rows, steps }
     }
 
     /// Whether these rows differ from those that were remembered before, or there were none.
@@ -339,7 +347,17 @@ fn take_rows_back(rows: &mut Option<Rows>, earlier: EarlierRows)
     }
 }
 
-impl<'a> EarlierLines<'a> {
+impl<'a> RowsBefore<'a> {
+    /// Returns no rows.
+    pub(crate) fn none() -> RowsBefore<'a>
+        ensures { drawn_in result ≡ [] }
+    {
+        RowsBefore {
+            rows: &[],
+            steps: &[],
+        }
+    }
+
     /// Whether some of a few rows, spread over all, show their values alone, and have the progress of
     /// those in their places. If not, few lines can be copied, and lines aren't worth keeping.
     pub(crate) fn resemble(&self, rows: &[Row]) -> bool {
@@ -368,58 +386,12 @@ impl<'a> EarlierLines<'a> {
             Some(step) => row.has_step(*step),
         }
     }
+}
 
-    /// Returns the line of a row, if one was drawn that is the same. `next` is the index of the line at
-    /// which it is looked for first, and then that of the next row.
-    #[inline(always)]
-    pub(crate) fn find(
-        &self,
-        next: &mut usize,
-        row: &Row,
-        throughput: &Option<Throughput>,
-    ) -> Option<CopiedLine<'a>>
-        ensures { FindsLine self.now (row_of row.now, throughput.now) result }
-    {
-        if !shows_no_throughput(row, throughput) {
-            return None;
-        }
-        self.find_without_throughput(next, row)
-    }
-
-    /// Does what `find` does for a row that shows no throughput.
-    #[inline(always)]
-    fn find_without_throughput(&self, next: &mut usize, row: &Row) -> Option<CopiedLine<'a>>
-        ensures { FindsLine self.now (row_of row.now, None) result }
-    {
-        while let Some(line) = self.lines.get(*next) {
-            if let Some(copied) = self.line_of(row, line) {
-                *next += 1;
-                return Some(copied);
-            }
-            if !self.is_above(line, row) {
-                return None;
-            }
-            *next += 1;
-        }
-        None
-    }
-
-    /// Returns this line, if it is that of this row too.
-    #[inline(always)]
-    fn line_of(&self, row: &Row, line: &RowLine) -> Option<CopiedLine<'a>>
-        ensures { FindsLineIn self.now line.now (row_of row.now, None) result }
-    {
-        if !self.is_line_of(line, row) {
-            return None;
-        }
-        let (start, size) = (line.start as usize, line.size());
-        let bytes = self.bytes.get(start..start + size.length)?;
-        Some(CopiedLine { bytes, size })
-    }
-
+impl<'a> RowsBefore<'a> {
     /// Returns whether a line is that of this row too.
     #[inline(always)]
-    fn is_line_of(&self, line: &RowLine, row: &Row) -> bool
+    pub(crate) fn is_line_of(&self, line: &RowLine, row: &Row) -> bool
         ensures { result ≡ true → IsAlso self.now line.now (row_of row.now) }
     {
         let index = line.row as usize;
@@ -434,57 +406,37 @@ impl<'a> EarlierLines<'a> {
         }
     }
 
-    /// Returns the bytes of the frame.
-    pub(crate) fn bytes(&self) -> &'a [u8]
-        ensures { result.now ≡ self.now.bytes.now }
-    {
-        self.bytes
-    }
-
-    /// Returns where the line at an index begins, 0 if there is none.
-    pub(crate) fn start_of(&self, index: usize) -> usize
-        ensures { result ≤ length self.now.bytes.now }
-    {
-        match self.lines.get(index) {
-            Some(line) => (line.start as usize).min(self.bytes.len()),
-            None => 0,
+    /// Returns whether the row of a line is below this one in the tree's order, or there is none.
+    pub(crate) fn is_below(&self, line: &RowLine, row: &Row) -> bool {
+        match self.rows.get(line.row as usize) {
+            Some(earlier) => row.key < earlier.key,
+            None => true,
         }
     }
 
-    /// Returns the size of the line at an index, if it begins at this byte, is that of this row
-    /// too, and nothing but a line feed follows it, also over a line of this width.
+    /// Returns the size of a line, if it begins at this byte, is that of this row too, and is at
+    /// least as wide as one of this width.
     #[inline(always)]
     pub(crate) fn size_at(
         &self,
-        index: usize,
+        line: &RowLine,
         start: usize,
         row: &Row,
         old_width: u16,
     ) -> Option<LineSize>
-        ensures line { IfSome result (IsWrittenIn self.now start (row_of row.now) old_width) }
-        ensures index { IfSome result (λ size. index < 18446744073709551615) }
+        ensures line { IfSome result (IsLineAt self.now line.now start (row_of row.now)) }
+        ensures wide { IfSome result (λ size. old_width ≤ size.width) }
+        ensures length { IfSome result (λ size. size.length < 4294967296) }
+        ensures start { IfSome result (λ size. start < 4294967296) }
     {
-        let line = self.lines.get(index)?;
         let size = line.size();
-        if line.start as usize != start || size.width < old_width {
+        if line.start() != start || size.width < old_width {
             return None;
         }
         if !self.is_line_of(line, row) {
             return None;
         }
-        let after = self.bytes.get(start + size.length)?;
-        if *after != b'\n' {
-            return None;
-        }
         Some(size)
-    }
-
-    /// Returns whether the row of a line is above this one in the tree's order.
-    fn is_above(&self, line: &RowLine, row: &Row) -> bool {
-        match self.rows.get(line.row as usize) {
-            Some(earlier) => earlier.key < row.key,
-            None => false,
-        }
     }
 }
 
@@ -559,15 +511,16 @@ fn is_same_state(own: &State, other: &State) -> bool
 /// if out of memory.
 #[inline(always)]
 pub(crate) fn keep_line(
-    lines: &mut Vec<RowLine>,
+    lines: &mut GapBuffer<RowLine>,
     row: &Row,
     throughput: &Option<Throughput>,
     index: usize,
     start: usize,
     size: LineSize,
 ) -> Result<(), AllocError>
-    ensures { OnOk result (AddsLine (row_of row.now) throughput.now
-        (kept_line index start size) lines.old.items lines.new.items) }
+    ensures added { OnOk result (AddsLine (row_of row.now) throughput.now
+        (kept_line index start size) lines.old.0 lines.new.0) }
+    ensures left { OnOk result (lines.new.1 ≡ lines.old.1) }
 {
     let most = index.max(start).max(size.length);
     if u32::try_from(most).is_ok() && shows_no_throughput(row, throughput) {
@@ -577,7 +530,7 @@ pub(crate) fn keep_line(
 }
 
 /// Returns whether the line of a row is the same with this throughput as without.
-fn shows_no_throughput(row: &Row, throughput: &Option<Throughput>) -> bool
+pub(crate) fn shows_no_throughput(row: &Row, throughput: &Option<Throughput>) -> bool
     ensures { result ≡ true → ShowsNone (row_of row.now) throughput.now }
 {
     throughput.is_none() || shows_values_alone(row)

@@ -24,10 +24,6 @@ use prodash_base::progress::{Level, Step};
 use std::alloc::{AllocError, Global};
 use std::mem;
 
-/// How many bytes of lines are copied at once. For more, the C library takes an instruction that is
-/// slow to begin, and that is counted once for each byte.
-const PART: usize = 1024;
-
 /// Writes lines into one buffer, one after another, and measures the current line.
 #[derive(Drop)]
 pub(crate) struct LineWriter {
@@ -84,6 +80,13 @@ impl LineWriter {
     {
         self.bytes.clear();
         self.names.begin_frame();
+    }
+
+    /// Empties the buffer within a frame and keeps its memory.
+    pub(crate) fn clear_bytes(&mut self)
+        ensures { self.new.bytes ≡ [] }
+    {
+        self.bytes.clear();
     }
 
     /// Begins a line that is cut to `limit` columns, or written whole.
@@ -505,29 +508,13 @@ impl LineWriter {
         Ok(own_width)
     }
 
-    /// Appends the bytes of a line, then `spaces` spaces and a line feed. Fails if out of memory.
-    #[inline(always)]
-    pub(crate) fn push_copied(&mut self, line: &[u8], spaces: u16) -> Result<(), AllocError>
-        ensures { OnOk result
-            (self.new.bytes ≡ self.old.bytes ++ (line.now ++ row_end spaces)) }
+    /// Appends what follows a line: `spaces` spaces and a line feed. Fails if out of memory.
+    pub(crate) fn push_row_end(&mut self, spaces: u16) -> Result<(), AllocError>
+        ensures { OnOk result (self.new.bytes ≡ self.old.bytes ++ row_end spaces) }
     {
-        self.bytes.extend_from_slice(line)?;
         self.bytes.push_copies(b' ', spaces)?;
         self.bytes.push(b'\n')?;
         Ok(())
-    }
-
-    /// Appends the bytes of whole lines, with what follows each. Fails if out of memory.
-    pub(crate) fn push_lines(&mut self, lines: &[u8]) -> Result<(), AllocError>
-        ensures { OnOk result (self.new.bytes ≡ self.old.bytes ++ lines.now) }
-    {
-        let mut left = lines;
-        'parts: while PART < left.len() {
-            let (part, others) = left.split_at(PART);
-            self.bytes.extend_from_slice(part)?;
-            left = others;
-        }
-        self.bytes.extend_from_slice(left)
     }
 
     /// Swaps the bytes written since the buffer was last cleared with others.
@@ -536,6 +523,28 @@ impl LineWriter {
         ensures others { others.new ≡ self.old.bytes }
     {
         mem::swap(&mut self.bytes, others);
+    }
+
+    /// Takes the bytes written since the buffer was last cleared, which is empty then.
+    pub(crate) fn take_bytes(&mut self) -> ByteBuffer
+        ensures taken { result ≡ self.old.bytes }
+        ensures none { self.new.bytes ≡ [] }
+    {
+        self.bytes.take()
+    }
+
+    /// Replaces the bytes written since the buffer was last cleared.
+    pub(crate) fn set_bytes(&mut self, bytes: ByteBuffer)
+        ensures { self.new.bytes ≡ bytes }
+    {
+        self.bytes = bytes;
+    }
+
+    /// Moves the bytes into the memory of another buffer, if it has more. Fails if out of memory.
+    pub(crate) fn move_into(&mut self, other: ByteBuffer) -> Result<(), AllocError>
+        ensures { OnOk result (self.new.bytes ≡ self.old.bytes) }
+    {
+        self.bytes.move_into(other)
     }
 
     /// Appends a sign after the lines. Fails if out of memory.

@@ -4,16 +4,16 @@ ghost use Rattle.prodash_base.specs.Rows.{PathRow, rows_of};
 ghost use Rattle.prodash_base.specs.Timers.{timer_after};
 ghost use Rattle.std.specs.Option.{option_map};
 ghost use Rattle.prodash_line.specs.Renderer.{IsEndRefusal, new_renderer, rows_changed, draws_again, any_goes_on, times_go_on, is_drawn, erases_at_end, closes_at, hides_cursor, is_cursor_hidden, latest_rows, resized, tick_action, resize_action, answer_of};
-ghost use Rattle.prodash_line.specs.plumbing.FrameWriting.{KeepsLines, RowsStay, keeping, remembering};
-ghost use Rattle.prodash_line.specs.plumbing.EarlierRows.{KeepsEarlier, KeepsLatest, LatestStay, SawThem, action_after, before_rows, drawn_after, rows_seen};
-ghost use Rattle.prodash_line.specs.plumbing.KeptLines.{AreAmong, AreEarlier};
+ghost use Rattle.prodash_line.specs.plumbing.FrameWriting.{RowsStay, keeping, remembering};
+ghost use Rattle.prodash_line.specs.plumbing.EarlierRows.{KeepsEarlier, KeepsLatest, LatestStay, SawThem, action_after, before_rows, drawn_after, rows_before, rows_seen};
+ghost use Rattle.prodash_line.specs.plumbing.KeptLines.{AreAmong, drawn_in};
 ghost use Rattle.prodash_line.specs.Tracking.{kept_of};
 ghost use Rattle.prodash_base.specs.Rings.{keep_last};
 
 use crate::render::line::draw::action::{Action, Composed, Drawn};
 use crate::render::line::draw::earlier_rows::{Earlier, EarlierRows, SeenRows};
 use crate::render::line::draw::input::{Answer, Options};
-use crate::render::line::draw::latest_rows::{EarlierLines, LatestRows, RowLine};
+use crate::render::line::draw::latest_rows::{LatestRows, RowLine, RowsBefore};
 use crate::render::line::draw::line_writer::LineWriter;
 use crate::render::line::draw::row::is_row_drawn;
 use prodash_base::Refusal;
@@ -290,21 +290,21 @@ impl Past {
     }
 
     /// Remembers the rows that a tick sees. Returns what was remembered before.
-    pub(crate) fn begin_tick(&mut self, seen: SeenRows) -> Earlier
+    pub(crate) fn begin_tick(&mut self, alloc: Global, seen: SeenRows) -> Earlier
         ensures latest { self.new ≡ record self.old {
           last_rows = Some (rows_seen seen (latest_rows self.old.last_rows));
         } }
-        ensures before { before_rows result self.new ≡ self.old }
-        ensures lines { KeepsEarlier result (latest_rows self.new.last_rows) }
+        ensures before { before_rows result.rows self.new ≡ self.old }
+        ensures lines { KeepsEarlier result.rows result.kept (latest_rows self.new.last_rows) }
     {
-        self.last_rows.begin(seen)
+        self.last_rows.begin(alloc, seen)
     }
 
     /// Remembers again what was remembered before the rows of a tick.
     pub(crate) fn take_back(&mut self, earlier: Earlier)
         requires some { self.old.last_rows ≡ Some (latest_rows self.old.last_rows) }
-        requires lines { KeepsEarlier earlier (latest_rows self.old.last_rows) }
-        ensures { self.new ≡ before_rows earlier self.old }
+        requires lines { KeepsEarlier earlier.rows earlier.kept (latest_rows self.old.last_rows) }
+        ensures { self.new ≡ before_rows earlier.rows self.old }
     {
         self.last_rows.take_back(earlier);
     }
@@ -327,13 +327,11 @@ impl Past {
     /// Whether a tick draws the rows, before which these were remembered: they are shown on a
     /// terminal, and they have changed, their times go on, or they must be drawn again. `printed`
     /// says whether the tick prints messages.
-    fn draws_rows(&self, earlier: &Earlier, show: bool, printed: bool) -> bool
+    fn draws_rows(&self, earlier: &EarlierRows, show: bool, printed: bool) -> bool
         ensures { result ≡ drawn_after earlier.now self.now show printed }
     {
         show && self.options.output_is_terminal
-            && (self.draws_again(printed)
-                || self.times_go_on()
-                || self.last_rows.differ(&earlier.rows))
+            && (self.draws_again(printed) || self.times_go_on() || self.last_rows.differ(earlier))
     }
 
     /// Whether a tick that saw the rows closes the renderer: there are none, and the renderer isn't
@@ -346,7 +344,7 @@ impl Past {
 
     /// Returns what the frame of a tick does after its messages, if it saw the rows, before which
     /// these were remembered. `printed` says whether there are messages.
-    pub(crate) fn tick_action(&self, earlier: &Earlier, show: bool, printed: bool) -> Action
+    pub(crate) fn tick_action(&self, earlier: &EarlierRows, show: bool, printed: bool) -> Action
         ensures { result ≡ action_after earlier.now self.now show printed }
     {
         if self.closes_at() {
@@ -441,21 +439,12 @@ impl Past {
         self.last_rows.as_slice()
     }
 
-    /// Returns the lines of the frame before the rows of a tick that the frame of the tick may copy.
-    pub(crate) fn lines_before<'a>(&'a self, earlier: &'a Earlier) -> EarlierLines<'a>
-        requires { KeepsEarlier earlier.now (latest_rows self.now.last_rows) }
-        ensures { AreEarlier self.now.options self.now.midpoint result }
+    /// Returns the rows that were remembered before those of a tick, none if there weren't any.
+    pub(crate) fn rows_before<'a>(&'a self, earlier: &'a EarlierRows) -> RowsBefore<'a>
+        ensures { drawn_in result
+            ≡ latest_rows (rows_before earlier.now (latest_rows self.now.last_rows)) }
     {
-        self.last_rows
-            .lines_before(earlier, &self.options, self.last_progress_midpoint)
-    }
-
-    /// Returns the lines of the latest frame that one with these options may copy.
-    pub(crate) fn earlier_lines(&self, options: &Options) -> EarlierLines<'_>
-        ensures { AreEarlier options.now self.now.midpoint result }
-    {
-        self.last_rows
-            .lines_for(options, self.last_progress_midpoint)
+        self.last_rows.rows_before(earlier)
     }
 
     /// Records whether the cursor is hidden once a frame is written.
@@ -478,8 +467,9 @@ impl Past {
     ) -> Answer
         requires some { self.old.last_rows ≡ Some (latest_rows self.old.last_rows) }
         requires lines { KeepsLatest self.old bytes.old frame.drawn }
-        requires rows { LatestStay self.old earlier frame }
-        requires earlier { KeepsEarlier earlier (latest_rows self.old.last_rows) }
+        requires rows { LatestStay self.old earlier.rows frame }
+        requires earlier { KeepsEarlier earlier.rows earlier.kept
+            (latest_rows self.old.last_rows) }
         ensures state { self.new
             ≡ remembering frame (latest_rows self.old.last_rows) seen self.old }
         ensures answer { result ≡ answer_of frame.drawn.action }
@@ -512,8 +502,9 @@ impl Past {
         frame: &mut LineWriter,
     )
         requires rows { rows_stay ≡ true
-            → (before_rows earlier self.old).last_rows ≡ self.old.last_rows }
-        requires earlier { KeepsEarlier earlier (latest_rows self.old.last_rows) }
+            → (before_rows earlier.rows self.old).last_rows ≡ self.old.last_rows }
+        requires earlier { KeepsEarlier earlier.rows earlier.kept
+            (latest_rows self.old.last_rows) }
         requires lines { AreAmong self.old.options midpoint (latest_rows self.old.last_rows)
             frame.old.bytes lines.items }
         ensures { self.new ≡ self.old }
@@ -521,9 +512,9 @@ impl Past {
         let before = if rows_stay {
             self.last_rows.keep_earlier(earlier)
         } else {
-            let before = self.last_rows.reuse(earlier);
-            self.keep_lines(midpoint, lines, frame);
-            before
+            self.last_rows
+                .keep_lines(self.options, midpoint, lines, frame);
+            earlier.into_rows()
         };
         match before {
             EarlierRows::Others(rows) => self.spare_rows = rows,
@@ -532,17 +523,6 @@ impl Past {
                 self.spare_steps = Some(steps);
             }
         }
-    }
-
-    /// Keeps the lines of the frame that was written last, in which values are brought to this
-    /// midpoint.
-    fn keep_lines(&mut self, midpoint: u16, lines: Vec<RowLine>, frame: &mut LineWriter)
-        requires { AreAmong self.old.options midpoint (latest_rows self.old.last_rows)
-            frame.old.bytes lines.items }
-        ensures { self.new ≡ self.old }
-    {
-        self.last_rows
-            .keep_lines(self.options, midpoint, lines, frame);
     }
 
     /// Records what the body of a written frame left. Returns its lines that the next frame may copy.
@@ -557,15 +537,12 @@ impl Past {
     }
 
     /// Sets the size of the terminal, and records what the written frame left.
-    pub(crate) fn set_size(&mut self, size: (u16, u16), drawn: Drawn, frame: &mut LineWriter)
-        requires { KeepsLines (resized self.old size.0 size.1) (latest_rows self.old.last_rows)
-            frame.old drawn }
+    pub(crate) fn set_size(&mut self, size: (u16, u16), drawn: Drawn)
         ensures { self.new ≡ keeping drawn (resized self.old size.0 size.1) }
     {
         self.options.terminal_dimensions = size;
-        let midpoint = self.midpoint();
-        let lines = self.keep_drawn(drawn);
-        self.keep_lines(midpoint, lines, frame);
+        self.keep_drawn(drawn);
+        self.last_rows.forget_lines();
         keep_latest(&mut self.origin_widths, usize::from(size.1));
     }
 

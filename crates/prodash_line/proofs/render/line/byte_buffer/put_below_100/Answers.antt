@@ -1,4 +1,4 @@
-use Rattle.std.proofs.Common.{◌+◌, ◌++◌, take, ap, sym, ◌∙◌, arith}
+use Rattle.std.proofs.Common.{◌++◌, take, ap, sym, ◌∙◌, arith}
 use Rattle.std.proofs.lemmas.Fmt.{decimal_digit}
 use Rattle.prodash_line.proofs.WrittenDigits.{count_one, count_two, decimal_two}
 use Rattle.prodash_line.proofs.render.line.byte_buffer.put_below_100.Goals as goal

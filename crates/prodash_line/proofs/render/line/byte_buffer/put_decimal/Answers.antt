@@ -1,4 +1,4 @@
-use Rattle.std.proofs.Common.{◌+◌, ◌++◌, ◌/◌, ◌%◌, take, ap, ◌∙◌, arith, append_assoc}
+use Rattle.std.proofs.Common.{◌++◌, ◌/◌, ◌%◌, take, ap, ◌∙◌, arith, append_assoc}
 use Rattle.std.specs.Fmt.{decimal}
 use Rattle.prodash_line.specs.plumbing.RowWriting.{two_digits}
 use Rattle.prodash_line.proofs.WrittenDigits.{count_pair, decimal_pair}

@@ -1,4 +1,3 @@
-use Rattle.std.proofs.Common.{rules}
 use Rattle.prodash_line.proofs.ErasedRenderings.{erases_pages}
 use Rattle.prodash_line.proofs.SafeFrames.{draws_safely}
 use Rattle.prodash_line.proofs.render.line.draw.tick_with_steps.Goals as goal

@@ -12,8 +12,9 @@ use Rattle.prodash_line.specs.plumbing.FrameWriting.{action_start, action_end, s
 use Rattle.prodash_line.specs.Tracking.{tracked}
 use Rattle.prodash_line.specs.Renderer.{Renderer, Drawing, frame_at, remember, drawing_of, drawing_at, action_at, body_of, ending_of, state_after}
 use Rattle.prodash_line.proofs.OverwriteBytes.{begins_without, action_ends, frame_bytes_of}
-use Rattle.prodash_line.specs.plumbing.KeptLines.{AreAmong}
-use Rattle.prodash_line.proofs.KeptLines.{among_more}
+use Rattle.std.specs.List.{All}
+use Rattle.std.proofs.lemmas.List.Elements.{All-nil}
+use Rattle.prodash_line.specs.plumbing.KeptLines.{IsAmong, drawn_in}
 use Rattle.prodash_line.proofs.render.line.draw.frame.compose_resized.Goals as goal
 
 abbrev input : goal.In_ok-end_frame → Input
@@ -43,7 +44,10 @@ left_is : (c : goal.In_ok-end_frame) → c.deref.result.now ≡ c.args.past.now.
 left_is c = c.deref.ensures.value ∙ ap (λ (x : Renderer). x.widths) c.past.view_is
 
 pub write_body-requires : goal.write_body-requires
-write_body-requires c = record { earlier = c.earlier_lines.ensures }
+write_body-requires c =
+    let kept = c.new-kept.result in
+    let P = IsAmong kept.options kept.midpoint (drawn_in c.none.result) kept.bytes in
+    record { kept = subst (All P) (sym c.new-kept.ensures) (All-nil P) }
 
 pub returns-clause-bytes : goal.returns-clause-bytes
 returns-clause-bytes c =
@@ -78,12 +82,3 @@ returns-clause-state c =
           ∙ ap (λ (left : List ℕ). state_after action r (drawing_at r (input c)) left) (left_is c);
       action = c.in_ok-drawn.ensures.state.action ∙ c.resize_action-action.ensures;
     }
-
-pub returns-clause-lines : goal.returns-clause-lines
-returns-clause-lines c =
-    let r = c.args.past.now in
-    let rows = rows_of c.latest_rows.result.now in
-    let lines = c.in_ok-drawn.drawn.lines.items in
-    subst (λ rows. AreAmong (remember r (input c)).options r.midpoint rows c.end_frame.new.out.bytes lines) c.latest_rows.ensures
-    (among_more (remember r (input c)).options r.midpoint rows c.write_body.new.out.bytes _ c.end_frame.new.out.bytes lines c.in_ok-end_frame.ensures
-    (subst (λ (o : Options). AreAmong o r.midpoint rows c.write_body.new.out.bytes lines) (sized_is c) c.in_ok-drawn.ensures.lines))

@@ -17,7 +17,7 @@ use Rattle.prodash_line.specs.Tracking.{tracked}
 use Rattle.prodash_line.specs.MessageLines.{message_lines}
 use Rattle.prodash_line.specs.Renderer.{Renderer, Drawing, latest_rows, remember, frame_at, drawing_of, drawing_at, tick_action, action_at, printed_at, body_of, opening_of, ending_of, state_after}
 use Rattle.prodash_line.proofs.OverwriteBytes.{action_starts, action_ends, begun_with, has_by_length, frame_bytes_of, length-message_lines}
-use Rattle.prodash_line.specs.plumbing.KeptLines.{AreAmong, AreEarlier}
+use Rattle.prodash_line.specs.plumbing.KeptLines.{AreAmong, AreKept}
 use Rattle.prodash_line.specs.plumbing.EarlierRows.{before_rows, tick_at}
 use Rattle.prodash_line.proofs.KeptLines.{among_more}
 use Rattle.prodash_line.proofs.render.line.draw.frame.compose_tick.Goals as goal
@@ -109,7 +109,7 @@ leaves_same Close r rows drawing widths = refl
 
 pub write_body-requires : goal.write_body-requires
 write_body-requires c = record {
-  earlier = subst (λ (x : Renderer). AreEarlier x.options c.args.past.now.midpoint c.lines_before.result) (sym c.past.view_is) c.lines_before.ensures;
+  kept = subst (λ (rows : List PathRow). AreKept c.take_for-kept.result rows) (sym c.rows_before.ensures) (c.take_for-kept.ensures.taken _ c.requires);
 }
 
 pub returns-clause-bytes : goal.returns-clause-bytes

@@ -1,30 +1,25 @@
-use Rattle.std.proofs.Common.{◌≡◌, ℕ, ◌-◌, ◌++◌, List, Option, Some, ap, subst, ◌∙◌}
-use Rattle.std.specs.Prelude.{IfSome}
+use Rattle.std.proofs.Common.{List, ℕ, ◌++◌, ap, ◌∙◌}
 use Rattle.prodash_base.specs.Rows.{row_of}
 use Rattle.prodash_line.specs.ProgressRows.{DrawnRow}
-use Rattle.prodash_line.specs.declared.render.line.draw.latest_rows.CopiedLine.{CopiedLine}
-use Rattle.prodash_line.specs.plumbing.KeptLines.{IsLineOf, own_bytes, untimed_line}
-use Rattle.prodash_line.specs.plumbing.OverwriteBytes.{row_end}
+use Rattle.prodash_line.specs.plumbing.FrameWriting.{bytes_in}
+use Rattle.prodash_line.proofs.LineCopying.{composed, copied}
 use Rattle.prodash_line.proofs.render.line.draw.frame.write_line.Goals as goal
-
-of_some : (P : CopiedLine → Type 0) (e : Option CopiedLine) (line : CopiedLine) → e ≡ Some line → IfSome e P → P line
-of_some P e line is h = subst (λ (e : Option CopiedLine). IfSome e P) is h
 
 pub returns-in-Some-clause-bytes : goal.returns-in-Some-clause-bytes
 returns-in-Some-clause-bytes c =
-    let o = c.args.scene.now.options in
-    let aligned = c.args.scene.now.past.now.midpoint in
-    let drawn : DrawnRow = (row_of c.args.row.now, c.args.source.throughput) in
-    let earlier = of_some (IsLineOf o aligned drawn) c.args.source.earlier c.in-Some.line c.in-Some.is c.requires.earlier in
-    let own = own_bytes o (untimed_line o aligned drawn) in
-    let old = c.args.out.now.bytes in
-    c.in_ok-push_copied.ensures
-    ∙ ap (λ (t : List ℕ). old ++ (t ++ row_end c.saturating_sub.result)) earlier.bytes
-    ∙ ap (λ (n : ℕ). old ++ (own ++ row_end n)) (c.saturating_sub.ensures ∙ ap (λ (n : ℕ). c.args.source.old_width - n) earlier.size.width)
+    let scene = c.args.scene.now in
+    let drawn : DrawnRow = (row_of c.args.measured.0.now, c.args.measured.1) in
+    copied c.args.copier.now c.find.new.self c.copy_line.new.self scene.options scene.past.now.midpoint drawn c.in-Some.size c.args.old_width
+    c.requires.left c.find.ensures.skips c.in-Some.ensures.found c.in_ok-copy_line.ensures
 
 pub returns-in-Some-clause-size : goal.returns-in-Some-clause-size
 returns-in-Some-clause-size c =
-    let o = c.args.scene.now.options in
-    let aligned = c.args.scene.now.past.now.midpoint in
-    let drawn : DrawnRow = (row_of c.args.row.now, c.args.source.throughput) in
-    (of_some (IsLineOf o aligned drawn) c.args.source.earlier c.in-Some.line c.in-Some.is c.requires.earlier).size
+    let scene = c.args.scene.now in
+    (c.in-Some.ensures.found scene.options scene.past.now.midpoint (c.find.ensures.skips.left scene.options scene.past.now.midpoint c.requires.left)).size
+
+pub returns-clause-bytes : goal.returns-clause-bytes
+returns-clause-bytes c =
+    let drawn : DrawnRow = (row_of c.args.measured.0.now, c.args.measured.1) in
+    let line = bytes_in c.args.scene.now drawn c.args.old_width in
+    composed c.args.copier.now c.find.new.self c.push.new.self c.bytes.result.now line c.find.ensures.skips
+    (c.bytes.ensures ∙ c.in_ok-size.ensures.bytes ∙ ap (λ (t : List ℕ). t ++ line) c.clear_bytes.ensures) c.in_ok-push.ensures

@@ -1,4 +1,4 @@
-use Rattle.std.proofs.Common.{◌≡◌, ◌+◌, length, take, [], ◌∷◌, ◌++◌, Some, ap, ◌∙◌, arith}
+use Rattle.std.proofs.Common.{◌≡◌, [], ◌∷◌, ◌++◌, Some, ap, ◌∙◌, arith}
 use Rattle.prodash_line.specs.ProgressRows.{fraction_of}
 use Rattle.std.specs.Bool.{then_some}
 use Rattle.prodash_line.specs.Lines.{styled}

@@ -1,4 +1,4 @@
-use Rattle.std.proofs.Common.{◌≡◌, true, Some, ◌++◌, codes, ap, refl, sym, ◌∙◌}
+use Rattle.std.proofs.Common.{◌≡◌, true, Some, ◌++◌, codes, refl, sym, ◌∙◌}
 use Rattle.prodash_line.specs.ProgressRows.{fraction_of}
 use Rattle.prodash_line.specs.plumbing.Writing.{is_printable}
 use Rattle.prodash_line.proofs.Columns.{printable-append}

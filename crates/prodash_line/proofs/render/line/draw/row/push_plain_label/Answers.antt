@@ -1,4 +1,4 @@
-use Rattle.std.proofs.Common.{rules, ◌≡◌, ℕ, List, Option, None, Some, false, ◌++◌, [], refl, ap, sym, ◌∙◌, append-nil}
+use Rattle.std.proofs.Common.{rules, ◌≡◌, Option, None, Some, false, refl, ap, sym, ◌∙◌, append-nil}
 use Rattle.std.specs.Prelude.{is_some}
 use Rattle.prodash_base.specs.Displays.{amount, unit_text}
 use Rattle.prodash_base.specs.Kinds.{kind_shown}

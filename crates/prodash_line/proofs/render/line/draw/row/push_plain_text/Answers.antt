@@ -1,6 +1,5 @@
-use Rattle.std.proofs.Common.{◌≡◌, ◌≤◌, ◌+◌, ◌-◌, length, sym, ap, ◌∙◌, subst, arith}
+use Rattle.std.proofs.Common.{◌≤◌, ◌-◌, sym, ap, ◌∙◌, subst, arith}
 use Rattle.prodash_base.specs.Rows.{progress_of}
-use Rattle.prodash_line.specs.Lines.{capped}
 use Rattle.prodash_line.specs.ProgressRows.{bar_columns}
 use Rattle.prodash_line.specs.plumbing.RowWriting.{DrawsText, OrNothing, plain_progress, whole_text}
 use Rattle.prodash_line.proofs.PlainProgress.{appends_plain, drawn_if}

@@ -1,4 +1,4 @@
-use Rattle.std.proofs.Common.{◌≡◌, ◌↔◌, ℕ, IsTrue, subst, ap, sym, ◌∙◌, List, Option, Some, None}
+use Rattle.std.proofs.Common.{◌≡◌, ◌↔◌, ℕ, IsTrue, subst, ap, sym, ◌∙◌, List, Option, Some}
 use Rattle.prodash_base.specs.Rows.{PathRow}
 use Rattle.prodash_base.specs.Steps.{with_steps}
 use Rattle.prodash_line.specs.Renderer.{latest_rows, rows_changed}
