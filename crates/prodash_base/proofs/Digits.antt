@@ -1,5 +1,5 @@
 -- Digits after a decimal point.
-use Rattle.std.proofs.Common.{◌≡◌, ℕ, zero, suc, ◌+◌, ◌-◌, ◌/◌, ◌%◌, ◌<◌, ◌≤◌, List, [], ◌∷◌, ◌++◌, refl, sym, ap, ◌∙◌, arith, append-nil, false}
+use Rattle.std.proofs.Common.{◌≡◌, ℕ, zero, suc, ◌+◌, ◌-◌, ◌/◌, ◌%◌, ◌^◌, ◌<◌, ◌≤◌, List, [], ◌∷◌, ◌++◌, refl, sym, ap, ◌∙◌, arith, append-nil, append_assoc, false}
 use Rattle.std.proofs.lemmas.Fmt.{decimal_digit, decimal_step}
 use Rattle.std.specs.Fmt.{decimal}
 use Rattle.std.specs.Prelude.{nat_eq}
@@ -43,6 +43,32 @@ last_digits-two n h = let e : n / 10 % 10 ≡ n / 10 = omega arith in ap (λ d. 
 pub decimal_two : (n : ℕ) → 10 ≤ n → n < 100 → last_digits 2 n ≡ decimal n
 decimal_two n low high =
     last_digits-two n high ∙ ap (λ t. t ++ (48 + n % 10) ∷ []) (sym (decimal_digit (n / 10) (omega arith))) ∙ sym (decimal_step n low (omega arith))
+
+-- the digits of a number that has two
+pub decimal-tens : (n : ℕ) → 10 ≤ n → n < 100 → decimal n ≡ (48 + n / 10) ∷ (48 + n % 10) ∷ []
+decimal-tens n low high = sym (decimal_two n low high) ∙ last_digits-two n high
+
+-- a number with more than two digits, the last two apart
+pub decimal_pair : (n : ℕ) → 100 ≤ n → n < 2 ^ 64 → decimal (n / 100) ++ last_digits 2 (n % 100) ≡ decimal n
+decimal_pair n low high =
+    let tens : n / 100 ≡ n / 10 / 10 = omega arith in
+    let ten : n % 100 / 10 ≡ n / 10 % 10 = omega arith in
+    let one : n % 100 % 10 ≡ n % 10 = omega arith in
+    ap (λ ds. decimal (n / 100) ++ ds) (last_digits-two (n % 100) (omega arith))
+    ∙ ap (λ k. decimal k ++ ((48 + n % 100 / 10) ∷ (48 + n % 100 % 10) ∷ [])) tens
+    ∙ ap (λ k. decimal (n / 10 / 10) ++ ((48 + k) ∷ (48 + n % 100 % 10) ∷ [])) ten
+    ∙ ap (λ k. decimal (n / 10 / 10) ++ ((48 + n / 10 % 10) ∷ (48 + k) ∷ [])) one
+    ∙ sym (append_assoc (decimal (n / 10 / 10)) ((48 + n / 10 % 10) ∷ []) ((48 + n % 10) ∷ []))
+    ∙ ap (λ t. t ++ (48 + n % 10) ∷ []) (sym (decimal_step (n / 10) (omega arith) (omega arith)))
+    ∙ sym (decimal_step n (omega arith) high)
+
+-- the digits after a point: one, or two
+pub after_point-one : (places n : ℕ) → places ≡ 1 → after_point (last_digits places n) ≡ 46 ∷ (48 + n % 10) ∷ []
+after_point-one places n e = ap after_point (last_digits-one places n e)
+
+pub after_point-two : (places n : ℕ) → places ≡ 2 → after_point (last_digits places n) ≡ 46 ∷ (48 + n / 10 % 10) ∷ (48 + n % 10) ∷ []
+unfolding last_digits
+after_point-two places n e = ap (λ k. after_point (last_digits k n)) e
 
 after_point-end : (ds : List ℕ) (d : ℕ) → after_point (ds ++ d ∷ []) ≡ 46 ∷ (ds ++ d ∷ [])
 after_point-end [] d = refl

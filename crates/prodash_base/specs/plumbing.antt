@@ -8,6 +8,7 @@ pub mod Branches
 pub mod ObservationCodes
 pub mod Pushing
 pub mod Dates
+pub mod Durations
 pub mod Changes
 pub mod Summaries
 pub mod TimedTables

@@ -10,7 +10,9 @@ ghost use Rattle.prodash_base.specs.Shown.{label_shown, label_percentage, label_
 
 use super::DisplayValue;
 use super::display::Throughput;
-use crate::appending::{append_decimal, push_decimal, push_text, undo_if_refused};
+use crate::appending::{
+    append_decimal, push_ascii_bytes, push_decimal, push_text, undo_if_refused,
+};
 use crate::progress::Step;
 use std::alloc::AllocError;
 
@@ -50,6 +52,22 @@ pub fn display_percentage(out: &mut String, percentage: u64) -> Result<(), Alloc
 
 /// Appends a percentage.
 fn push_percentage(out: &mut String, percentage: u64) -> Result<(), AllocError>
+    ensures { Pushes result out.old (label_percentage percentage) out.new }
+{
+    if percentage < 10 {
+        return push_ascii_bytes(out, &[b'[', b'0' + percentage as u8, b'%', b']']);
+    }
+    if percentage < 100 {
+        let first = b'0' + (percentage / 10) as u8;
+        let last = b'0' + (percentage % 10) as u8;
+        return push_ascii_bytes(out, &[b'[', first, last, b'%', b']']);
+    }
+    push_large_percentage(out, percentage)
+}
+
+/// Does what `push_percentage` does for a large percentage.
+#[inline(never)]
+fn push_large_percentage(out: &mut String, percentage: u64) -> Result<(), AllocError>
     ensures { Pushes result out.old (label_percentage percentage) out.new }
 {
     push_text(out, "[")?;

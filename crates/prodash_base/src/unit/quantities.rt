@@ -1,10 +1,13 @@
 //! Percentages, bytes, large numbers and durations.
-ghost use Rattle.std.specs.Prelude.{◌≡◌, ◌<◌, ◌≤◌, codes, IfSome, OnOk, OnErr, string_bytes};
+ghost use Rattle.std.specs.Prelude.{◌≡◌, ◌<◌, ◌≤◌, codes, IfSome, ◌∷◌, [], OnOk, OnErr, string_bytes};
 ghost use Rattle.prodash_base.specs.Appending.{Appends};
+ghost use Rattle.prodash_base.specs.plumbing.Durations.{hours_text};
 ghost use Rattle.prodash_base.specs.plumbing.Pushing.{Pushes};
 ghost use Rattle.prodash_base.specs.Quantities.{percentage_of, scale_of, scaled, bytes_text, human_text, duration_part, duration_text};
 
-use crate::appending::{push_ascii, push_cut, push_decimal, push_text, undo_if_refused};
+use crate::appending::{
+    push_ascii, push_below_100_and, push_cut, push_decimal, push_text, undo_if_refused,
+};
 use std::alloc::AllocError;
 
 /// Returns how many hundredths of the bound the value is, rounded down, at most 2^64 - 1. With the
@@ -15,6 +18,19 @@ pub(super) fn percentage_of(value: u64, bound: u64) -> u64
     if bound == 0 {
         return if value == 0 { 0 } else { u64::MAX };
     }
+    match value.checked_mul(100) {
+        Some(hundredfold) => hundredfold / bound,
+        None => large_percentage_of(value, bound),
+    }
+}
+
+/// Does what `percentage_of` does for a large value.
+#[cold]
+#[inline(never)]
+fn large_percentage_of(value: u64, bound: u64) -> u64
+    requires { 0 < bound }
+    ensures { result ≡ percentage_of value bound }
+{
     let percentage = 100 * u128::from(value) / u128::from(bound);
     percentage.min(u128::from(u64::MAX)) as u64
 }
@@ -39,6 +55,7 @@ fn scale_of(n: u64) -> Option<(u64, u8)>
 
 /// Appends a number over its scale with exactly as many decimals as `places`, and the letter; or
 /// the number as it is if it is less than 1000.
+#[inline(always)]
 fn push_scaled(out: &mut String, places: u8, n: u64) -> Result<(), AllocError>
     requires { places ≤ 6 }
     ensures { Pushes result out.old (scaled places n (scale_of n)) out.new }
@@ -54,8 +71,11 @@ fn push_scaled(out: &mut String, places: u8, n: u64) -> Result<(), AllocError>
 fn push_bytes(out: &mut String, n: u64) -> Result<(), AllocError>
     ensures { Pushes result out.old (bytes_text n) out.new }
 {
+    if n < 100 {
+        return push_below_100_and(out, n, b'B');
+    }
     push_scaled(out, 1, n)?;
-    push_text(out, "B")
+    push_ascii(out, b'B')
 }
 
 /// Appends a number of bytes, as `18.4EB`, or nothing.
@@ -78,15 +98,49 @@ pub(super) fn append_human(out: &mut String, decimals: u8, n: u64) -> Result<(),
     undo_if_refused(out, length, appended)
 }
 
-/// Appends a part of a duration, as `20m`; nothing if it is zero.
-fn push_duration_part(out: &mut String, n: u64, letter: &str) -> Result<(), AllocError>
-    ensures { Pushes result out.old (duration_part n letter.now) out.new }
+/// Appends a number of days, as `7d`; nothing if it is zero.
+#[inline(always)]
+fn push_days(out: &mut String, n: u64) -> Result<(), AllocError>
+    ensures { Pushes result out.old (duration_part n (codes "d")) out.new }
 {
     if n == 0 {
         return Ok(());
     }
     push_decimal(out, n)?;
-    push_text(out, letter)
+    push_ascii(out, b'd')
+}
+
+/// Appends a part of a duration that is below 100, as `20m`; nothing if it is zero.
+#[inline(always)]
+fn push_duration_part(out: &mut String, n: u64, letter: u8) -> Result<(), AllocError>
+    requires small { n < 100 }
+    requires ascii { letter < 128 }
+    ensures { Pushes result out.old (duration_part n (letter ∷ [])) out.new }
+{
+    if n == 0 {
+        return Ok(());
+    }
+    push_below_100_and(out, n, letter)
+}
+
+/// Appends a number of hours in days and hours, as `7d4h`; nothing if it is zero.
+#[inline(always)]
+fn push_hours(out: &mut String, n: u64) -> Result<(), AllocError>
+    ensures { Pushes result out.old (hours_text n) out.new }
+{
+    if n == 0 {
+        return Ok(());
+    }
+    push_days_and_hours(out, n)
+}
+
+/// Does what `push_hours` does if there are some.
+#[inline(never)]
+fn push_days_and_hours(out: &mut String, n: u64) -> Result<(), AllocError>
+    ensures { Pushes result out.old (hours_text n) out.new }
+{
+    push_days(out, n / 24)?;
+    push_duration_part(out, n % 24, b'h')
 }
 
 /// Appends a number of seconds, as `7d4h20m10s`.
@@ -96,10 +150,9 @@ fn push_duration(out: &mut String, n: u64) -> Result<(), AllocError>
     if n == 0 {
         return push_text(out, "0s");
     }
-    push_duration_part(out, n / 86400, "d")?;
-    push_duration_part(out, n / 3600 % 24, "h")?;
-    push_duration_part(out, n / 60 % 60, "m")?;
-    push_duration_part(out, n % 60, "s")
+    push_hours(out, n / 3600)?;
+    push_duration_part(out, n / 60 % 60, b'm')?;
+    push_duration_part(out, n % 60, b's')
 }
 
 /// Appends a number of seconds, as `7d4h20m10s`, or nothing.

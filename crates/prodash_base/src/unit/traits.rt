@@ -121,11 +121,23 @@ fn push_timespan(
 {
     push_ascii(out, b'/')?;
     push_optional_fraction(out, fraction)?;
-    push_text(out, time_unit)?;
+    push_time_unit(out, time_unit)?;
     push_ascii(out, b'|')
 }
 
+/// Appends a time unit, and one of a single character without a call.
+#[inline(always)]
+fn push_time_unit(out: &mut String, time_unit: &str) -> Result<(), AllocError>
+    ensures { Pushes result out.old time_unit.now out.new }
+{
+    match time_unit.as_bytes() {
+        [byte] if *byte < 128 => push_ascii(out, *byte),
+        _ => push_text(out, time_unit),
+    }
+}
+
 /// Appends a fraction, if there is one.
+#[inline(always)]
 fn push_optional_fraction(out: &mut String, fraction: Option<(u64, u64)>) -> Result<(), AllocError>
     ensures { Pushes result out.old (optional_fraction fraction) out.new }
 {

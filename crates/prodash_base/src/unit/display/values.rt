@@ -146,6 +146,7 @@ fn same_location(a: Location, b: Location) -> bool
 }
 
 /// Returns the percentage that is shown at a location, if any.
+#[inline(always)]
 fn percentage_at(
     mode: Option<Mode>,
     location: Location,
@@ -180,6 +181,7 @@ fn throughput_at(
 }
 
 /// Appends a percentage, if there is one, and the space beside it.
+#[inline(always)]
 fn push_percentage<K: DisplayValue>(
     kind: &K,
     out: &mut String,
