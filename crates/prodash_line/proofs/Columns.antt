@@ -1,11 +1,11 @@
 -- The widths of lines, and of printable ASCII characters.
-use Rattle.std.proofs.Common.{◌≡◌, ℕ, zero, suc, ◌+◌, ◌/◌, ◌%◌, ◌==◌, ◌<◌, ◌≤◌, Bool, true, false, cond, not, ◌&&◌, List, [], ◌∷◌, ◌++◌, length, take, replicate, chars, refl, sym, ap, ◌∙◌, arith}
+use Rattle.std.proofs.Common.{◌≡◌, ℕ, zero, suc, ◌+◌, ◌/◌, ◌%◌, ◌==◌, ◌<◌, ◌≤◌, Bool, true, false, cond, not, ◌&&◌, ◌-◌, List, [], ◌∷◌, ◌++◌, length, take, drop, replicate, chars, refl, sym, ap, ◌∙◌, arith}
 use Rattle.std.specs.Int.{is_in_range}
 use Rattle.std.specs.Fmt.{decimal, digits, digits_onto, digit_glyph}
 use Rattle.std.specs.Str.{IsUtf8, IsAscii}
 use Rattle.std.proofs.lemmas.Bool.{and_parts}
 use Rattle.std.proofs.lemmas.Bool.Decides.{nat_tests}
-use Rattle.std.proofs.lemmas.List.{length-replicate}
+use Rattle.std.proofs.lemmas.List.{length-replicate, take-append-drop, take-take}
 use Rattle.std.proofs.lemmas.List.Sums.{sum_by-append, sum_by-cons}
 use Rattle.std.proofs.lemmas.Str.{chars-IsAscii, IsUtf8-from_ascii}
 use Rattle.std.proofs.lemmas.Str.Ascii.{IsAscii-cons, IsAscii-nil}
@@ -14,6 +14,7 @@ use Rattle.unicode_width.specs.declared.state.State.{State}
 use Rattle.unicode_width.specs.Width.{plain, step, read_before, str_width}
 use Rattle.unicode_width.proofs.Rules.{str_width-printable}
 use Rattle.prodash_base.specs.Numerals.{last_digits}
+use Rattle.prodash_line.proofs.EarlierRows.{agree}
 use Rattle.prodash_line.specs.Lines.{Piece, Line, capped, width_of, columns_of}
 use Rattle.prodash_line.specs.plumbing.Writing.{is_printable}
 
@@ -81,6 +82,20 @@ printable-take zero text h = refl
 printable-take (suc k) [] h = refl
 printable-take (suc k) (c ∷ cs) h = let parts = and_parts (is_in_range 0x20 0x7E c) (is_printable cs) h in
     ap (λ b. b && is_printable (take k cs)) parts.0 ∙ printable-take k cs parts.1
+
+-- a text is printable if its first characters and its last ones are, and there are no others
+pub printable-ends : (size : ℕ) (text : List ℕ) → length text ≤ size + size
+    → (is_printable (take size text) && is_printable (drop (length text - size) text)) ≡ is_printable text
+printable-ends size text few =
+    let before = length text - size in
+    let whole = take-append-drop before text in
+    agree (is_printable (take size text) && is_printable (drop before text)) (is_printable text)
+    (λ both. let ends = and_parts (is_printable (take size text)) (is_printable (drop before text)) both in
+    let first : is_printable (take before text) ≡ true =
+    ap is_printable (sym (take-take before size text (omega arith))) ∙ printable-take before (take size text) ends.0 in
+    ap is_printable (sym whole) ∙ printable-append (take before text) (drop before text) first ends.1)
+    (λ all. let last = printable-parts (take before text) (drop before text) (ap is_printable whole ∙ all) in
+    ap (λ b. b && is_printable (drop before text)) (printable-take size text all) ∙ last.1)
 
 printable-ascii : (text : List ℕ) → is_printable text ≡ true → IsAscii text
 printable-ascii [] h = IsAscii-nil

@@ -11,7 +11,8 @@ pub nothing_with_steps : (steps : List ℕ) → with_steps steps [] ≡ []
 nothing_with_steps [] = refl
 nothing_with_steps (step ∷ steps) = refl
 
-agree : (a b : Bool) → (a ≡ true → b ≡ true) → (b ≡ true → a ≡ true) → a ≡ b
+-- tests that hold of the same are the same
+pub agree : (a b : Bool) → (a ≡ true → b ≡ true) → (b ≡ true → a ≡ true) → a ≡ b
 agree true b there back = sym (there refl)
 agree false true there back = back refl
 agree false false there back = refl

@@ -1,6 +1,6 @@
 -- Lists that take the place of earlier ones.
-use Rattle.std.proofs.Common.{◌≡◌, ◌≤◌, ℕ, ◌+◌, ◌-◌, List, ◌++◌, length, take, drop, drop-drop, length-drop, length-append, length-take-le, append_assoc, sym, ap, ◌∙◌, arith}
-use Rattle.std.proofs.lemmas.List.{drop_at, take_at}
+use Rattle.std.proofs.Common.{◌≡◌, ◌≤◌, ◌<◌, ℕ, ◌+◌, ◌-◌, List, [], ◌∷◌, ◌++◌, length, set, take, drop, drop-drop, length-drop, length-append, length-take-le, append_assoc, sym, ap, ◌∙◌, arith}
+use Rattle.std.proofs.lemmas.List.{drop_at, drop-set-lt, take_at, take_more_set}
 use Rattle.std.proofs.lemmas.List.Edits.{drop-paste, take-paste}
 use Rattle.std.proofs.Math.Seq.{paste, take-add}
 use Rattle.std.specs.List.{copy_within}
@@ -39,6 +39,16 @@ pub stays : {X : Type 0} (xs : List X) (w l n : ℕ) (lists : List X × List X) 
     → ◌≡◌ {A = List X × List X} (take (w + n) xs, drop (l + n) xs) (lists.0 ++ take n lists.1, drop n lists.1)
 stays xs w l n lists same view =
     (λ i. ((take-add w n xs ∙ ap (λ k. take w xs ++ take n (drop k xs)) same) i, sym (drop-drop n l xs) i)) ∙ ap (λ v. (v.0 ++ take n v.1, drop n v.1)) view
+
+-- an item may take the place of the first that is left
+pub replaced : {X : Type 0} (xs : List X) (w l : ℕ) (x : X) (lists : List X × List X) → w ≤ l → l < length xs → ◌≡◌ {A = List X × List X} (take w xs, drop l xs) lists
+    → ◌≡◌ {A = List X × List X} (take (w + 1) (set xs w x), drop (l + 1) (set xs w x)) (lists.0 ++ x ∷ [], drop 1 lists.1)
+replaced xs w l x lists before within view =
+    (λ i. (
+      take_more_set xs w x (let lt : w < length xs = omega (arith, before, within) in lt) i,
+      (drop-set-lt (l + 1) xs w x (let lt : w < l + 1 = omega (arith, before) in lt) ∙ sym (drop-drop 1 l xs)) i,
+    ))
+    ∙ ap (λ v. (v.0 ++ x ∷ [], drop 1 v.1)) view
 
 -- items that are put into a gap are written
 pub put : {X : Type 0} (xs zs ys part : List X) (w l m : ℕ) (lists : List X × List X) → w + length part ≤ l → take w zs ≡ take w xs → drop l zs ≡ drop m xs

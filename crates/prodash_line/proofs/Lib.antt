@@ -1,6 +1,7 @@
 pub mod ScreenTaken
-pub mod PairedTexts
+pub mod WholeLines
 pub mod StyledBars
+pub mod PaddedValues
 pub mod PlainRows
 pub mod PlainPages
 pub mod PlainProgress

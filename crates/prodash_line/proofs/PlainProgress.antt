@@ -19,12 +19,12 @@ use Rattle.prodash_line.specs.Lines.{Line, piece, spaces, capped, in_color}
 use Rattle.prodash_line.specs.ProgressRows.{fraction_of, fraction_values, values_by, values_of, bar, bar_columns, bar_with, bounded_bar, filled_cells}
 use Rattle.prodash_line.specs.TextStyles.{row_style}
 use Rattle.prodash_line.specs.plumbing.RowWriting.{end_of_values, AppendsProgress, AppendsText, OrNothing, plain_bar, plain_progress}
-use Rattle.prodash_line.specs.plumbing.Writing.{is_printable, Appends, AppendsWhole, AppendsIfRoom}
+use Rattle.prodash_line.specs.plumbing.Writing.{indented, is_printable, Appends, AppendsWhole, AppendsIfRoom}
 use Rattle.prodash_line.proofs.Coloring.{columns_of-in_color}
 use Rattle.prodash_line.proofs.Columns.{printable-append, printable-parts, printable-repeated, printable-spaces, width-printable, width-spaces}
 use Rattle.prodash_line.proofs.JoinedTexts.{joined, ArePrintable, printable-joined, appends_apart}
 use Rattle.prodash_line.proofs.LineWriting.{appends_as}
-use Rattle.prodash_line.proofs.PairedTexts.{appends_whole}
+use Rattle.prodash_line.proofs.WholeLines.{appends_whole}
 use Rattle.prodash_line.proofs.Written.{line_bytes-printable}
 
 -- ---- printable characters in a line with this much room
@@ -36,6 +36,12 @@ appends_printable_whole old new left text h room fits bytes width limit after =
     let wide : str_width false text ≡ length text = width-printable text h in
     appends_whole old new left None text room (omega (arith, wide)) (bytes ∙ ap (λ t. old.bytes ++ t) (sym (line_bytes-printable text h)))
     (width ∙ ap (λ n. capped (old.width + n)) (sym wide)) limit (after ∙ ap (λ n. Columns (left - n)) (sym wide))
+
+-- the same behind spaces
+pub appends_behind_spaces : (old new : LineWriter) (n : ℕ) (text : List ℕ) → is_printable text ≡ true → AppendsWhole old (indented n text) new → Appends old (spaces n ∷ piece text ∷ []) new
+appends_behind_spaces old new n text h whole =
+    appends_apart (replicate n 32) (text ∷ []) (printable-spaces n) (h, tt)
+    (appends_printable_whole old new whole.left (indented n text) (printable-append (replicate n 32) text (printable-spaces n) h) whole.room whole.fits whole.bytes whole.width whole.limit whole.after)
 
 -- ---- the bar
 

@@ -9,7 +9,7 @@ use Rattle.prodash_line.specs.declared.render.line.page.style.Style.{Style}
 use Rattle.prodash_line.specs.Lines.{Line, piece, spaces, capped, columns_of, in_color}
 use Rattle.prodash_line.specs.TextStyles.{row_style}
 use Rattle.prodash_line.specs.ProgressRows.{time_line, with_time, values_of, head_of, padded, bar, bar_columns, midpoint_with, row_line_with}
-use Rattle.prodash_line.specs.plumbing.RowWriting.{end_of_values, padded_values, AppendsTime}
+use Rattle.prodash_line.specs.plumbing.RowWriting.{after_padding, end_of_values, padded_values, AppendsTime}
 use Rattle.prodash_line.specs.plumbing.Writing.{is_printable, Appends, Begun}
 use Rattle.prodash_line.proofs.Columns.{columns_of-append, width-printable, width-repeated}
 use Rattle.prodash_line.proofs.Coloring.{in_color-append, columns_of-in_color}
@@ -51,11 +51,15 @@ unit_end values unit before first second own f s o =
     let one : str_width false (replicate 1 32) ≡ 1 = width-repeated 1 32 (omega arith) (omega arith) in
     omega arith
 
+-- values behind padding that brings their end to a midpoint
+pub padded_to : {a c : LineWriter} (colored : Bool) (midpoint own pad : ℕ) (values : Line) → own ≡ end_of_values a.width values → pad ≡ midpoint - own
+    → Appends a (after_padding pad (in_color colored values)) c → Appends a (in_color colored (padded_values midpoint a.width values)) c
+padded_to colored midpoint own pad values o p h = appends_as (ap (λ n. after_padding n (in_color colored values)) (p ∙ ap (λ n. midpoint - n) o)) h
+
 -- a space, padding and values
 pub padded_appends : {a b c : LineWriter} (colored : Bool) (midpoint own pad : ℕ) (values : Line) → own ≡ end_of_values a.width values → pad ≡ midpoint - own
     → Appends a (spaces 1 ∷ spaces pad ∷ []) b → Appends b (in_color colored values) c → Appends a (in_color colored (padded_values midpoint a.width values)) c
-padded_appends colored midpoint own pad values o p gap shown =
-    appends_as (ap (λ n. spaces 1 ∷ spaces n ∷ in_color colored values) (p ∙ ap (λ n. midpoint - n) o)) (appends_then gap shown)
+padded_appends colored midpoint own pad values o p gap shown = padded_to colored midpoint own pad values o p (appends_then gap shown)
 
 -- the midpoint of a row, from where its values end behind its head
 pub row_midpoint : {limit : Option ℕ} {old w : LineWriter} (colored defensive : Bool) (row : PathRow) (p : RowProgress) (t : Option Throughput) → Begun limit old (in_color colored (head_of defensive row)) w

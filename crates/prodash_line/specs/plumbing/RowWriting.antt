@@ -1,5 +1,5 @@
 -- The values of a row after the head of its line, with spaces that bring their end to a midpoint, and its bar.
-use Rattle.std.specs.Prelude.{◌≡◌, ℕ, List, [], Bool, true, false, ◌+◌, ◌-◌, ◌/◌, ◌%◌, ◌∷◌, ◌++◌, Option, Some, None, codes, replicate, length, drop, nat_lt}
+use Rattle.std.specs.Prelude.{◌≡◌, ℕ, zero, suc, List, [], Bool, true, false, ◌+◌, ◌-◌, ◌/◌, ◌%◌, ◌∷◌, ◌++◌, Option, Some, None, codes, replicate, length, nat_lt, string_bytes}
 use Rattle.prodash_base.specs.Rows.{RowProgress, progress_of, row_of}
 use Rattle.prodash_base.specs.Units.{measure_of}
 use Rattle.prodash_base.specs.declared.progress.Value.{Value}
@@ -15,16 +15,18 @@ use Rattle.prodash_base.specs.Shown.{Shown}
 use Rattle.prodash_line.specs.declared.render.line.draw.plain_progress.PlainProgress.{PlainProgress}
 use Rattle.prodash_line.specs.declared.render.line.draw.row.DrawnProgress.{DrawnProgress}
 use Rattle.prodash_line.specs.declared.render.line.draw.row.Measured.{Measured}
+use Rattle.prodash_line.specs.declared.render.line.draw.row.RowTexts.{RowTexts}
 use Rattle.prodash_base.specs.declared.timing.task_time.TaskTime.{TaskTime}
 use Rattle.prodash_base.specs.Times.{time_text}
 use Rattle.prodash_base.specs.declared.progress.Row.{Row}
 use Rattle.prodash_line.specs.declared.render.line.draw.line_writer.LineWriter.{LineWriter}
-use Rattle.prodash_line.specs.Lines.{Line, piece, spaces, capped, columns_of}
+use Rattle.prodash_line.specs.Lines.{Line, Piece, piece, styled, spaces, capped, columns_of}
 use Rattle.prodash_line.specs.ProgressRows.{times_at, time_line, fraction_values, values_in, values_of, bar, bar_columns, fraction_of, bar_with, head_of, midpoint_of, row_line}
-use Rattle.prodash_line.specs.TextStyles.{row_style}
+use Rattle.std.specs.Bool.{then_some}
+use Rattle.prodash_line.specs.TextStyles.{row_style, values_style}
 use Rattle.prodash_line.specs.plumbing.Writing.{is_printable, Appends, AppendsIn, DrawsLine}
 use Rattle.std.specs.Fmt.{decimal}
-use Rattle.prodash_line.specs.DrawnLines.{layout_of}
+use Rattle.prodash_line.specs.DrawnLines.{drawn_chars, layout_of}
 use Rattle.prodash_line.specs.plumbing.OverwriteBytes.{on_row}
 
 -- this text follows the digits of any step in its fraction of a bound
@@ -35,6 +37,22 @@ FollowsStep bound text = (step : ℕ) → fraction_of step bound ≡ decimal ste
 abbrev pub end_of_values : ℕ → Line → ℕ
 end_of_values width values = capped (width + columns_of (spaces 1 ∷ values))
 
+-- a space, so many spaces of padding, and a line
+abbrev pub after_padding : ℕ → Line → Line
+after_padding padding line = spaces 1 ∷ spaces padding ∷ line
+
+-- values in their style, if they are coloured
+abbrev pub styled_values : Bool → List ℕ → Piece
+styled_values colored text = styled (then_some colored values_style) text
+
+-- a fraction in that style
+abbrev pub drawn_fraction : Bool → ℕ → Option ℕ → Line
+drawn_fraction colored step bound = styled_values colored (fraction_of step bound) ∷ []
+
+-- values in that style, a space and a unit
+abbrev pub drawn_texts : Bool → List ℕ → List ℕ → Line
+drawn_texts colored values unit = styled_values colored values ∷ spaces 1 ∷ piece unit ∷ []
+
 -- a space, the spaces that bring that end to a midpoint, and the values
 abbrev pub padded_values : ℕ → ℕ → Line → Line
 padded_values midpoint width values =
@@ -43,6 +61,11 @@ padded_values midpoint width values =
 -- these values follow the head of a line, padded so that they end at a midpoint
 abbrev pub Pads : Bool → ℕ → LineWriter → Line → LineWriter → Type 0
 Pads colored midpoint old values new = AppendsIn colored old (padded_values midpoint old.width values) new
+
+-- such values follow, and without padding they end at this column
+pub record PadsTo (colored : Bool) (midpoint : ℕ) (values : Line) (own : ℕ) (old new : LineWriter) : Type 0 where
+  pub ends : own ≡ end_of_values old.width values
+  pub padded : Pads colored midpoint old values new
 
 -- a space and a time follow, as they fit on the columns that are left in a row of this width; nothing without a time
 abbrev pub AppendsTime : Bool → Bool → ℕ → Option TaskTime → LineWriter → LineWriter → Type 0
@@ -83,6 +106,21 @@ unit_values d unit = values_in d.options.now.defensive (measure_of unit) (progre
 abbrev pub PadsValues : DrawnProgress → Line → LineWriter → LineWriter → Type 0
 PadsValues d values old new = Pads d.options.now.colored d.midpoint old values new
 
+-- these values and this unit follow the head of a line in the same way, as a defensive renderer draws them or another one
+abbrev pub PadsTexts : Bool → Bool → ℕ → List ℕ → List ℕ → ℕ → LineWriter → LineWriter → Type 0
+PadsTexts defensive colored midpoint values unit own old new =
+    PadsTo colored midpoint (drawn_texts true (drawn_chars defensive values) (drawn_chars defensive unit)) own old new
+
+-- the same of any renderer
+abbrev pub PadsAsIs : Bool → ℕ → List ℕ → List ℕ → ℕ → LineWriter → LineWriter → Type 0
+PadsAsIs colored midpoint values unit own old new = (defensive : Bool) → PadsTexts defensive colored midpoint values unit own old new
+
+-- the texts of a row follow the head of its line in the same way
+abbrev pub DrawsTexts : DrawnProgress → RowTexts → LineWriter → LineWriter → ℕ → Type 0
+DrawsTexts d texts old new own =
+    let o = d.options.now in
+    PadsTexts o.defensive o.colored d.midpoint (string_bytes texts.values) (string_bytes texts.unit) own old new
+
 -- its values, its time and its bar follow; without padding the values end at this column
 abbrev pub DrawsProgress : DrawnProgress → ℕ → LineWriter → LineWriter → Type 0
 DrawsProgress d own old new =
@@ -114,9 +152,9 @@ DrawsRow options midpoint row measured old new =
 abbrev pub own_midpoint : Options → Row → Option Throughput → ℕ
 own_midpoint options row throughput = midpoint_of options.defensive (row_of row, throughput)
 
--- the name of a row follows the spaces before it
-abbrev pub AppendsName : Options → Row → LineWriter → LineWriter → Type 0
-AppendsName options row old new = AppendsIn options.colored old (drop 1 (head_of options.defensive (row_of row))) new
+-- the spaces before the name of a row follow, and the name
+abbrev pub AppendsHead : Options → Row → LineWriter → LineWriter → Type 0
+AppendsHead options row old new = AppendsIn options.colored old (head_of options.defensive (row_of row)) new
 
 -- the bar of a progress follows on these columns
 abbrev pub AppendsBar : Bool → ℕ → Value → LineWriter → LineWriter → Type 0
@@ -173,6 +211,36 @@ OrNothing old new draws (Some own) = draws own old new
 -- a bar of n cells without styles, of which these are filled
 abbrev pub plain_bar : ℕ → ℕ → List ℕ
 plain_bar cells filled = codes " [" ++ (replicate filled 61 ++ (codes ">" ++ (replicate (cells - filled) 45 ++ codes "]")))
+
+-- what begins the style of values, if they are coloured
+abbrev pub values_opening : Bool → List ℕ
+values_opening true = 27 ∷ 91 ∷ 49 ∷ 59 ∷ 50 ∷ 109 ∷ []
+values_opening false = []
+
+-- what ends it
+abbrev pub values_reset : Bool → List ℕ
+values_reset true = 27 ∷ 91 ∷ 48 ∷ 109 ∷ []
+values_reset false = []
+
+-- values in their style, if they are coloured
+abbrev pub values_bytes : Bool → List ℕ → List ℕ
+values_bytes colored text = values_opening colored ++ (text ++ values_reset colored)
+
+-- a space and padding before a text
+abbrev pub padded_bytes : ℕ → List ℕ → List ℕ
+padded_bytes padding text = replicate (1 + padding) 32 ++ text
+
+-- a byte n times, between what begins a style and what ends it; nothing if there is none
+abbrev pub styled_run : List ℕ → ℕ → ℕ → List ℕ
+styled_run opening byte zero = []
+styled_run opening byte (suc n) = opening ++ (replicate (suc n) byte ++ 27 ∷ 91 ∷ 48 ∷ 109 ∷ [])
+
+-- the bytes of a bar of n cells in a colour whose code ends with this digit, of which these are filled
+abbrev pub colored_bar : ℕ → ℕ → ℕ → List ℕ
+colored_bar digit cells filled =
+    let opening = 27 ∷ 91 ∷ 51 ∷ digit ∷ 109 ∷ [] in
+    let opening_dimmed = 27 ∷ 91 ∷ 50 ∷ 59 ∷ 51 ∷ digit ∷ 109 ∷ [] in
+    codes " [" ++ (styled_run opening 61 filled ++ (styled_run opening 62 1 ++ (styled_run opening_dimmed 45 (cells - filled) ++ codes "]")))
 
 -- a space, padding, a text and such a bar
 abbrev pub plain_progress : ℕ → List ℕ → ℕ → ℕ → List ℕ

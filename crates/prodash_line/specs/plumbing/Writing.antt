@@ -1,5 +1,5 @@
 -- What a line writer has written.
-use Rattle.std.specs.Prelude.{◌≡◌, ◌≤◌, ℕ, zero, suc, ◌+◌, ◌-◌, Bool, true, false, List, [], ◌∷◌, ◌++◌, chars, length, Option, Some, None, replicate}
+use Rattle.std.specs.Prelude.{◌||◌, if◌then◌else◌, ◌≡◌, ◌≤◌, ℕ, zero, suc, ◌+◌, ◌-◌, Bool, true, false, List, [], ◌∷◌, ◌++◌, chars, length, Option, Some, None, replicate}
 use Rattle.std.specs.List.{list_all}
 use Rattle.std.specs.Int.{is_in_range}
 use Rattle.prodash_line.specs.declared.render.line.draw.drawn_text.DrawnText.{DrawnText}
@@ -7,6 +7,7 @@ use Rattle.prodash_line.specs.declared.render.line.draw.line_writer.LineWriter.{
 use Rattle.prodash_line.specs.declared.render.line.draw.room.Room.{Room}
 use Rattle.prodash_line.specs.declared.render.line.draw.room.Room.TheVariants.{Columns}
 use Rattle.prodash_line.specs.declared.render.line.page.sign.Sign.TheVariants.{Open, Reset}
+use Rattle.prodash_line.specs.declared.render.line.page.style.Color.{Color}
 use Rattle.prodash_line.specs.declared.render.line.page.style.Style.{Style}
 use Rattle.prodash_line.specs.Signs.{spelling_of, spelling}
 use Rattle.prodash_line.specs.declared.render.line.draw.input.Options.{Options}
@@ -49,6 +50,10 @@ abbrev pub style_of_length : Option Style → ℕ → Option Style
 style_of_length None n = None
 style_of_length (Some style) zero = None
 style_of_length (Some style) (suc n) = Some style
+
+-- the colour of a style that is a colour alone
+abbrev pub color_alone : Style → Option Color
+color_alone style = if style.bold || style.dim || style.on_yellow then None else style.color
 
 -- the bytes that begin a style
 abbrev pub open_bytes : Option Style → List ℕ

@@ -2,7 +2,8 @@
 ghost use Rattle.std.specs.Prelude.{◌≡◌, ◌+◌, ◌∷◌, [], ◌++◌, ◌≤◌, ◌<◌, length, replicate, take, vec_len, OnOk, IfOk};
 ghost use Rattle.std.specs.Fmt.{decimal};
 ghost use Rattle.prodash_line.specs.ProgressRows.{fraction_of};
-ghost use Rattle.prodash_line.specs.plumbing.RowWriting.{two_digits, plain_bar, whole_text, text_length, length_of, progress_bytes};
+ghost use Rattle.prodash_line.specs.plumbing.Writing.{indented};
+ghost use Rattle.prodash_line.specs.plumbing.RowWriting.{two_digits, plain_bar, colored_bar, styled_run, padded_bytes, values_bytes, values_opening, values_reset, whole_text, text_length, length_of, progress_bytes};
 
 use crate::render::line::draw::plain_progress::{PlainProgress, PlainText};
 use itoa::Buffer;
@@ -13,6 +14,15 @@ use std::mem;
 
 /// How many bytes are initialized in advance if there is memory for them.
 const AHEAD: usize = 2048;
+
+/// The character ESC, which begins a control sequence.
+pub(crate) const ESCAPE: u8 = 0x1b;
+
+/// How many bytes begin and end the style of values.
+const STYLED_VALUES: usize = 10;
+
+/// How many bytes a bar in a colour has at most besides its cells.
+const COLORED_BAR: usize = 33;
 
 /// Bytes that others are appended to. Memory past them is initialized in advance, so that an append
 /// is one comparison and one copy. Contracts see the list of the bytes.
@@ -141,6 +151,20 @@ impl ByteBuffer {
         Ok(())
     }
 
+    /// Appends `indent` spaces and then some bytes. Fails if out of memory.
+    #[inline(always)]
+    pub(crate) fn push_indented(&mut self, indent: u16, bytes: &[u8]) -> Result<(), AllocError>
+        requires { length bytes.now ≤ 65535 }
+        ensures { OnOk result (self.new ≡ self.old ++ indented indent bytes.now) }
+    {
+        let count = usize::from(indent) + bytes.len();
+        make_room(&mut self.initialized, self.length, count)?;
+        let room = self.initialized.as_mut_slice();
+        let at = put_copies(room, self.length, b' ', indent);
+        self.length = put_bytes(room, at, bytes);
+        Ok(())
+    }
+
     /// Appends a progress without styles. Fails if out of memory.
     #[inline(always)]
     pub(crate) fn push_progress(&mut self, progress: &PlainProgress<'_>) -> Result<(), AllocError>
@@ -152,9 +176,29 @@ impl ByteBuffer {
         let length = usize::from(progress.len());
         make_room(&mut self.initialized, self.length, length)?;
         let gap = 1 + progress.padding;
-        let at = put_copies(&mut self.initialized, self.length, b' ', gap);
-        let at = put_text(&mut self.initialized, at, &progress.text);
-        self.length = put_bar(&mut self.initialized, at, progress.cells, progress.filled);
+        let bytes = self.initialized.as_mut_slice();
+        let at = put_copies(bytes, self.length, b' ', gap);
+        let at = put_text(bytes, at, &progress.text);
+        self.length = put_bar(bytes, at, progress.cells, progress.filled);
+        Ok(())
+    }
+
+    /// Appends a bar of `cells` cells in a colour, of which the first `filled` are filled. `digit`
+    /// is the last digit of the code of the colour. Fails if out of memory.
+    #[inline(always)]
+    pub(crate) fn push_colored_bar(
+        &mut self,
+        digit: u8,
+        cells: u16,
+        filled: u16,
+    ) -> Result<(), AllocError>
+        requires { filled ≤ cells }
+        ensures { OnOk result (self.new ≡ self.old ++ colored_bar digit cells filled) }
+    {
+        let length = usize::from(cells) + COLORED_BAR;
+        make_room(&mut self.initialized, self.length, length)?;
+        let bytes = self.initialized.as_mut_slice();
+        self.length = put_colored_bar(bytes, self.length, digit, cells, filled);
         Ok(())
     }
 
@@ -171,7 +215,62 @@ impl ByteBuffer {
         ensures { OnOk result (self.new ≡ self.old ++ fraction_of step done_at) }
     {
         make_room(&mut self.initialized, self.length, usize::from(count))?;
-        self.length = put_fraction(&mut self.initialized, self.length, step, done_at);
+        let bytes = self.initialized.as_mut_slice();
+        self.length = put_fraction(bytes, self.length, step, done_at);
+        Ok(())
+    }
+
+    /// Appends a space, padding, and a step, and a slash and its bound if it has one, which are
+    /// this long together, in the style of values if they are coloured. Fails if out of memory.
+    #[inline(always)]
+    pub(crate) fn push_padded_fraction(
+        &mut self,
+        colored: bool,
+        padding: u16,
+        step: Step,
+        done_at: Option<Step>,
+        count: u16,
+    ) -> Result<(), AllocError>
+        requires count { count ≡ length (fraction_of step done_at) }
+        requires short { 1 + padding ≤ 65535 }
+        ensures { OnOk result (self.new
+            ≡ self.old ++ padded_bytes padding (values_bytes colored (fraction_of step done_at))) }
+    {
+        let length = usize::from(padding) + usize::from(count) + (1 + STYLED_VALUES);
+        make_room(&mut self.initialized, self.length, length)?;
+        let bytes = self.initialized.as_mut_slice();
+        let at = put_copies(bytes, self.length, b' ', 1 + padding);
+        let at = put_values_opening(bytes, at, colored);
+        let at = put_fraction(bytes, at, step, done_at);
+        self.length = put_values_reset(bytes, at, colored);
+        Ok(())
+    }
+
+    /// Appends a space, padding, values in their style if they are coloured, a space and a unit.
+    /// Fails if out of memory.
+    #[inline(always)]
+    pub(crate) fn push_padded_pair(
+        &mut self,
+        colored: bool,
+        padding: u16,
+        values: &[u8],
+        unit: &[u8],
+    ) -> Result<(), AllocError>
+        requires short { 1 + padding ≤ 65535 }
+        requires values { length values.now ≤ 65535 }
+        requires unit { length unit.now ≤ 65535 }
+        ensures { OnOk result (self.new ≡ self.old
+            ++ padded_bytes padding (values_bytes colored values.now ++ 32 ∷ unit.now)) }
+    {
+        let length = usize::from(padding) + values.len() + unit.len() + (2 + STYLED_VALUES);
+        make_room(&mut self.initialized, self.length, length)?;
+        let bytes = self.initialized.as_mut_slice();
+        let at = put_copies(bytes, self.length, b' ', 1 + padding);
+        let at = put_values_opening(bytes, at, colored);
+        let at = put_bytes(bytes, at, values);
+        let at = put_values_reset(bytes, at, colored);
+        let at = put_byte(bytes, at, b' ');
+        self.length = put_bytes(bytes, at, unit);
         Ok(())
     }
 
@@ -212,11 +311,11 @@ fn make_room(
 
 /// Writes a byte at an index, and returns the index after it.
 #[inline(always)]
-fn put_byte(bytes: &mut Vec<u8>, at: usize, byte: u8) -> usize
-    requires { at < vec_len bytes.old }
+fn put_byte(bytes: &mut [u8], at: usize, byte: u8) -> usize
+    requires { at < length bytes.old }
     ensures end { result ≡ at + 1 }
-    ensures length { vec_len bytes.new ≡ vec_len bytes.old }
-    ensures put { take result bytes.new.items ≡ take at bytes.old.items ++ byte ∷ [] }
+    ensures length { length bytes.new ≡ length bytes.old }
+    ensures put { take result bytes.new ≡ take at bytes.old ++ byte ∷ [] }
 {
     bytes[at] = byte;
     at + 1
@@ -224,11 +323,11 @@ fn put_byte(bytes: &mut Vec<u8>, at: usize, byte: u8) -> usize
 
 /// Writes a byte `count` times from an index on, and returns the index after them.
 #[inline(always)]
-fn put_copies(bytes: &mut Vec<u8>, at: usize, byte: u8, count: u16) -> usize
-    requires { at + count ≤ vec_len bytes.old }
+fn put_copies(bytes: &mut [u8], at: usize, byte: u8, count: u16) -> usize
+    requires { at + count ≤ length bytes.old }
     ensures end { result ≡ at + count }
-    ensures length { vec_len bytes.new ≡ vec_len bytes.old }
-    ensures put { take result bytes.new.items ≡ take at bytes.old.items ++ replicate count byte }
+    ensures length { length bytes.new ≡ length bytes.old }
+    ensures put { take result bytes.new ≡ take at bytes.old ++ replicate count byte }
 {
     let end = at + usize::from(count);
     bytes[at..end].fill(byte);
@@ -237,11 +336,11 @@ fn put_copies(bytes: &mut Vec<u8>, at: usize, byte: u8, count: u16) -> usize
 
 /// Writes some bytes from an index on, and returns the index after them.
 #[inline(always)]
-fn put_bytes(bytes: &mut Vec<u8>, at: usize, others: &[u8]) -> usize
-    requires { at + length others.now ≤ vec_len bytes.old }
+fn put_bytes(bytes: &mut [u8], at: usize, others: &[u8]) -> usize
+    requires { at + length others.now ≤ length bytes.old }
     ensures end { result ≡ at + length others.now }
-    ensures length { vec_len bytes.new ≡ vec_len bytes.old }
-    ensures put { take result bytes.new.items ≡ take at bytes.old.items ++ others.now }
+    ensures length { length bytes.new ≡ length bytes.old }
+    ensures put { take result bytes.new ≡ take at bytes.old ++ others.now }
 {
     let end = at + others.len();
     bytes[at..end].copy_from_slice(others);
@@ -250,11 +349,11 @@ fn put_bytes(bytes: &mut Vec<u8>, at: usize, others: &[u8]) -> usize
 
 /// Writes a text from an index on, and returns the index after it.
 #[inline(always)]
-fn put_text(bytes: &mut Vec<u8>, at: usize, text: &PlainText<'_>) -> usize
-    requires { at + text_length text.now ≤ vec_len bytes.old }
+fn put_text(bytes: &mut [u8], at: usize, text: &PlainText<'_>) -> usize
+    requires { at + text_length text.now ≤ length bytes.old }
     ensures end { result ≡ at + text_length text.now }
-    ensures length { vec_len bytes.new ≡ vec_len bytes.old }
-    ensures put { take result bytes.new.items ≡ take at bytes.old.items ++ whole_text text.now }
+    ensures length { length bytes.new ≡ length bytes.old }
+    ensures put { take result bytes.new ≡ take at bytes.old ++ whole_text text.now }
 {
     match *text {
         PlainText::Fraction(step, done_at) => put_fraction(bytes, at, step, done_at),
@@ -270,11 +369,11 @@ fn put_text(bytes: &mut Vec<u8>, at: usize, text: &PlainText<'_>) -> usize
 /// Writes a step, and a slash and its bound if it has one, from an index on, and returns the index
 /// after them.
 #[inline(always)]
-fn put_fraction(bytes: &mut Vec<u8>, at: usize, step: Step, done_at: Option<Step>) -> usize
-    requires { at + length (fraction_of step done_at) ≤ vec_len bytes.old }
+fn put_fraction(bytes: &mut [u8], at: usize, step: Step, done_at: Option<Step>) -> usize
+    requires { at + length (fraction_of step done_at) ≤ length bytes.old }
     ensures end { result ≡ at + length (fraction_of step done_at) }
-    ensures length { vec_len bytes.new ≡ vec_len bytes.old }
-    ensures put { take result bytes.new.items ≡ take at bytes.old.items ++ fraction_of step done_at }
+    ensures length { length bytes.new ≡ length bytes.old }
+    ensures put { take result bytes.new ≡ take at bytes.old ++ fraction_of step done_at }
 {
     match done_at {
         None => put_decimal(bytes, at, step),
@@ -288,11 +387,11 @@ fn put_fraction(bytes: &mut Vec<u8>, at: usize, step: Step, done_at: Option<Step
 
 /// Writes a number in decimal digits from an index on, and returns the index after them.
 #[inline(always)]
-fn put_decimal(bytes: &mut Vec<u8>, at: usize, n: u64) -> usize
-    requires { at + length (decimal n) ≤ vec_len bytes.old }
+fn put_decimal(bytes: &mut [u8], at: usize, n: u64) -> usize
+    requires { at + length (decimal n) ≤ length bytes.old }
     ensures end { result ≡ at + length (decimal n) }
-    ensures length { vec_len bytes.new ≡ vec_len bytes.old }
-    ensures put { take result bytes.new.items ≡ take at bytes.old.items ++ decimal n }
+    ensures length { length bytes.new ≡ length bytes.old }
+    ensures put { take result bytes.new ≡ take at bytes.old ++ decimal n }
 {
     if n < 100 {
         put_below_100(bytes, at, n)
@@ -306,12 +405,12 @@ fn put_decimal(bytes: &mut Vec<u8>, at: usize, n: u64) -> usize
 
 /// Does what `put_decimal` does for a number below 100.
 #[inline(always)]
-fn put_below_100(bytes: &mut Vec<u8>, at: usize, n: u64) -> usize
+fn put_below_100(bytes: &mut [u8], at: usize, n: u64) -> usize
     requires small { n < 100 }
-    requires room { at + length (decimal n) ≤ vec_len bytes.old }
+    requires room { at + length (decimal n) ≤ length bytes.old }
     ensures end { result ≡ at + length (decimal n) }
-    ensures length { vec_len bytes.new ≡ vec_len bytes.old }
-    ensures put { take result bytes.new.items ≡ take at bytes.old.items ++ decimal n }
+    ensures length { length bytes.new ≡ length bytes.old }
+    ensures put { take result bytes.new ≡ take at bytes.old ++ decimal n }
 {
     if n < 10 {
         return put_byte(bytes, at, b'0' + n as u8);
@@ -322,12 +421,12 @@ fn put_below_100(bytes: &mut Vec<u8>, at: usize, n: u64) -> usize
 /// Writes the two digits of a number below 100, the first of which may be a zero, from an index on,
 /// and returns the index after them.
 #[inline(always)]
-fn put_two_digits(bytes: &mut Vec<u8>, at: usize, n: u64) -> usize
+fn put_two_digits(bytes: &mut [u8], at: usize, n: u64) -> usize
     requires small { n < 100 }
-    requires room { at + 2 ≤ vec_len bytes.old }
+    requires room { at + 2 ≤ length bytes.old }
     ensures end { result ≡ at + 2 }
-    ensures length { vec_len bytes.new ≡ vec_len bytes.old }
-    ensures put { take result bytes.new.items ≡ take at bytes.old.items ++ two_digits n }
+    ensures length { length bytes.new ≡ length bytes.old }
+    ensures put { take result bytes.new ≡ take at bytes.old ++ two_digits n }
 {
     let at = put_byte(bytes, at, b'0' + (n / 10) as u8);
     put_byte(bytes, at, b'0' + (n % 10) as u8)
@@ -336,11 +435,11 @@ fn put_two_digits(bytes: &mut Vec<u8>, at: usize, n: u64) -> usize
 /// Does what `put_decimal` does for a large number.
 #[cold]
 #[inline(never)]
-fn put_large(bytes: &mut Vec<u8>, at: usize, n: u64) -> usize
-    requires { at + length (decimal n) ≤ vec_len bytes.old }
+fn put_large(bytes: &mut [u8], at: usize, n: u64) -> usize
+    requires { at + length (decimal n) ≤ length bytes.old }
     ensures end { result ≡ at + length (decimal n) }
-    ensures length { vec_len bytes.new ≡ vec_len bytes.old }
-    ensures put { take result bytes.new.items ≡ take at bytes.old.items ++ decimal n }
+    ensures length { length bytes.new ≡ length bytes.old }
+    ensures put { take result bytes.new ≡ take at bytes.old ++ decimal n }
 {
     put_bytes(bytes, at, Buffer::new().format(n).as_bytes())
 }
@@ -348,13 +447,13 @@ fn put_large(bytes: &mut Vec<u8>, at: usize, n: u64) -> usize
 /// Writes a bar of `cells` cells, of which the first `filled` are filled, from an index on, and
 /// returns the index after it.
 #[inline(always)]
-fn put_bar(bytes: &mut Vec<u8>, at: usize, cells: u16, filled: u16) -> usize
+fn put_bar(bytes: &mut [u8], at: usize, cells: u16, filled: u16) -> usize
     requires within { filled ≤ cells }
-    requires room { at + cells + 4 ≤ vec_len bytes.old }
+    requires room { at + cells + 4 ≤ length bytes.old }
     ensures end { result ≡ at + cells + 4 }
-    ensures put { take result bytes.new.items
-        ≡ take at bytes.old.items ++ plain_bar cells filled }
-    ensures within { result ≤ vec_len bytes.new }
+    ensures put { take result bytes.new
+        ≡ take at bytes.old ++ plain_bar cells filled }
+    ensures within { result ≤ length bytes.new }
 {
     let at = put_byte(bytes, at, b' ');
     let at = put_byte(bytes, at, b'[');
@@ -362,6 +461,89 @@ fn put_bar(bytes: &mut Vec<u8>, at: usize, cells: u16, filled: u16) -> usize
     let at = put_byte(bytes, at, b'>');
     let at = put_copies(bytes, at, b'-', cells - filled);
     put_byte(bytes, at, b']')
+}
+
+/// Writes what begins the style of values from an index on, if they are coloured, and returns the
+/// index after it.
+#[inline(always)]
+fn put_values_opening(bytes: &mut [u8], at: usize, colored: bool) -> usize
+    requires { at + 6 ≤ length bytes.old }
+    ensures end { result ≡ at + length (values_opening colored) }
+    ensures length { length bytes.new ≡ length bytes.old }
+    ensures put { take result bytes.new ≡ take at bytes.old ++ values_opening colored }
+{
+    if !colored {
+        return at;
+    }
+    let at = put_byte(bytes, at, ESCAPE);
+    let at = put_byte(bytes, at, b'[');
+    let at = put_byte(bytes, at, b'1');
+    let at = put_byte(bytes, at, b';');
+    let at = put_byte(bytes, at, b'2');
+    put_byte(bytes, at, b'm')
+}
+
+/// Writes what ends the style of values from an index on, if they are coloured, and returns the
+/// index after it.
+#[inline(always)]
+fn put_values_reset(bytes: &mut [u8], at: usize, colored: bool) -> usize
+    requires { at + 4 ≤ length bytes.old }
+    ensures end { result ≡ at + length (values_reset colored) }
+    ensures length { length bytes.new ≡ length bytes.old }
+    ensures put { take result bytes.new ≡ take at bytes.old ++ values_reset colored }
+{
+    if colored { put_reset(bytes, at) } else { at }
+}
+
+/// Writes what ends a style from an index on, and returns the index after it.
+#[inline(always)]
+fn put_reset(bytes: &mut [u8], at: usize) -> usize
+    requires { at + 4 ≤ length bytes.old }
+    ensures end { result ≡ at + 4 }
+    ensures length { length bytes.new ≡ length bytes.old }
+    ensures put { take result bytes.new ≡ take at bytes.old ++ 27 ∷ 91 ∷ 48 ∷ 109 ∷ [] }
+{
+    let at = put_byte(bytes, at, ESCAPE);
+    let at = put_byte(bytes, at, b'[');
+    let at = put_byte(bytes, at, b'0');
+    put_byte(bytes, at, b'm')
+}
+
+/// Writes what `push_colored_bar` appends from an index on, and returns the index after it.
+#[inline(always)]
+fn put_colored_bar(bytes: &mut [u8], at: usize, digit: u8, cells: u16, filled: u16) -> usize
+    requires within { filled ≤ cells }
+    requires room { at + cells + 33 ≤ length bytes.old }
+    ensures put { take result bytes.new
+        ≡ take at bytes.old ++ colored_bar digit cells filled }
+    ensures within { result ≤ length bytes.new }
+{
+    let open = [ESCAPE, b'[', b'3', digit, b'm'];
+    let open_dimmed = [ESCAPE, b'[', b'2', b';', b'3', digit, b'm'];
+    let at = put_byte(bytes, at, b' ');
+    let at = put_byte(bytes, at, b'[');
+    let at = put_styled(bytes, at, &open, b'=', filled);
+    let at = put_styled(bytes, at, &open, b'>', 1);
+    let at = put_styled(bytes, at, &open_dimmed, b'-', cells - filled);
+    put_byte(bytes, at, b']')
+}
+
+/// Writes a byte `count` times from an index on, between what begins a style and what ends it, or
+/// nothing if `count` is 0. Returns the index after them.
+#[inline(always)]
+fn put_styled(bytes: &mut [u8], at: usize, opening: &[u8], byte: u8, count: u16) -> usize
+    requires { at + length opening.now + count + 4 ≤ length bytes.old }
+    ensures end { result ≡ at + length (styled_run opening.now byte count) }
+    ensures length { length bytes.new ≡ length bytes.old }
+    ensures put { take result bytes.new
+        ≡ take at bytes.old ++ styled_run opening.now byte count }
+{
+    if count == 0 {
+        return at;
+    }
+    let at = put_bytes(bytes, at, opening);
+    let at = put_copies(bytes, at, byte, count);
+    put_reset(bytes, at)
 }
 
 /// Initializes at least `missing` more bytes.

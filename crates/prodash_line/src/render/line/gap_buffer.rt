@@ -104,6 +104,17 @@ impl<T: Copy> GapBuffer<T> {
         Ok(())
     }
 
+    /// Writes an item in place of the first of those that are left, which is then left no longer.
+    #[inline(always)]
+    pub(crate) fn replace_first(&mut self, item: T)
+        requires { 1 ≤ length self.old.1 }
+        ensures { self.new ≡ (self.old.0 ++ item ∷ [], drop 1 self.old.1) }
+    {
+        self.items[self.written] = item;
+        self.written += 1;
+        self.left += 1;
+    }
+
     /// Writes some items. Fails if out of memory.
     pub(crate) fn extend_from_slice(&mut self, items: &[T]) -> Result<(), AllocError>
         ensures { OnOk result (self.new ≡ (self.old.0 ++ items.now, self.old.1)) }

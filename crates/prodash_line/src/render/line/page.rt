@@ -22,7 +22,7 @@ use std::alloc::{AllocError, Global};
 use std::marker::Model;
 pub use style::{Color, Style};
 pub use writing::spell;
-pub(crate) use writing::{push_open, push_reset, push_sign};
+pub(crate) use writing::{last_digit, push_open, push_reset, push_sign};
 
 /// A page on which signs are written: all rows ever, of which the last are the window, and a
 /// cursor.

@@ -192,8 +192,7 @@ impl<'a> LineCopier<'a> {
             drawn.midpoint = drawn.midpoint.max(size.midpoint);
             drawn.widths.push(size.width)?;
             let line = RowLine::new(n, written + (end - start), size);
-            self.lines.give_up(1);
-            self.lines.push(line)?;
+            self.lines.replace_first(line);
             end += size.length + 1;
             n += 1;
             left = split_first_width(left).1;

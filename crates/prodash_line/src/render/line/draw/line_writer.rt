@@ -4,8 +4,8 @@ ghost use Rattle.std.specs.Prelude.{◌≡◌, ◌+◌, ◌-◌, ℕ, ◌∷◌,
 ghost use Rattle.prodash_line.specs.Signs.{spelling_of};
 ghost use Rattle.prodash_line.specs.Lines.{piece, styled, spaces};
 ghost use Rattle.prodash_line.specs.ProgressRows.{bar_with, fraction_of};
-ghost use Rattle.prodash_line.specs.plumbing.Writing.{IsMeasured, line_bytes, is_printable, style_of_length, open_bytes, reset_bytes, Appends, AppendsPair, AppendsIndented, AppendsIfRoom, run, Begun, SameLine, Counts};
-ghost use Rattle.prodash_line.specs.plumbing.RowWriting.{FollowsStep, text_length, length_of, progress_bytes};
+ghost use Rattle.prodash_line.specs.plumbing.Writing.{IsMeasured, line_bytes, is_printable, style_of_length, open_bytes, reset_bytes, Appends, AppendsPair, AppendsIndented, AppendsIfRoom, color_alone, indented, run, Begun, SameLine, Counts};
+ghost use Rattle.prodash_line.specs.plumbing.RowWriting.{FollowsStep, after_padding, drawn_fraction, drawn_texts, text_length, length_of, progress_bytes};
 ghost use Rattle.prodash_line.specs.plumbing.OverwriteBytes.{on_row, row_end, EndsOver, IsCutWidth};
 
 use crate::render::line::byte_buffer::ByteBuffer;
@@ -18,7 +18,7 @@ use crate::render::line::draw::measured_names::MeasuredNames;
 use crate::render::line::draw::plain_progress::PlainProgress;
 use crate::render::line::draw::room::Room;
 use crate::render::line::draw::text::text_width;
-use crate::render::line::page::{Sign, Style, push_open, push_reset, push_sign};
+use crate::render::line::page::{Color, Sign, Style, last_digit, push_open, push_reset, push_sign};
 use itoa::Buffer;
 use prodash_base::progress::{Level, Step};
 use std::alloc::{AllocError, Global};
@@ -101,20 +101,14 @@ impl LineWriter {
         };
     }
 
-    /// Begins a line that is cut to `limit` columns, or written whole, with `indent` spaces. If
-    /// frames erase the rows that they write on, its row is erased first. Fails if out of memory.
-    pub(crate) fn begin_row(
-        &mut self,
-        layout: Layout,
-        limit: Option<u16>,
-        indent: Level,
-    ) -> Result<(), AllocError>
-        ensures { OnOk result
-            (Begun limit (on_row layout self.old) (spaces indent ∷ []) self.new) }
+    /// Begins a line that is cut to `limit` columns, or written whole. If frames erase the rows that
+    /// they write on, its row is erased first. Fails if out of memory.
+    pub(crate) fn begin_row(&mut self, layout: Layout, limit: Option<u16>) -> Result<(), AllocError>
+        ensures { OnOk result (Begun limit (on_row layout self.old) [] self.new) }
     {
         start_row(self, layout)?;
         self.begin_line(limit);
-        self.push_spaces(u16::from(indent))
+        Ok(())
     }
 
     /// Appends a text to the line, in this style if there is one. Fails if out of memory.
@@ -158,25 +152,72 @@ impl LineWriter {
         requires second { IsMeasured second.now }
         ensures { OnOk result (AppendsPair style first.now second.now self.old self.new) }
     {
-        let width = first.width.saturating_add(1).saturating_add(second.width);
+        self.push_drawn(style, first)?;
+        self.push_spaces(1)?;
+        self.push_drawn(None, second)
+    }
+
+    /// Appends a space, padding, and a step, and a slash and its bound if it has one, which are
+    /// this long together, in the style of values if they are coloured, if the line has room for
+    /// all of it. Returns whether it has; otherwise nothing is appended. Fails if out of memory.
+    #[inline(always)]
+    pub(crate) fn push_whole_fraction(
+        &mut self,
+        colored: bool,
+        padding: u16,
+        step: Step,
+        done_at: Option<Step>,
+        count: u16,
+    ) -> Result<bool, AllocError>
+        requires count { count ≡ length (fraction_of step done_at) }
+        requires short { 1 + padding + count ≤ 65535 }
+        ensures whole { IfOk result (λ whole. whole ≡ true
+            → Appends self.old (after_padding padding (drawn_fraction colored step done_at))
+            self.new) }
+        ensures nothing { IfOk result (λ whole. whole ≡ false → self.new ≡ self.old) }
+    {
+        let columns = 1 + padding + count;
         match self.room {
-            // both are written whole
-            Room::Columns(left) if width < left => {
-                let style = style_of_length(style, first.text.len());
-                self.open_style(style)?;
-                self.bytes.extend_from_slice(first.text.as_bytes())?;
-                self.reset_style(style)?;
-                self.bytes.push(b' ')?;
-                self.bytes.extend_from_slice(second.text.as_bytes())?;
-                self.width = self.width.saturating_add(width);
-                self.room = Room::Columns(left - width);
-                Ok(())
+            Room::Columns(left) if columns <= left => {
+                self.bytes
+                    .push_padded_fraction(colored, padding, step, done_at, count)?;
+                self.width = self.width.saturating_add(columns);
+                self.room = Room::Columns(left - columns);
+                Ok(true)
             }
-            _ => {
-                self.push_drawn(style, first)?;
-                self.push_spaces(1)?;
-                self.push_drawn(None, second)
+            _ => Ok(false),
+        }
+    }
+
+    /// Appends a space, padding, values in their style if they are coloured, a space and a unit,
+    /// which are printable ASCII characters, if the line has room for all of it. Returns whether it
+    /// has; otherwise nothing is appended. Fails if out of memory.
+    #[inline(always)]
+    pub(crate) fn push_whole_pair(
+        &mut self,
+        colored: bool,
+        padding: u16,
+        values: &[u8],
+        unit: &[u8],
+    ) -> Result<bool, AllocError>
+        requires values { is_printable values.now ≡ true }
+        requires unit { is_printable unit.now ≡ true }
+        requires some { 0 < length values.now }
+        requires short { 2 + padding + length values.now + length unit.now ≤ 65535 }
+        ensures whole { IfOk result (λ whole. whole ≡ true
+            → Appends self.old (after_padding padding (drawn_texts colored values.now unit.now))
+            self.new) }
+        ensures nothing { IfOk result (λ whole. whole ≡ false → self.new ≡ self.old) }
+    {
+        let columns = 2 + padding + values.len() as u16 + unit.len() as u16;
+        match self.room {
+            Room::Columns(left) if columns <= left => {
+                self.bytes.push_padded_pair(colored, padding, values, unit)?;
+                self.width = self.width.saturating_add(columns);
+                self.room = Room::Columns(left - columns);
+                Ok(true)
             }
+            _ => Ok(false),
         }
     }
 
@@ -257,6 +298,50 @@ impl LineWriter {
         self.push_prefix(text, written)?;
         self.reset_style(style)?;
         Ok(())
+    }
+
+    /// Appends `indent` spaces and then at most 65535 printable ASCII characters, in this style if
+    /// there is one. Fails if out of memory.
+    #[inline(always)]
+    pub(crate) fn push_printable_behind(
+        &mut self,
+        indent: u16,
+        style: Option<Style>,
+        text: &[u8],
+    ) -> Result<(), AllocError>
+        requires printable { is_printable text.now ≡ true }
+        requires short { length text.now ≤ 65535 }
+        ensures { OnOk result
+            (Appends self.old (spaces indent ∷ styled style text.now ∷ []) self.new) }
+    {
+        if style.is_none() {
+            let whole = self.push_whole_behind(indent, text)?;
+            if whole {
+                return Ok(());
+            }
+        }
+        self.push_spaces(indent)?;
+        self.push_printable_in(style, text)?;
+        Ok(())
+    }
+
+    /// Appends `indent` spaces and then at most 65535 printable ASCII characters, if the line has room
+    /// for all of them. Returns whether it has; otherwise nothing is appended. Fails if out of memory.
+    #[inline(always)]
+    fn push_whole_behind(&mut self, indent: u16, text: &[u8]) -> Result<bool, AllocError>
+        requires { length text.now ≤ 65535 }
+        ensures { IfOk result (AppendsIfRoom self.old (indented indent text.now) self.new) }
+    {
+        let count = usize::from(indent) + text.len();
+        match self.room {
+            Room::Columns(left) if count <= usize::from(left) => {
+                self.bytes.push_indented(indent, text)?;
+                self.width = self.width.saturating_add(count as u16);
+                self.room = Room::Columns(left - count as u16);
+                Ok(true)
+            }
+            _ => Ok(false),
+        }
     }
 
     /// Adds a text of `length` printable ASCII characters to the width of the line, and returns how
@@ -417,17 +502,50 @@ impl LineWriter {
         let columns = cells + (BRACKETS + ARROW);
         match self.room {
             Room::Columns(left) if columns <= left => {
-                self.bytes.extend_from_slice(b" [")?;
-                self.push_run(Some(style), b'=', filled)?;
-                self.push_run(Some(style), b'>', 1)?;
-                self.push_run(Some(style.dimmed()), b'-', cells - filled)?;
-                self.bytes.push(b']')?;
+                self.push_bar(style, cells, filled)?;
                 self.width = self.width.saturating_add(columns);
                 self.room = Room::Columns(left - columns);
                 Ok(true)
             }
             _ => Ok(false),
         }
+    }
+
+    /// Writes a bar that has been counted, of `cells` cells in this style, of which the first
+    /// `filled` are filled. Fails if out of memory.
+    #[inline(always)]
+    fn push_bar(&mut self, style: Style, cells: u16, filled: u16) -> Result<(), AllocError>
+        requires { filled ≤ cells }
+        ensures bytes { OnOk result
+            (self.new.bytes ≡ self.old.bytes ++ line_bytes (bar_with style cells filled)) }
+        ensures line { OnOk result (SameLine self.old self.new) }
+    {
+        match color_alone(style) {
+            Some(color) => self
+                .bytes
+                .push_colored_bar(last_digit(color), cells, filled),
+            None => {
+                // with a copy: the style of a bar in a colour is then never in memory
+                let copy = style;
+                self.push_bar_in_parts(copy, cells, filled)
+            }
+        }
+    }
+
+    /// Does what `push_bar` does, part by part.
+    #[inline(never)]
+    fn push_bar_in_parts(&mut self, style: Style, cells: u16, filled: u16) -> Result<(), AllocError>
+        requires { filled ≤ cells }
+        ensures bytes { OnOk result
+            (self.new.bytes ≡ self.old.bytes ++ line_bytes (bar_with style cells filled)) }
+        ensures line { OnOk result (SameLine self.old self.new) }
+    {
+        self.bytes.extend_from_slice(b" [")?;
+        self.push_run(Some(style), b'=', filled)?;
+        self.push_run(Some(style), b'>', 1)?;
+        self.push_run(Some(style.dimmed()), b'-', cells - filled)?;
+        self.bytes.push(b']')?;
+        Ok(())
     }
 
     /// Appends a printable ASCII character `count` times, without a style. Fails if out of memory.
@@ -560,6 +678,18 @@ pub(crate) fn style_of_length(style: Option<Style>, length: usize) -> Option<Sty
     ensures { result ≡ style_of_length style length }
 {
     if length == 0 { None } else { style }
+}
+
+/// Returns the colour of a style that is a colour of the text alone; `None` of any other style.
+#[inline(always)]
+fn color_alone(style: Style) -> Option<Color>
+    ensures { result ≡ color_alone style }
+{
+    if style.bold || style.dim || style.on_yellow {
+        None
+    } else {
+        style.color
+    }
 }
 
 /// Returns what follows the digits of a step: a slash and the digits of the bound, if there is one.

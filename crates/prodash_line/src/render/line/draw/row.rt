@@ -3,11 +3,11 @@ ghost use Rattle.std.specs.Prelude.{◌≡◌, ◌≤◌, ◌+◌, ◌++◌, fal
 ghost use Rattle.std.specs.Bool.{then_some};
 ghost use Rattle.prodash_base.specs.Rows.{row_of};
 ghost use Rattle.prodash_line.specs.ProgressRows as rows;
-ghost use Rattle.prodash_line.specs.ProgressRows.{fraction_values};
+ghost use Rattle.prodash_line.specs.ProgressRows.{fraction_of, fraction_values};
 ghost use Rattle.prodash_line.specs.Lines.{capped};
 ghost use Rattle.prodash_line.specs.TextStyles as styles;
-ghost use Rattle.prodash_line.specs.plumbing.RowWriting.{NothingBefore, DrawsLabelled, end_of_values, Pads, PadsValues, drawn_values, unit_values, own_midpoint, whole_text, DrawsRow, DrawsProgress, DrawsFraction, DrawsInUnit, DrawsText, OrNothing, AppendsName};
-ghost use Rattle.prodash_line.specs.plumbing.Writing.{is_printable};
+ghost use Rattle.prodash_line.specs.plumbing.RowWriting.{after_padding, PadsAsIs, DrawsTexts, NothingBefore, DrawsLabelled, end_of_values, Pads, PadsValues, drawn_values, unit_values, own_midpoint, whole_text, DrawsRow, DrawsProgress, DrawsFraction, DrawsInUnit, DrawsText, OrNothing, AppendsHead};
+ghost use Rattle.prodash_line.specs.plumbing.Writing.{is_printable, AppendsIn};
 
 use crate::render::line::draw::bar::{ARROW, BRACKETS, bar_columns, filled_cells, push_bar};
 use crate::render::line::draw::drawn_text::{drawn_name, drawn_text};
@@ -25,6 +25,9 @@ use prodash_base::timing::Timer;
 use prodash_base::unit::display::{Mode, Throughput, append_unit, append_values};
 use prodash_base::unit::{Kind, Unit};
 use std::alloc::{AllocError, Global};
+
+/// How many bytes a short text has at most.
+const SHORT: usize = 255;
 
 /// Memory for the texts of one row, which that of the next row reuses.
 #[derive(Drop)]
@@ -96,7 +99,7 @@ pub(crate) fn push_row(
         (λ n. n ≡ own_midpoint options.now row.now measured.entry.throughput) }
     ensures reason { IsOkUnless result Refusal.Memory }
 {
-    out.begin_row(options.layout(), options.width_limit(), row.key.level())?;
+    out.begin_row(options.layout(), options.width_limit())?;
     push_name(out, &mut texts.replaced_name, options, row)?;
     let Some(value) = &row.progress else {
         return Ok(0);
@@ -407,13 +410,37 @@ fn push_fraction(
 {
     let values = fraction_columns(step, done_at);
     let own = out.width().saturating_add(1).saturating_add(values);
-    out.push_gap(midpoint.saturating_sub(own))?;
+    let padding = midpoint.saturating_sub(own);
+    push_padded_fraction(out, colored, padding, step, done_at, values)?;
+    Ok(own)
+}
+
+/// Appends a space, padding, and the values of a progress without a unit, which are `values` wide.
+#[inline(always)]
+fn push_padded_fraction(
+    out: &mut LineWriter,
+    colored: bool,
+    padding: u16,
+    step: Step,
+    done_at: Option<Step>,
+    values: u16,
+) -> Result<(), AllocError>
+    requires values { values ≡ length (fraction_of step done_at) }
+    requires short { 1 + padding + values ≤ 65535 }
+    ensures { OnOk result (AppendsIn colored out.old
+        (after_padding padding (fraction_values step done_at)) out.new) }
+{
+    let whole = out.push_whole_fraction(colored, padding, step, done_at, values)?;
+    if whole {
+        return Ok(());
+    }
+    out.push_gap(padding)?;
     let count = out.count_printable(values);
     let style = style_of_length(colored.then_some(values_style()), usize::from(count));
     out.open_style(style)?;
     out.push_fraction(step, done_at, values, count)?;
     out.reset_style(style)?;
-    Ok(own)
+    Ok(())
 }
 
 /// Appends a space, the values of a progress in a unit, a space and the unit, padded as
@@ -432,11 +459,71 @@ fn push_in_unit(
 {
     texts.values.clear();
     texts.unit.clear();
-    let (options, value) = (drawn.options, drawn.value);
+    let value = drawn.value;
     let (kind, mode) = (unit.as_display_value(), unit.mode());
     let (step, bound, throughput) = (value.step, value.done_at, drawn.throughput);
     append_values(&mut texts.values, kind, mode, step, bound, throughput)?;
     append_unit(&mut texts.unit, kind, mode, step, bound, throughput)?;
+    let own = push_texts(out, texts, drawn)?;
+    Ok(own)
+}
+
+/// Appends a space, values and a unit as they are drawn, padded as `push_values` says. Returns the
+/// column at which they end without padding.
+#[inline(always)]
+fn push_texts(
+    out: &mut LineWriter,
+    texts: &mut RowTexts,
+    drawn: &DrawnProgress<'_>,
+) -> Result<u16, AllocError>
+    ensures { IfOk result (DrawsTexts drawn.now texts.old out.old out.new) }
+{
+    let (values, unit) = (texts.values.as_bytes(), texts.unit.as_bytes());
+    let whole = push_short_texts(out, drawn.options.colored, drawn.midpoint, values, unit)?;
+    match whole {
+        Some(own) => Ok(own),
+        None => push_other_texts(out, texts, drawn),
+    }
+}
+
+/// Appends a space, values and a unit, padded as `push_values` says, if they are short texts of
+/// printable ASCII characters and the line has room for all of it. Returns the column at which
+/// they end without padding, or `None` if nothing is appended.
+#[inline(always)]
+fn push_short_texts(
+    out: &mut LineWriter,
+    colored: bool,
+    midpoint: u16,
+    values: &[u8],
+    unit: &[u8],
+) -> Result<Option<u16>, AllocError>
+    ensures { IfOk result (OrNothing out.old out.new
+        (PadsAsIs colored midpoint values.now unit.now)) }
+{
+    if values.is_empty() || values.len() > SHORT || unit.len() > SHORT {
+        return Ok(None);
+    }
+    if !is_all_printable(values) || !is_all_printable(unit) {
+        return Ok(None);
+    }
+    let own = out
+        .width()
+        .saturating_add(2 + values.len() as u16 + unit.len() as u16);
+    let padding = midpoint.saturating_sub(own);
+    let whole = out.push_whole_pair(colored, padding, values, unit)?;
+    Ok(whole.then_some(own))
+}
+
+/// Does what `push_texts` does for any texts.
+#[inline(never)]
+fn push_other_texts(
+    out: &mut LineWriter,
+    texts: &mut RowTexts,
+    drawn: &DrawnProgress<'_>,
+) -> Result<u16, AllocError>
+    ensures { IfOk result (DrawsTexts drawn.now texts.old out.old out.new) }
+{
+    let options = drawn.options;
     let (values, name) = (texts.values.as_str(), texts.unit.as_str());
     let values = drawn_text(options.defensive, values, &mut texts.replaced_values)?;
     let name = drawn_text(options.defensive, name, &mut texts.replaced_unit)?;
@@ -463,8 +550,8 @@ pub(crate) fn is_row_drawn(levels: Option<(Level, Level)>, row: &Row) -> bool
     }
 }
 
-/// Appends the name of a row, whose width is kept for the next frame. If it is drawn with other
-/// characters, those are written to `replaced`.
+/// Appends the name of a row behind as many spaces as its level. Its width is kept for the next
+/// frame. If it is drawn with other characters, those are written to `replaced`.
 #[inline(always)]
 fn push_name(
     out: &mut LineWriter,
@@ -472,14 +559,15 @@ fn push_name(
     options: &Options,
     row: &Row,
 ) -> Result<(), AllocError>
-    ensures { OnOk result (AppendsName options.now row.now out.old out.new) }
+    ensures { OnOk result (AppendsHead options.now row.now out.old out.new) }
 {
-    let name = row.name.as_str();
+    let (level, name) = (u16::from(row.key.level()), row.name.as_str());
     let bytes = name.as_bytes();
     if bytes.len() <= usize::from(u16::MAX) && is_all_printable(bytes) {
-        out.push_printable_in(style_of_name(options, row), bytes)?;
+        out.push_printable_behind(level, style_of_name(options, row), bytes)?;
         return Ok(());
     }
+    out.push_spaces(level)?;
     let name = drawn_name(options.defensive, name, replaced, &mut out.names)?;
     out.push_drawn(style_of_name(options, row), &name)?;
     Ok(())

@@ -1,5 +1,5 @@
 //! The widths of texts, and their longest prefixes of a width.
-ghost use Rattle.std.specs.Prelude.{◌≡◌, ◌-◌, ◌∷◌, [], ◌++◌, chars, false, length, take, IfSome};
+ghost use Rattle.std.specs.Prelude.{◌≡◌, ◌≤◌, ◌+◌, ◌-◌, ◌∷◌, [], ◌++◌, chars, false, length, take, IfSome};
 ghost use Rattle.unicode_width.specs.Width.{str_width};
 ghost use Rattle.std.specs.Bool.{then_some};
 ghost use Rattle.std.specs.Int.{is_in_range};
@@ -31,7 +31,7 @@ fn is_block_printable(block: &[u8]) -> bool
     printable
 }
 
-/// How many bytes of a text are compared at once.
+/// How many bytes of a long text are compared at once.
 const BLOCK: usize = 32;
 
 /// Whether the bytes are all printable ASCII characters.
@@ -46,20 +46,31 @@ pub(crate) fn is_all_printable(text: &[u8]) -> bool
         }
         left = others;
     }
-    'eights: while let [a, b, c, d, e, f, g, h, others @ ..] = left {
-        let first = is_printable(*a) & is_printable(*b) & is_printable(*c) & is_printable(*d);
-        let second = is_printable(*e) & is_printable(*f) & is_printable(*g) & is_printable(*h);
-        if !(first & second) {
+    'eights: while left.len() > 16 {
+        let (eight, others) = left.split_at(8);
+        if !is_block_printable(eight) {
             return false;
         }
         left = others;
     }
-    for byte in left {
-        if !is_printable(*byte) {
-            return false;
-        }
+    match left.len() {
+        8.. => are_ends_printable(left, 8),
+        4..8 => are_ends_printable(left, 4),
+        _ => is_block_printable(left),
     }
-    true
+}
+
+/// Whether the bytes are all printable ASCII characters: the first `size` of them, and the last. These
+/// may overlap, and there are no others.
+#[inline(always)]
+fn are_ends_printable(text: &[u8], size: usize) -> bool
+    requires some { size ≤ length text.now }
+    requires few { length text.now ≤ size + size }
+    ensures { result ≡ is_printable text.now }
+{
+    let first = is_block_printable(&text[..size]);
+    let last = is_block_printable(&text[text.len() - size..]);
+    first & last
 }
 
 /// Returns the width of a text, in columns.

@@ -8,13 +8,10 @@ ghost use Rattle.prodash_line.specs.declared.render.line.page.sign.Sign.TheVaria
 use super::codes::codes_of;
 use super::sign::Sign;
 use super::style::{Color, Style};
-use crate::render::line::byte_buffer::ByteBuffer;
+use crate::render::line::byte_buffer::{ByteBuffer, ESCAPE};
 use itoa::Buffer;
 use prodash_base::Refusal;
 use std::alloc::{AllocError, Global};
-
-/// The character ESC, which begins a control sequence.
-const ESCAPE: u8 = 0x1b;
 
 /// Appends the control sequence that moves the cursor up by `rows` rows. Fails if out of memory.
 fn push_up(out: &mut ByteBuffer, rows: u16) -> Result<(), AllocError>
@@ -54,7 +51,7 @@ fn push_style(out: &mut ByteBuffer, style: Style) -> Result<(), AllocError>
 
 /// Returns the last digit of the code of a colour, whose first is 3.
 #[inline]
-fn last_digit(color: Color) -> u8
+pub(crate) fn last_digit(color: Color) -> u8
     ensures { decimal (color_code color) ≡ 51 ∷ result ∷ [] }
 {
     match color {

@@ -11,7 +11,7 @@ returns-then-n-lt10-clause-end c = omega (arith, c.put_byte.ensures.end, count_o
 
 pub returns-then-n-lt10-clause-put : goal.returns-then-n-lt10-clause-put
 returns-then-n-lt10-clause-put c =
-    c.put_byte.ensures.put ∙ ap (λ ds. take c.args.at c.args.bytes.now.items ++ ds) (sym (decimal_digit c.args.n (omega (arith, c.if-n-lt10.true))))
+    c.put_byte.ensures.put ∙ ap (λ ds. take c.args.at c.args.bytes.now ++ ds) (sym (decimal_digit c.args.n (omega (arith, c.if-n-lt10.true))))
 
 pub put_two_digits-requires-clause-room : goal.put_two_digits-requires-clause-room
 put_two_digits-requires-clause-room c = omega (arith, c.requires.room, count_two c.args.n (omega (arith, c.if-n-lt10.false)) c.requires.small)
@@ -21,4 +21,4 @@ returns-clause-end c = omega (arith, c.put_two_digits.ensures.end, count_two c.a
 
 pub returns-clause-put : goal.returns-clause-put
 returns-clause-put c =
-    c.put_two_digits.ensures.put ∙ ap (λ ds. take c.args.at c.args.bytes.now.items ++ ds) (decimal_two c.args.n (omega (arith, c.if-n-lt10.false)) c.requires.small)
+    c.put_two_digits.ensures.put ∙ ap (λ ds. take c.args.at c.args.bytes.now ++ ds) (decimal_two c.args.n (omega (arith, c.if-n-lt10.false)) c.requires.small)

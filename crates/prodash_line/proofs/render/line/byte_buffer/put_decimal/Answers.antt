@@ -17,7 +17,7 @@ returns-then-n-lt10000-clause-end c =
 
 pub returns-then-n-lt10000-clause-put : goal.returns-then-n-lt10000-clause-put
 returns-then-n-lt10000-clause-put c =
-    let before = take c.args.at c.args.bytes.now.items in
+    let before = take c.args.at c.args.bytes.now in
     c.put_two_digits.ensures.put ∙ ap (λ ds. ds ++ two_digits (c.args.n % 100)) c.put_below_100-at.ensures.put
     ∙ append_assoc before (decimal (c.args.n / 100)) (two_digits (c.args.n % 100))
     ∙ ap (λ ds. before ++ ds) (decimal_pair c.args.n (omega (arith, c.if-n-lt100.false)) (omega (arith, c.if-n-lt10000.true)))

@@ -15,7 +15,7 @@ returns-clause-line c =
     let row = row_of c.args.row.now in
     let p = progress_of c.in-Some.value in
     let o = c.args.options.now in
-    let head = head_begun c.args.out.now o.colored o.defensive row _ _ c.width_limit.ensures c.layout.ensures c.level.ensures.value c.in_ok-begin_row.ensures c.in_ok-push_name.ensures in
+    let head = head_begun c.args.out.now o.colored o.defensive row _ _ c.width_limit.ensures c.layout.ensures c.in_ok-begin_row.ensures c.in_ok-push_name.ensures in
     let h = c.in_ok-own.ensures.drawn in
     begun_as (ap (λ v. in_color o.colored (row_line_with o.defensive o.terminal_dimensions.0 o.bar_columns c.args.midpoint row (option_map progress_of v) c.args.measured.throughput time)) (sym c.in-Some.is))
     (row_begun o.colored o.defensive row p c.args.measured.throughput time o.terminal_dimensions.0 o.bar_columns c.args.midpoint (bar_columns o.bar_columns (o.terminal_dimensions.0 - h.timed.width)) (row_style p)
@@ -27,7 +27,7 @@ returns-clause-midpoint c =
     let p = progress_of c.in-Some.value in
     let o = c.args.options.now in
     c.in_ok-own.ensures.drawn.ends
-    ∙ row_midpoint o.colored o.defensive row p c.args.measured.throughput (head_begun c.args.out.now o.colored o.defensive row _ _ c.width_limit.ensures c.layout.ensures c.level.ensures.value c.in_ok-begin_row.ensures c.in_ok-push_name.ensures)
+    ∙ row_midpoint o.colored o.defensive row p c.args.measured.throughput (head_begun c.args.out.now o.colored o.defensive row _ _ c.width_limit.ensures c.layout.ensures c.in_ok-begin_row.ensures c.in_ok-push_name.ensures)
     ∙ ap (λ v. midpoint_with o.defensive row (option_map progress_of v) c.args.measured.throughput) (sym c.in-Some.is)
 
 pub returns-in_default-clause-line : goal.returns-in_default-clause-line
@@ -35,4 +35,4 @@ returns-in_default-clause-line c =
     let time = times_at c.args.measured.timer.now c.args.measured.at (row_of c.args.row.now) in
     let o = c.args.options.now in
     begun_as (ap (λ v. in_color o.colored (row_line_with o.defensive o.terminal_dimensions.0 o.bar_columns c.args.midpoint (row_of c.args.row.now) (option_map progress_of v) c.args.measured.throughput time)) (sym c.in_default.is))
-    (head_begun c.args.out.now c.args.options.now.colored c.args.options.now.defensive (row_of c.args.row.now) _ _ c.width_limit.ensures c.layout.ensures c.level.ensures.value c.in_ok-begin_row.ensures c.in_ok-push_name.ensures)
+    (head_begun c.args.out.now c.args.options.now.colored c.args.options.now.defensive (row_of c.args.row.now) _ _ c.width_limit.ensures c.layout.ensures c.in_ok-begin_row.ensures c.in_ok-push_name.ensures)

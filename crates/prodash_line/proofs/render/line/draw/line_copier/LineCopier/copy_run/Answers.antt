@@ -48,8 +48,7 @@ loop-size-preserved c =
     let end : ℕ = c.loop-size.end in
     let n : ℕ = c.loop-size.n in
     let widths = c.loop-size.left.now in
-    let gave = c.give_up.ensures in
-    let pushed = c.in_ok-push-2.ensures in
+    let replaced = c.replace_first.ensures in
     let fits = found.line.fits in
     let begins = known.begins in
     let ends = known.ends in
@@ -70,7 +69,7 @@ loop-size-preserved c =
       ends = omega (arith, fits, is_start, begins);
       index = omega (arith, index);
       left = λ options midpoint h.
-          subst (λ (ls : List RowLine). IsLeft options midpoint (drawn_in copier.before) ls copier.bytes.1 copier.end) (sym (ap (λ (ls : List RowLine × List RowLine). ls.1) (pushed ∙ λ i. ((gave i).0 ++ c.new-line.result ∷ [], (gave i).1))))
+          subst (λ (ls : List RowLine). IsLeft options midpoint (drawn_in copier.before) ls copier.bytes.1 copier.end) (sym (ap (λ (ls : List RowLine × List RowLine). ls.1) replaced))
           (left_below options midpoint (drawn_in copier.before) copier.lines.1 copier.bytes.1 copier.end 1 (known.left options midpoint h));
       run = λ scene untimed levels left.
           let o = scene.options in
@@ -88,7 +87,7 @@ loop-size-preserved c =
           (left_at rows c.args.tracker.now (n + 1, c.split_first_width.result.1.now) (copier.bytes.0 ++ more) (record c.loop-size.drawn { widths = c.push.new.self; midpoint = c.max-drawn.result }))
           c.args.self.now.lines.0 ls)
           (ap (λ (s : ℕ). copier.lines.0 ++ kept_line n s size ∷ []) placed ∙ ap (λ (line : RowLine). copier.lines.0 ++ line ∷ []) (sym c.new-line.ensures)
-          ∙ ap (λ (ls : List RowLine × List RowLine). ls.0 ++ c.new-line.result ∷ []) (sym gave) ∙ sym (ap (λ (ls : List RowLine × List RowLine). ls.0) pushed))
+          ∙ sym (ap (λ (ls : List RowLine × List RowLine). ls.0) replaced))
           (run_written scene rows _ n widths c.split_first_width.result.1.now written (copier.bytes.0 ++ more) c.loop-size.drawn (record c.loop-size.drawn { widths = c.push.new.self; midpoint = c.max-drawn.result })
           c.args.self.now.lines.0 copier.lines.0 c.args.tracker.now found.row size untimed (levels ∙ search rules) (search rules) found.found own.own longer
           c.split_first_width.ensures.others c.in_ok-push.ensures.items (search rules) (search rules) (search rules)
